@@ -1,0 +1,3 @@
+pub mod ByteLists
+pub mod Hashed
+pub mod Readings

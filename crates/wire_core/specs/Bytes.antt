@@ -1,0 +1,6 @@
+-- Lists of bytes.
+use Rattle.std.specs.Prelude.{ℕ, ◌<◌, List, slice_index}
+
+-- each item is a byte. Past the end slice_index gives 0
+abbrev pub IsBytes : List ℕ → Type 0
+IsBytes bytes = (i : ℕ) → slice_index bytes i < 256
