@@ -1,0 +1,10 @@
+pub mod Places
+pub mod Residues
+pub mod Integers
+pub mod Sums
+pub mod Turns
+pub mod Products
+pub mod ProductLaws
+pub mod Words
+pub mod Rows
+pub mod Packings

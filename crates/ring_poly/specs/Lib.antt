@@ -1,0 +1,4 @@
+pub mod Residue
+pub mod Product
+pub mod Packing
+pub mod Laws

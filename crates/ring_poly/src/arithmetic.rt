@@ -1,0 +1,96 @@
+//! Sums, differences and products.
+
+ghost use Rattle.std.specs.Prelude.{◌≡◌, ◌+◌, ◌^◌, ◌<◌, ◌≤◌, ℕ, length, map, slice_index, slice_index_or, All, EachIndex, unsigned_abs, pos, ◌+ℤ◌};
+ghost use Rattle.std.proofs.Math.IntN.{◌*ℤ◌};
+ghost use Rattle.ring_poly.specs.Residue.{residue};
+ghost use Rattle.ring_poly.specs.Product.{IsPolynomial, IsTernary, IsTrit, Product, Sum, Difference, coefficient, product_at, turned};
+
+use crate::MODULUS;
+use crate::polynomials::{Poly, Ternary, residue_of};
+
+/// The sum of two polynomials, place by place modulo 12289.
+pub fn add(a: &Poly, b: &Poly) -> Poly
+    ensures value { result ≡ Sum a.now b.now }
+    ensures polynomial { IsPolynomial result }
+{
+    let a = a.coefficients();
+    let b = b.coefficients();
+    let mut sum = [0; 1024];
+    for place in 0..1024 {
+        sum[place] = (a[place] + b[place]) % MODULUS;
+    }
+    Poly::of(sum)
+}
+
+/// The difference of two polynomials, place by place modulo 12289.
+pub fn sub(a: &Poly, b: &Poly) -> Poly
+    ensures value { result ≡ Difference a.now b.now }
+    ensures polynomial { IsPolynomial result }
+{
+    let a = a.coefficients();
+    let b = b.coefficients();
+    let mut difference = [0; 1024];
+    for place in 0..1024 {
+        difference[place] = (a[place] + MODULUS - b[place]) % MODULUS;
+    }
+    Poly::of(difference)
+}
+
+/// The product of two polynomials modulo 12289, where x^1024 = -1: place k is the sum of `a[j] * b[i]` over i + j = k,
+/// less that over i + j = k + 1024.
+pub fn mul(a: &Poly, b: &Ternary) -> Poly
+    ensures value { result ≡ Product a.now b.now }
+    ensures polynomial { IsPolynomial result }
+{
+    reduced(&product_sums(a.coefficients(), b.coefficients()))
+}
+
+/// The product before it is reduced, by one row for each coefficient of `b`.
+fn product_sums(a: &[u16; 1024], b: &[i8; 1024]) -> [i32; 1024]
+    requires polynomial { IsPolynomial a.now }
+    requires ternary { IsTernary b.now }
+    ensures { EachIndex result (λ k. coefficient result k ≡ product_at (map pos a.now) b.now k) }
+{
+    let mut sums = [0; 1024];
+    for row in 0..1024 {
+        add_row(&mut sums, a, row, i32::from(b[row]));
+    }
+    sums
+}
+
+/// Adds `factor * x^row * a`.
+fn add_row(sums: &mut [i32; 1024], a: &[u16; 1024], row: usize, factor: i32)
+    requires row { row < 1024 }
+    requires sums { All (λ s. unsigned_abs s ≤ 2 ^ 30) sums.old }
+    requires polynomial { IsPolynomial a.now }
+    requires factor { IsTrit factor }
+    ensures { EachIndex sums.new (λ k. coefficient sums.new k ≡ coefficient sums.old k +ℤ (turned (map pos a.now) row k *ℤ factor)) }
+{
+    add_multiple(&mut sums[row..], &a[..1024 - row], factor);
+    add_multiple(&mut sums[..row], &a[1024 - row..], -factor);
+}
+
+/// Adds `factor` times each term to the sum at its place.
+fn add_multiple(sums: &mut [i32], terms: &[u16], factor: i32)
+    requires lengths { length sums.old ≡ length terms.now }
+    requires sums { All (λ s. unsigned_abs s ≤ 2 ^ 30) sums.old }
+    requires terms { All (λ c. c < 12289) terms.now }
+    requires factor { IsTrit factor }
+    ensures { EachIndex sums.new (λ k. coefficient sums.new k ≡ coefficient sums.old k +ℤ (pos (slice_index terms.now k) *ℤ factor)) }
+{
+    for place in 0..terms.len() {
+        sums[place] += i32::from(terms[place]) * factor;
+    }
+}
+
+/// The polynomial with these coefficients modulo 12289.
+fn reduced(sums: &[i32; 1024]) -> Poly
+    ensures value { EachIndex result (λ k. slice_index result k ≡ residue (coefficient sums.now k)) }
+    ensures polynomial { IsPolynomial result }
+{
+    let mut coefficients = [0; 1024];
+    for place in 0..1024 {
+        coefficients[place] = residue_of(sums[place]);
+    }
+    Poly::of(coefficients)
+}
