@@ -1,0 +1,4 @@
+pub mod Blocks
+pub mod DigitSizes
+pub mod Steps
+pub mod Words

@@ -1,0 +1,5 @@
+pub mod Blocks
+pub mod Climbs
+pub mod FourParts
+pub mod KeyBytes
+pub mod Validity
