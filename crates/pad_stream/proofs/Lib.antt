@@ -1,0 +1,2 @@
+pub mod ExclusiveOrLemmas
+pub mod StreamLemmas
