@@ -1,0 +1,6 @@
+pub mod Filling
+pub mod BitLemmas
+pub mod Trits
+pub mod OpeningLemmas
+pub mod Exactness
+pub mod KeyLemmas

@@ -1,0 +1,110 @@
+//! Capsules: 32 bytes that are sealed under a public key.
+
+ghost use Rattle.std.specs.Prelude.{◌≡◌, ◌<◌, ◌≤◌, ◌*◌, ◌∷◌, [], length, All, map, slice_index, pos, ◌+ℤ◌};
+ghost use Rattle.wire_core.specs.declared.tag.Tag.TheVariants.{RingCoins};
+ghost use Rattle.wire_core.specs.Hash.{Hash};
+ghost use Rattle.ring_poly.specs.Residue.{residue};
+ghost use Rattle.ring_poly.specs.Product.{IsTrit};
+ghost use Rattle.ring_encrypt.specs.Capsule.{Sealed, sealed_with, carried, message_bit};
+
+use crate::bytes::join;
+use crate::draws::{draw_ternary, draw_uniform};
+use crate::public_keys::PublicKey;
+use ring_poly::{Poly, Ternary, add, mul, pack, pack_short, residue_of};
+use std::marker::Model;
+use wire_core::{Register, Tag};
+
+/// 2,240 bytes in which 32 bytes may be sealed: two polynomials u and v, of 1,792 and 448 bytes.
+/// Any 2,240 bytes are a capsule; whether they open is for the seed of a key to say.
+#[derive(Clone, Copy)]
+pub struct Capsule {
+    bytes: [u8; 2240],
+}
+
+impl Model for Capsule {
+    ghost use Rattle.std.specs.Prelude.{List, ℕ, ◌≡◌, length};
+
+    ghost Value = { List ℕ };
+
+    ghost view = { λ capsule. capsule.bytes };
+
+    ghost invariant = { λ capsule. length capsule.bytes ≡ 2240 };
+
+    ghost inverse = { λ bytes. record { bytes = bytes } };
+}
+
+impl Capsule {
+    /// The 2,240 bytes of the capsule.
+    pub fn bytes(&self) -> &[u8; 2240]
+        ensures value { result.now ≡ self.now }
+        ensures length { length self.now ≡ 2240 }
+    {
+        &self.bytes
+    }
+}
+
+/// The capsule of these 2,240 bytes.
+pub fn read_capsule(b: &[u8]) -> Capsule
+    requires { length b.now ≡ 2240 }
+    ensures { result ≡ b.now }
+{
+    let mut bytes = [0; 2240];
+    bytes.copy_from_slice(b);
+    Capsule { bytes }
+}
+
+/// Seals 32 bytes under a key, honest or not. All that is drawn comes from the key and the bytes,
+/// so equal bytes under equal keys have equal capsules.
+pub fn seal_seed(key: &PublicKey, m: &[u8; 32]) -> Capsule
+    ensures { result ≡ Sealed key.now m.now }
+{
+    let coins = coins_of(key, m);
+    seal_with(&coins, &draw_uniform(&key.rho()), &key.polynomial(), m)
+}
+
+// What all of a capsule's randomness is drawn from.
+fn coins_of(key: &PublicKey, m: &[u8; 32]) -> [u8; 32]
+    ensures { result ≡ Hash RingCoins (key.now ∷ m.now ∷ []) }
+{
+    let mut register = Register::new(Tag::RingCoins);
+    register.piece(key.bytes());
+    register.piece(m);
+    register.end()
+}
+
+// Seals 32 bytes with given coins.
+fn seal_with(coins: &[u8; 32], a: &Poly, b: &Poly, m: &[u8; 32]) -> Capsule
+    ensures { result ≡ sealed_with coins.now a.now b.now m.now }
+{
+    let r = draw_ternary(coins, 0);
+    let u = add(&mul(a, &r), &draw_ternary(coins, 64).to_poly());
+    let v = carry(&mul(b, &r), &draw_ternary(coins, 128), m);
+    let mut bytes = [0; 2240];
+    join(&pack(&u), &pack_short(&v), &mut bytes);
+    Capsule { bytes }
+}
+
+// The coefficients that carry the bits of m.
+fn carry(product: &Poly, error: &Ternary, m: &[u8; 32]) -> [u16; 256]
+    ensures value { result ≡ carried product.now error.now m.now }
+    ensures reduced { All (λ c. c < 12289) result }
+{
+    let mut v = [0; 256];
+    for c in 0..256 {
+        let bit = (m[c / 8] >> (c % 8)) & 1;
+        v[c] = carrying(product.get(c), error.get(c), bit);
+    }
+    v
+}
+
+// One coefficient that carries a bit.
+fn carrying(product: u16, error: i8, bit: u8) -> u16
+    requires product { product < 12289 }
+    requires error { IsTrit error }
+    requires bit { bit ≤ 1 }
+    ensures value { result ≡ residue (pos product +ℤ error +ℤ pos (6144 * bit)) }
+    ensures reduced { result < 12289 }
+{
+    let sum = i32::from(product) + i32::from(error) + 6144 * i32::from(bit);
+    residue_of(sum)
+}
