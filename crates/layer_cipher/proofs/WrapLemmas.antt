@@ -1,0 +1,57 @@
+-- Layer upon layer.
+use Rattle.std.proofs.Common.{◌≡◌, ℕ, suc, ◌+◌, ◌-◌, ◌*◌, ◌<◌, ◌≤◌, List, [], ◌∷◌, length, take, drop, get_or, map, refl, sym, ap, subst, ◌∙◌, arith, Option, Some, None, add-one}
+use Rattle.std.specs.Option.{option_and_then, option_map}
+use Rattle.std.specs.List.{AllByRecursion}
+use Rattle.std.proofs.Math.Seq.{drop-cons}
+use Rattle.std.proofs.lemmas.List.{drop_all, length-drop}
+use Rattle.ring_encrypt.specs.Capsule.{Key}
+use Rattle.ring_encrypt.specs.Opening.{IsMessage}
+use Rattle.layer_cipher.specs.Layer.{Layered, Opens, peeled, Wrapped, opened_through}
+use Rattle.layer_cipher.specs.Laws.{WrappingAdds, WrappedOpens, OutermostDetermined}
+use Rattle.layer_cipher.proofs.LayerLemmas.{layer_adds, peels_exactly}
+
+pub wrapping_adds : WrappingAdds
+unfolding Wrapped
+wrapping_adds [] [] blob h = omega arith
+wrapping_adds [] (m ∷ ms) blob h = absurd (omega arith)
+wrapping_adds (key ∷ keys) [] blob h = absurd (omega arith)
+wrapping_adds (key ∷ keys) (m ∷ ms) blob h =
+    let rest : length (Wrapped keys ms blob) ≡ length blob + 2272 * length keys = wrapping_adds keys ms blob (omega arith) in
+    omega (arith, layer_adds key m (Wrapped keys ms blob))
+
+pub wrapped_opens : WrappedOpens
+unfolding Wrapped opened_through
+wrapped_opens [] [] blob h are = refl
+wrapped_opens [] (m ∷ ms) blob h are = absurd (omega arith)
+wrapped_opens (seed ∷ seeds) [] blob h are = absurd (omega arith)
+wrapped_opens (seed ∷ seeds) (m ∷ ms) blob h are =
+    let inside = Wrapped (map Key seeds) ms blob in
+    let first : peeled seed (Layered (Key seed) m inside) ≡ Some (m, inside) = (peels_exactly seed (Layered (Key seed) m inside) m inside).1 (record { message = are.0; is = refl }) in
+    let rest : opened_through seeds inside ≡ Some (ms, blob) = wrapped_opens seeds ms blob (omega arith) are.1 in
+    rw (first, rest) refl
+
+-- the pair that is found is one
+same_first : (x y : List ℕ × List ℕ) → Some x ≡ Some y → x.0 ≡ y.0
+same_first x y e = let same : x ≡ y = cc in ap (λ (p : List ℕ × List ℕ). p.0) same
+
+pub outermost_determined : OutermostDetermined
+unfolding Wrapped
+outermost_determined seed m m' keys keys' ms ms' blob blob' is is' same =
+    let layer = Layered (Key seed) m (Wrapped keys ms blob) in
+    let first : peeled seed layer ≡ Some (m, Wrapped keys ms blob) = (peels_exactly seed layer m (Wrapped keys ms blob)).1 (record { message = is; is = refl }) in
+    let second : peeled seed layer ≡ Some (m', Wrapped keys' ms' blob') = (peels_exactly seed layer m' (Wrapped keys' ms' blob')).1 (record { message = is'; is = same }) in
+    same_first (m, Wrapped keys ms blob) (m', Wrapped keys' ms' blob') (sym first ∙ second)
+
+-- ---- the loop, from the innermost layer out
+pub Wrapped-none : (keys ms : List (List ℕ)) (blob : List ℕ) (k : ℕ) → length keys ≤ k → Wrapped (drop k keys) (drop k ms) blob ≡ blob
+unfolding Wrapped
+Wrapped-none keys ms blob k none = rw (drop_all k keys none) refl
+
+pub Wrapped-more : (keys ms : List (List ℕ)) (blob inside : List ℕ) (k : ℕ) (key m : List ℕ) → k < length keys → k < length ms
+    → key ≡ get_or keys k key → m ≡ get_or ms k m → inside ≡ Wrapped (drop (k + 1) keys) (drop (k + 1) ms) blob
+    → Layered key m inside ≡ Wrapped (drop k keys) (drop k ms) blob
+unfolding Wrapped
+Wrapped-more keys ms blob inside k key m below below' is-key is-m is =
+    let first : drop k keys ≡ get_or keys k key ∷ drop (suc k) keys = drop-cons keys k key below in
+    let second : drop k ms ≡ get_or ms k m ∷ drop (suc k) ms = drop-cons ms k m below' in
+    rw (first, second, ← is-key, ← is-m, is, add-one) refl
