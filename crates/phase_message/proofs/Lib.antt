@@ -1,0 +1,9 @@
+pub mod First
+pub mod Table
+pub mod Fields
+pub mod Counts
+pub mod Groups
+pub mod Spelled
+pub mod Bodies
+pub mod Whole
+pub mod Written

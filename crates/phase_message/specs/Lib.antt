@@ -1,0 +1,7 @@
+pub mod First
+pub mod Stages
+pub mod Header
+pub mod Slots
+pub mod Body
+pub mod Offence
+pub mod Grammar

@@ -1,0 +1,135 @@
+ghost use Rattle.std.specs.Prelude.{◌≤◌, IfOk};
+ghost use Rattle.phase_message.specs.Grammar.{OfGrammar};
+
+use super::*;
+use std::alloc::Global;
+use std::test::Fail;
+
+// The table of stages of a group of three.
+#[test]
+fn stages_of_three(rt: HostRuntime) {
+    let want = [
+        (0, Some(StageKind::Keys)),
+        (1, Some(StageKind::Submit { shuffle: 1 })),
+        (2, Some(StageKind::Shuffle { shuffle: 1, k: 1 })),
+        (4, Some(StageKind::Shuffle { shuffle: 1, k: 3 })),
+        (5, Some(StageKind::Go { shuffle: 1 })),
+        (6, Some(StageKind::Final { shuffle: 1 })),
+        (7, Some(StageKind::Pad)),
+        (8, Some(StageKind::Check)),
+        (9, Some(StageKind::Confirm)),
+        (10, Some(StageKind::Submit { shuffle: 2 })),
+        (11, Some(StageKind::Shuffle { shuffle: 2, k: 1 })),
+        (13, Some(StageKind::Shuffle { shuffle: 2, k: 3 })),
+        (14, Some(StageKind::Go { shuffle: 2 })),
+        (15, Some(StageKind::Final { shuffle: 2 })),
+        (16, None),
+    ];
+    for (stage, kind) in want {
+        assert!(rt; stage_kind(3, stage) == kind, "at {stage}");
+    }
+}
+
+// The first 76 bytes of a content, behind which all bytes are 0.
+fn begun(stage: u8, sender: u8, kind: u8) -> [u8; 9196] {
+    let mut content = [0; 9196];
+    content[0] = 1;
+    content[41] = stage;
+    content[42] = sender;
+    content[75] = kind;
+    content
+}
+
+// What the first bytes of a content are read as in a group of three.
+fn read(alloc: Global, content: &[u8; 9196], length: usize) -> Result<Content, DecodeRefusal>
+    requires { length ≤ 9196 }
+    ensures { IfOk result (OfGrammar 3) }
+{
+    decode(alloc, 3, &content[..length])
+}
+
+// Whether bytes are the first of a content.
+fn is_front(bytes: &[u8], content: &[u8; 9196], length: usize) -> bool
+    requires { length ≤ 9196 }
+{
+    bytes == &content[..length]
+}
+
+fn offence(alloc: Global, content: &[u8; 9196], length: usize) -> Option<DecodeRefusal>
+    requires { length ≤ 9196 }
+{
+    read(alloc, content, length).err()
+}
+
+// One content of a group of three for each rule, in the order in which they are tested.
+#[test]
+fn the_first_offence_is_named(rt: HostRuntime) {
+    let alloc = rt.alloc();
+    let keys = begun(0, 1, 1);
+    let mut version = keys;
+    version[0] = 2;
+    let mut large = keys;
+    large[108] = 0x01;
+    large[109] = 0x30;
+    let mut flag = begun(5, 1, 5);
+    flag[76] = 2;
+    let mut pad = begun(7, 1, 8);
+    pad[77] = 1;
+    pad[79] = 1;
+    let malformed = |at: u32, rule: u32| Some(DecodeRefusal::Malformed { at, rule });
+    assert!(rt; offence(alloc, &keys, 75) == malformed(75, 7));
+    assert!(rt; offence(alloc, &version, 9196) == malformed(0, 8));
+    assert!(rt; offence(alloc, &begun(0, 0, 1), 9196) == malformed(41, 9));
+    assert!(rt; offence(alloc, &begun(0, 1, 2), 9196) == malformed(75, 1));
+    assert!(rt; offence(alloc, &keys, 9195) == malformed(7372, 2));
+    assert!(rt; offence(alloc, &large, 9196) == malformed(108, 4));
+    assert!(rt; offence(alloc, &flag, 77) == malformed(76, 5));
+    assert!(rt; offence(alloc, &pad, 80) == malformed(76, 6));
+    assert!(rt; offence(alloc, &begun(5, 1, 5), 78) == malformed(77, 3));
+}
+
+// The greatest coefficient, a vote, three pads.
+#[test]
+fn contents_are_read(rt: HostRuntime) -> Result<(), Fail> {
+    let alloc = rt.alloc();
+    let mut keys = begun(0, 1, 1);
+    keys[109] = 0x30;
+    let said = read(alloc, &keys, 9196)?;
+    assert!(rt; matches!(&said.body, Body::Keys { .. }));
+    let mut go = begun(5, 2, 5);
+    go[76] = 1;
+    let said = read(alloc, &go, 77)?;
+    assert!(rt; said.header.sender == 2);
+    assert!(rt; matches!(&said.body, Body::Go { yes: true }));
+    let written = encode(alloc, 3, &said)?;
+    assert!(rt; is_front(&written, &go, 77));
+    let mut pads = begun(7, 1, 8);
+    pads[79] = 1;
+    pads[80] = 7;
+    let said = read(alloc, &pads, 89)?;
+    match &said.body {
+        Body::Pads { pads } => {
+            assert!(rt; pads.items().len() == 3);
+            assert!(rt; pads.items()[0].items().as_slice() == [7].as_slice());
+        }
+        _ => assert!(rt; false),
+    }
+    Ok(())
+}
+
+// The last slot of three members, and the lengths of keys, submissions and votes of eight.
+#[test]
+fn slots_and_lengths(rt: HostRuntime) {
+    assert!(rt; slots_before(3, 15) == 33);
+    let last = Slot {
+        stage: 15,
+        sender: 3,
+    };
+    assert!(rt; is_slot(3, last));
+    assert!(rt; slot_number(3, last) == 35);
+    assert!(rt; length_rule(8, StageKind::Keys) == 9120);
+    assert!(rt; length_rule(8, StageKind::Submit { shuffle: 1 }) == 54_564);
+    assert!(rt; length_rule(8, StageKind::Submit { shuffle: 2 }) == 36_386);
+    assert!(rt; length_rule(8, StageKind::Go { shuffle: 1 }) == 1);
+    assert!(rt; length_rule(8, StageKind::Pad) == 0);
+}
