@@ -1,0 +1,40 @@
+-- What a post that is shown has passed.
+use Rattle.std.proofs.Common.{◌≡◌, ◌⊎◌, inl, inr, ℕ, List, length, Result, Ok, Err, sym, subst, ◌∙◌}
+use Rattle.wire_core.specs.declared.cursor.Short.{Short}
+use Rattle.wire_core.specs.Bytes.{IsBytes}
+use Rattle.wire_core.specs.Reading.{fault_as}
+use Rattle.wire_core.proofs.Readings.{bind_ok, fault_as_ok}
+use Rattle.phase_message.specs.declared.content.Content.{Content}
+use Rattle.phase_message.specs.declared.header.Header.{Header}
+use Rattle.phase_message.specs.Offence.{Offence, content_read}
+use Rattle.phase_message.proofs.Whole.{content-header}
+use Rattle.dissent.specs.declared.roster.Roster.{Roster}
+use Rattle.dissent.specs.declared.post.PostRefusal.TheVariants.{Memory, Body as BodyFault}
+use Rattle.dissent.specs.Post.{Signed, framed, admit, Admitted, checked}
+use Rattle.dissent.specs.Show.{IsPostFile}
+use Rattle.dissent.proofs.Admits.{admits_exactly}
+use Rattle.dissent.proofs.Frames.{framed-found}
+
+-- a post that passes is admitted with the header of its content
+abbrev header_ok : Header → Result Header Short
+header_ok header = Ok header
+
+checked-found : (roster : Roster) (round : ℕ) (post : Signed) (content : Content) → checked roster round post ≡ Ok content
+    → Admitted roster round post content.header × (content_read (length roster.keys) post.content ≡ Ok content)
+unfolding checked
+checked-found roster round post content e =
+    let a = bind_ok (admit roster round post) (λ header. fault_as (λ (o : Offence). BodyFault o.at o.rule) (content_read (length roster.keys) post.content)) content e in
+    let reads = fault_as_ok (λ (o : Offence). BodyFault o.at o.rule) (content_read (length roster.keys) post.content) content a.2 in
+    let admitted = (admits_exactly roster round post a.0).0 a.1 in
+    let both : header_ok a.0 ≡ header_ok content.header = sym admitted.reads ∙ content-header (length roster.keys) post.content content reads in
+    let same : a.0 ≡ content.header = cc in
+    (subst (λ (h : Header). Admitted roster round post h) same admitted, reads)
+
+-- a file whose post passes
+pub file-passes : (roster : Roster) (round : ℕ) (bytes : List ℕ) (post : Signed) (content : Content) (X : Type 0) → IsBytes bytes
+    → framed bytes ≡ Ok post → (Ok content ≡ checked roster round post) ⊎ ((Ok content ≡ Err Memory) × X)
+    → IsPostFile roster round bytes content
+file-passes roster round bytes post content X fits frame (inl e) =
+    let found = checked-found roster round post content (sym e) in
+    record { post = post; spelled = (framed-found bytes post fits frame).1; admitted = found.0; reads = found.1 }
+file-passes roster round bytes post content X fits frame (inr (e, x)) = absurd (cc)

@@ -1,0 +1,15 @@
+pub mod Places
+pub mod Roster
+pub mod Post
+pub mod Transcript
+pub mod Accepts
+pub mod Show
+pub mod Outside
+pub mod Command
+pub mod Status
+pub mod Refusals
+pub mod Outcome
+pub mod Delivery
+pub mod Promise
+pub mod Memory
+pub mod Host

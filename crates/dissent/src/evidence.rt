@@ -1,0 +1,308 @@
+//! Evidence made from keys: two votes of member 3 in one slot, and the transcript that lists them.
+
+ghost use Rattle.std.specs.Prelude.{◌≡◌, ◌<◌, length};
+ghost use Rattle.dissent.specs.Roster.{IsRosterForm};
+
+use super::*;
+use crate::tests::words_of;
+use lms_tree::OtsType;
+use lms_tree::fixture::{key_fixed, sign_fixed};
+use phase_message::Body;
+use std::process::Abort;
+use std::test::Fail;
+use wire_core::{Mem, Register, Tag, put_bytes, put_u8, put_u32, put_u64};
+
+// A roster of four members with keys of H5 and W4, each made from its number.
+fn roster_of_four(alloc: Global) -> Mem<Vec<u8>> {
+    let mut bytes = Vec::new(alloc);
+    put_bytes(&mut bytes, b"DSRO\x01\x04")?;
+    for member in 1..5 {
+        put_bytes(&mut bytes, &key_fixed(alloc, OtsType::W4, &[member; 32])?)?;
+    }
+    Ok(bytes)
+}
+
+// A vote of 77 bytes: what its header says, and the flag.
+#[derive(Clone, Copy)]
+struct Vote {
+    version: u8,
+    group: [u8; 32],
+    round: u64,
+    stage: u8,
+    sender: u8,
+    yes: u8,
+}
+
+impl Vote {
+    fn content(&self, alloc: Global) -> Mem<Vec<u8>> {
+        let mut content = Vec::new(alloc);
+        put_u8(&mut content, self.version)?;
+        put_bytes(&mut content, &self.group)?;
+        put_u64(&mut content, self.round)?;
+        put_bytes(&mut content, &[self.stage, self.sender])?;
+        put_bytes(&mut content, &[9; 32])?;
+        put_bytes(&mut content, &[5, self.yes])?;
+        Ok(content)
+    }
+
+    // The post of 2,429 bytes that a member signs with a leaf of its key.
+    fn post(&self, alloc: Global, signer: u8, leaf: u32) -> Mem<Vec<u8>>
+        requires { leaf < 32 }
+    {
+        let content = self.content(alloc)?;
+        let signature = sign_fixed(alloc, OtsType::W4, &[signer; 32], leaf, &content)?;
+        let mut post = Vec::new(alloc);
+        put_u32(&mut post, 77)?;
+        put_bytes(&mut post, &content)?;
+        put_bytes(&mut post, &signature)?;
+        Ok(post)
+    }
+}
+
+// The vote of member 3 in stage 6 of round 1.
+fn first_vote(group: &[u8; 32]) -> Vote {
+    Vote {
+        version: 1,
+        group: *group,
+        round: 1,
+        stage: 6,
+        sender: 3,
+        yes: 1,
+    }
+}
+
+// The transcript that accuses member 3 of these two posts of 2,429 bytes.
+fn transcript_of(alloc: Global, first: &[u8], second: &[u8]) -> Mem<Vec<u8>> {
+    let mut bytes = Vec::new(alloc);
+    put_bytes(&mut bytes, b"DSTR\x01\x01\x03")?;
+    put_u64(&mut bytes, 1)?;
+    put_u32(&mut bytes, 2)?;
+    for post in [first, second] {
+        put_u32(&mut bytes, 2429)?;
+        put_bytes(&mut bytes, post)?;
+    }
+    Ok(bytes)
+}
+
+// The checks 1 and 2 refuse each cut of the transcript, at its number of bytes.
+fn no_cut_convicts(rt: &impl Abort, alloc: Global, roster: &Roster, bytes: &[u8])
+    requires form { IsRosterForm roster.now }
+    requires size { length bytes.now ≡ 4885 }
+{
+    for size in 0..4885 {
+        let want = if size < 5 { 1 } else { 2 };
+        let refused = judge(alloc, roster, &bytes[..size]);
+        assert!(rt;
+            matches!(refused, Err(Refused::Check { check, post: 0, at })
+            if check == want && at as usize == size)
+        );
+    }
+}
+
+// The judge refuses the transcript of these two posts by this check.
+fn refused(
+    rt: &impl Abort,
+    alloc: Global,
+    roster: &Roster,
+    posts: (&[u8], &[u8]),
+    want: (u32, u32, u32),
+) -> Result<(), AllocError>
+    requires { IsRosterForm roster.now }
+{
+    let bytes = transcript_of(alloc, posts.0, posts.1)?;
+    assert_eq!(rt; bytes.len(), 4885);
+    let refused = judge(alloc, roster, &bytes);
+    assert!(rt;
+        matches!(refused, Err(Refused::Check { check, post, at })
+        if check == want.0 && post == want.1 && at == want.2)
+    );
+    Ok(())
+}
+
+// Two votes convict, one vote signed twice does not, and no cut does.
+fn votes_are_judged(
+    rt: &impl Abort,
+    alloc: Global,
+    roster: &Roster,
+    group: &[u8; 32],
+) -> Result<(), AllocError>
+    requires { IsRosterForm roster.now }
+{
+    let first = first_vote(group);
+    let second = Vote { yes: 0, ..first };
+    let yes = first.post(alloc, 3, 0)?;
+    let no = second.post(alloc, 3, 1)?;
+    let bytes = transcript_of(alloc, &yes, &no)?;
+    assert_eq!(rt; bytes.len(), 4885);
+    let accepted = judge(alloc, roster, &bytes);
+    assert!(rt;
+        matches!(
+            accepted,
+            Ok(Accepted {
+                accused: 3,
+                claim: Claim::Equivocation
+            })
+        )
+    );
+    let listed = read_transcript(alloc, 4, &bytes);
+    assert!(rt;
+        matches!(&listed, Ok(t) if t.accused == 3 && t.round == 1 && t.posts.items().len() == 2)
+    );
+    no_cut_convicts(rt, alloc, roster, &bytes);
+    let again = first.post(alloc, 3, 2)?;
+    refused(rt, alloc, roster, (&yes, &again), (8, 2, 0))
+}
+
+// The vote of member 3 is read, and passes the checks with what it says.
+fn a_vote_is_taken(
+    rt: &impl Abort,
+    alloc: Global,
+    roster: &Roster,
+    group: &[u8; 32],
+) -> Result<(), AllocError>
+    requires { IsRosterForm roster.now }
+{
+    let yes = first_vote(group);
+    let content = yes.content(alloc)?;
+    match read(alloc, &yes.post(alloc, 3, 0)?) {
+        Ok(post) => {
+            assert!(rt; post.content.items() == &content);
+            let header = check_header(roster, 1, &post);
+            assert!(rt; matches!(&header, Ok(h) if h.stage == 6 && h.sender == 3));
+            let said = check(alloc, roster, 1, &post);
+            assert!(rt; matches!(&said, Ok(said) if matches!(&said.body, Body::Go { yes: true })));
+        }
+        Err(_) => assert!(rt; false, "no post"),
+    }
+    Ok(())
+}
+
+// Each check of a post that its bytes can fail, in the first place and in the second.
+fn posts_are_refused(
+    rt: &impl Abort,
+    alloc: Global,
+    roster: &Roster,
+    group: &[u8; 32],
+) -> Result<(), AllocError>
+    requires { IsRosterForm roster.now }
+{
+    let right = first_vote(group);
+    let yes = right.post(alloc, 3, 0)?;
+    let cases = [
+        (
+            Vote {
+                version: 2,
+                ..right
+            },
+            3,
+            (4, 1, 2),
+        ),
+        (
+            Vote {
+                group: [0; 32],
+                ..right
+            },
+            3,
+            (4, 1, 3),
+        ),
+        (Vote { round: 2, ..right }, 3, (4, 1, 4)),
+        (Vote { sender: 0, ..right }, 3, (4, 1, 5)),
+        (Vote { stage: 18, ..right }, 3, (4, 1, 6)),
+        (right, 4, (4, 1, 7)),
+        (Vote { sender: 1, ..right }, 1, (5, 1, 6)),
+    ];
+    for (wrong, signer, want) in cases {
+        let post = wrong.post(alloc, signer, 1)?;
+        refused(rt, alloc, roster, (&post, &yes), want)?;
+    }
+    let later = Vote { stage: 7, ..right }.post(alloc, 3, 1)?;
+    refused(rt, alloc, roster, (&yes, &later), (5, 2, 7))
+}
+
+#[test]
+fn evidence_is_judged(rt: HostRuntime) -> Result<(), Fail> {
+    let alloc = rt.alloc();
+    let bytes = roster_of_four(alloc)?;
+    assert_eq!(rt; bytes.len(), 230);
+    let mut register = Register::new(Tag::Roster);
+    register.piece(&bytes);
+    let group = register.end();
+    match decode(alloc, &bytes) {
+        Ok(roster) => {
+            votes_are_judged(&rt, alloc, &roster, &group)?;
+            a_vote_is_taken(&rt, alloc, &roster, &group)?;
+            posts_are_refused(&rt, alloc, &roster, &group)?;
+        }
+        Err(_) => assert!(rt; false, "no roster"),
+    }
+    Ok(())
+}
+
+// What the commands print of a transcript that convicts and of a post that passes.
+#[test]
+fn commands_come_to_their_end(rt: HostRuntime) -> Result<(), Fail> {
+    let alloc = rt.alloc();
+    let roster = roster_of_four(alloc)?;
+    assert_eq!(rt; roster.len(), 230);
+    let mut register = Register::new(Tag::Roster);
+    register.piece(&roster);
+    let first = first_vote(&register.end());
+    let yes = first.post(alloc, 3, 0)?;
+    let no = Vote { yes: 0, ..first }.post(alloc, 3, 1)?;
+    let transcript = transcript_of(alloc, &yes, &no)?;
+    let mut files = SteadyFiles::new(alloc);
+    for (name, bytes) in [("r", &roster), ("p", &yes), ("t", &transcript)] {
+        let _ = files.write(&String::from_str(alloc, name)?, bytes);
+    }
+    let mut out = SteadySink::new(alloc);
+    let words = words_of(alloc, &["judge", "--roster", "r", "--transcript", "t"])?;
+    let judged = run_offline(&rt, alloc, &words, &mut files, &mut out);
+    assert_eq!(rt; judged, Status::Done);
+    let words = words_of(
+        alloc,
+        &["show", "--roster", "r", "--round", "1", "--post", "p"],
+    )?;
+    let shown = run_offline(&rt, alloc, &words, &mut files, &mut out);
+    assert_eq!(rt; shown, Status::Done);
+    assert_eq!(rt;
+        out.written(),
+        b"accepted member 3 claim Equivocation\nstage 6 sender 3 kind Go view 0909090909090909090909090909090909090909090909090909090909090909\n".as_slice()
+    );
+    Ok(())
+}
+
+// A roster of two keys, each of two types and 48 equal bytes, and bytes that follow.
+fn two_keys(alloc: Global, keys: [[u8; 3]; 2], tail: &[u8]) -> Mem<Vec<u8>> {
+    let mut bytes = Vec::new(alloc);
+    put_bytes(&mut bytes, b"DSRO\x01\x02")?;
+    for [lms_type, ots_type, fill] in keys {
+        put_u32(&mut bytes, u32::from(lms_type))?;
+        put_u32(&mut bytes, u32::from(ots_type))?;
+        put_bytes(&mut bytes, &[fill; 48])?;
+    }
+    put_bytes(&mut bytes, tail)?;
+    Ok(bytes)
+}
+
+#[test]
+fn keys_of_rosters_are_refused(rt: HostRuntime) -> Result<(), Fail> {
+    let alloc = rt.alloc();
+    let cases = [
+        ([[4, 3, 1], [5, 3, 2]], b"".as_slice(), (6, 6)),
+        ([[5, 3, 1], [10, 3, 2]], b"".as_slice(), (62, 6)),
+        ([[5, 0, 1], [5, 3, 2]], b"".as_slice(), (10, 7)),
+        ([[5, 3, 1], [9, 5, 2]], b"".as_slice(), (66, 7)),
+        ([[5, 3, 1], [5, 3, 1]], b"".as_slice(), (62, 8)),
+        ([[5, 3, 1], [5, 3, 2]], b"!".as_slice(), (118, 5)),
+    ];
+    for (keys, tail, want) in cases {
+        let bytes = two_keys(alloc, keys, tail)?;
+        match decode(alloc, &bytes) {
+            Err(RosterRefusal::Bad { at, rule }) => assert!(rt; at == want.0 && rule == want.1),
+            _ => assert!(rt; false, "taken"),
+        }
+    }
+    let bytes = two_keys(alloc, [[5, 3, 1], [9, 4, 2]], b"")?;
+    assert!(rt; decode(alloc, &bytes).is_ok());
+    Ok(())
+}

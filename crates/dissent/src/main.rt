@@ -1,0 +1,69 @@
+//! Dissent: the program. It judges the transcripts that convict the disrupters of a round, and shows what a post says.
+#![tactic(auto)]
+
+#[cfg(test)]
+mod evidence;
+mod host;
+mod judge;
+mod laws;
+mod memory;
+mod offline;
+mod outside;
+mod places;
+mod plan;
+mod post;
+mod roster;
+mod show;
+mod status;
+mod stored;
+#[cfg(test)]
+mod tests;
+mod transcript;
+mod words;
+
+pub use host::{HostFiles, HostSink};
+pub use judge::{Accepted, Claim, FailedCheck, Refused, judge};
+pub use laws::{
+    checks_are_exact, nobody_is_framed, posts_are_admitted, posts_are_framed, rosters_are_spelled,
+    transcripts_are_listed,
+};
+pub use memory::{MemoryFiles, MemorySink, SteadyFiles, SteadySink};
+pub use offline::{POST_FILE_LIMIT, ROSTER_LIMIT, TRANSCRIPT_LIMIT, run_offline};
+pub use outside::{FileRead, FileWrite, Files, Sink, SinkAnswer};
+pub use post::{PostRefusal, ReadRefusal, check, check_header, read};
+pub use roster::{Roster, RosterRefusal, decode};
+pub use status::Status;
+use std::alloc::{AllocError, Global};
+use std::process::ExitCode;
+use std::rt::{Env, Runtime};
+use std::thread::Threads;
+use std::{env, io};
+pub use transcript::{Transcript, read_transcript};
+pub use words::{Command, read_words};
+
+fn main(rt: HostRuntime) -> ExitCode {
+    ExitCode::from(run(&rt).number())
+}
+
+// Runs the command that the program was started with.
+fn run<R: Runtime<A = Global> + Threads + Sync>(rt: &R) -> Status {
+    let alloc = rt.alloc();
+    match given_words(rt) {
+        Ok(words) => {
+            let mut files = HostFiles::new(rt, alloc);
+            let mut out = HostSink::new(rt);
+            run_offline(rt, alloc, &words, &mut files, &mut out)
+        }
+        Err(AllocError) => Status::OutOfMemory,
+    }
+}
+
+// The words of the command line without the program's name. Where one is not text, there are none: no command
+// has such a word.
+fn given_words<R: Env + AllocGlobal>(rt: &R) -> Result<Vec<String>, AllocError> {
+    match env::args(rt) {
+        Ok(words) => words.skip(1).collect(rt.alloc()),
+        Err(error) if error.kind() == io::ErrorKind::OutOfMemory => Err(AllocError),
+        Err(_) => Ok(Vec::new(rt.alloc())),
+    }
+}

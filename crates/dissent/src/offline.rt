@@ -1,0 +1,223 @@
+//! The commands that use files alone.
+ghost use Rattle.std.specs.Prelude.{◌≡◌, ◌≢◌, ◌⊎◌, ◌≤◌, None, Some, IfOk, IfErr, IfSome, IsSomeAnd, length, string_bytes};
+ghost use Rattle.dissent.specs.Outside.{Rose, Shows, GainsFirstOf};
+ghost use Rattle.dissent.specs.Command.{requested, texts, named};
+ghost use Rattle.dissent.specs.Outcome.{Yields, Answers, AnswersRequest, RequestMisses, within, judge_outcome, show_outcome, accepted_line, or_bad_roster, or_refused};
+ghost use Rattle.dissent.specs.Delivery.{Delivers, DeliversText, answer_bytes, status_of, text_of};
+ghost use Rattle.dissent.specs.Status.{status_line};
+ghost use Rattle.dissent.specs.Promise.{AnswersAndPrints, BearsOut, IsStatusOf, IsToldStatus, IsComplete, FilesConvict, FilesShow, OnOutput, PrintsBorneOut};
+ghost use Rattle.dissent.specs.Refusals.{RefusesRoster, RefusesTranscript};
+
+use crate::judge::{Accepted, Refused};
+use crate::outside::{FileRead, Files, Sink, SinkAnswer};
+use crate::roster::RosterRefusal;
+use crate::show::{check_file, shown_text};
+use crate::status::Status;
+use crate::words::{Command, read_words};
+use crate::{judge, roster};
+use std::alloc::{AllocError, Global};
+use std::thread::Threads;
+
+/// The most bytes of a roster file.
+pub const ROSTER_LIMIT: u32 = 4096;
+
+/// The most bytes of a transcript.
+pub const TRANSCRIPT_LIMIT: u32 = 134_217_728;
+
+/// The most bytes of a post's file.
+pub const POST_FILE_LIMIT: u32 = 16_777_216;
+
+/// Runs a command on files and a sink. The words don't hold the program's name.
+pub fn run_offline<R: Threads + Sync, F: Files, O: Sink>(
+    _rt: &R,
+    alloc: Global,
+    words: &Vec<String>,
+    files: &mut F,
+    out: &mut O,
+) -> Status
+    // The command came to an answer, which is that of its definition but for want of memory and a fault of the
+    // files, and this answer was printed.
+    ensures ends { AnswersAndPrints (Rose (F.faults files.old) (F.faults files.new))
+        (Rose (O.faults out.old) (O.faults out.new)) (F.told files.old) (O.told out.old) (O.told out.new)
+        (requested (texts words.now.items)) result }
+
+    // Each status where the files tell: it is the one that follows from the words and the files, or a fault that
+    // a count tells, or memory was wanting.
+    ensures status { IsToldStatus (Rose (F.faults files.old) (F.faults files.new))
+        (Rose (O.faults out.old) (O.faults out.new)) (F.told files.old) (requested (texts words.now.items)) result }
+    ensures complete { IsComplete (Rose (F.faults files.old) (F.faults files.new))
+        (Rose (O.faults out.old) (O.faults out.new)) (F.told files.old) (O.told out.old) (O.told out.new)
+        (requested (texts words.now.items)) result }
+
+    // Done comes of `judge` only where the files convict, and nobody is framed by them; and of `show` only where the
+    // post passes the eight checks.
+    ensures borne_out { result ≡ Status.Done → PrintsBorneOut (F.told files.old) (O.told out.old) (O.told out.new)
+        (requested (texts words.now.items)) }
+
+    ensures usage { result ≡ Status.Usage → requested (texts words.now.items) ≡ None }
+    ensures other_words { requested (texts words.now.items) ≡ None
+        → IsStatusOf ⊥ (Rose (O.faults out.old) (O.faults out.new)) Status.Usage result }
+    ensures read_fault { result ≡ Status.ReadFault → Rose (F.faults files.old) (F.faults files.new)
+        ⊎ IsSomeAnd (requested (texts words.now.items)) (RequestMisses (F.told files.old)) }
+    ensures write_fault { result ≡ Status.WriteFault → Rose (O.faults out.old) (O.faults out.new) }
+
+    ensures kept { F.told files.new ≡ F.told files.old }
+    ensures no_fall { F.faults files.old ≤ F.faults files.new }
+    ensures sink_no_fall { O.faults out.old ≤ O.faults out.new }
+{
+    let answer = answer_words(alloc, words, files);
+    print(alloc, answer, out)
+}
+
+// The output of the command that the words ask for, or the status that ends it.
+fn answer_words<F: Files>(
+    alloc: Global,
+    words: &Vec<String>,
+    files: &mut F,
+) -> Result<Vec<u8>, Status>
+    ensures answers { Answers (Rose (F.faults files.old) (F.faults files.new)) (F.told files.old)
+        (requested (texts words.now.items)) (answer_bytes result) }
+    ensures borne_out { OnOutput (BearsOut (F.told files.old) (requested (texts words.now.items))) (answer_bytes result) }
+    ensures kept { F.told files.new ≡ F.told files.old }
+    ensures no_fall { F.faults files.old ≤ F.faults files.new }
+{
+    match read_words(words) {
+        Some(Command::Judge { roster, transcript }) => run_judge(alloc, roster, transcript, files),
+        Some(
+            Command::Show {
+                roster,
+                round,
+                post,
+            },
+        ) => run_show(alloc, roster, round, post, files),
+        None => Err(Status::Usage),
+    }
+}
+
+// The command `judge`.
+fn run_judge<F: Files>(
+    alloc: Global,
+    roster: &String,
+    transcript: &String,
+    files: &mut F,
+) -> Result<Vec<u8>, Status>
+    ensures answers { (roster_file transcript_file : _) × Shows (F.told files.old) (string_bytes roster.now) roster_file
+        × Shows (F.told files.old) (string_bytes transcript.now) transcript_file
+        × Yields (Rose (F.faults files.old) (F.faults files.new)) (judge_outcome roster_file transcript_file) (answer_bytes result) }
+    ensures convicts { OnOutput (FilesConvict (F.told files.old) (string_bytes roster.now) (string_bytes transcript.now))
+        (answer_bytes result) }
+    ensures kept { F.told files.new ≡ F.told files.old }
+    ensures no_fall { F.faults files.old ≤ F.faults files.new }
+{
+    let roster_bytes = read_within(files, roster, ROSTER_LIMIT)?;
+    let roster = roster::decode(alloc, &roster_bytes)?;
+    let bytes = read_within(files, transcript, TRANSCRIPT_LIMIT)?;
+    let accepted = judge::judge(alloc, &roster, &bytes)?;
+    Ok(accepted_text(alloc, accepted)?)
+}
+
+// The command `show`.
+fn run_show<F: Files>(
+    alloc: Global,
+    roster: &String,
+    round: u64,
+    post: &String,
+    files: &mut F,
+) -> Result<Vec<u8>, Status>
+    ensures answers { (roster_file post_file : _) × Shows (F.told files.old) (string_bytes roster.now) roster_file
+        × Shows (F.told files.old) (string_bytes post.now) post_file
+        × Yields (Rose (F.faults files.old) (F.faults files.new)) (show_outcome round roster_file post_file) (answer_bytes result) }
+    ensures shows { OnOutput (FilesShow (F.told files.old) (string_bytes roster.now) round (string_bytes post.now))
+        (answer_bytes result) }
+    ensures kept { F.told files.new ≡ F.told files.old }
+    ensures no_fall { F.faults files.old ≤ F.faults files.new }
+{
+    let roster_file = read_within(files, roster, ROSTER_LIMIT)?;
+    let roster = roster::decode(alloc, &roster_file)?;
+    let bytes = read_within(files, post, POST_FILE_LIMIT)?;
+    let content = check_file(alloc, &roster, round, &bytes)?;
+    Ok(shown_text(alloc, &content)?)
+}
+
+// Reads a file that a command names.
+fn read_within<F: Files>(files: &mut F, name: &String, limit: u32) -> Result<Vec<u8>, Status>
+    ensures answer { (file : _) × Shows (F.told files.old) (string_bytes name.now) file
+        × Yields (Rose (F.faults files.old) (F.faults files.new)) (within limit file) (answer_bytes result) }
+    ensures bounded { IfOk result (λ bytes. length bytes.items ≤ limit) }
+    ensures shown { IfOk result (λ bytes. Shows (F.told files.old) (string_bytes name.now) (Some bytes.items)) }
+    ensures status { IfErr result (λ status. status ≢ Status.Done) }
+    ensures kept { F.told files.new ≡ F.told files.old }
+    ensures no_fall { F.faults files.old ≤ F.faults files.new }
+{
+    match files.read(name, limit) {
+        FileRead::Bytes(bytes) => Ok(bytes),
+        FileRead::TooLong => Err(Status::TooLong { limit }),
+        FileRead::Failed => Err(Status::ReadFault),
+        FileRead::OutOfMemory => Err(Status::OutOfMemory),
+    }
+}
+
+// The output of `judge`.
+fn accepted_text(alloc: Global, accepted: Accepted) -> Result<Vec<u8>, AllocError>
+    ensures { IfOk result (λ text. text.items ≡ accepted_line accepted) }
+{
+    let accused = accepted.accused;
+    let claim = accepted.claim;
+    let text = format!(in alloc; "accepted member {accused} claim {claim}\n")?;
+    Ok(text.into_bytes())
+}
+
+// Prints the output of a command, or the line of the status that ended it.
+fn print<O: Sink>(alloc: Global, answer: Result<Vec<u8>, Status>, out: &mut O) -> Status
+    ensures delivers { Delivers (Rose (O.faults out.old) (O.faults out.new)) (O.told out.old) (O.told out.new)
+        (answer_bytes answer) result }
+    ensures no_fall { O.faults out.old ≤ O.faults out.new }
+{
+    // The line that is left to print when memory is gone.
+    let Ok(last_line) = Status::OutOfMemory.line(alloc) else {
+        return Status::OutOfMemory;
+    };
+    match worded(alloc, answer) {
+        Ok((status, text)) => print_text(status, &text, &last_line, out),
+        Err(AllocError) => print_last(&last_line, out),
+    }
+}
+
+// What there is to print for an answer, under its status.
+fn worded(alloc: Global, answer: Result<Vec<u8>, Status>) -> Result<(Status, Vec<u8>), AllocError>
+    ensures status { IfOk result (λ worded. worded.0 ≡ status_of (answer_bytes answer)) }
+    ensures text { IfOk result (λ worded. worded.1.items ≡ text_of (answer_bytes answer)) }
+    ensures memory { IfOk result (λ worded. worded.0 ≢ Status.OutOfMemory) }
+{
+    match answer {
+        Ok(output) => Ok((Status::Done, output)),
+        Err(Status::OutOfMemory) => Err(AllocError),
+        Err(status) => Ok((status, status.line(alloc)?)),
+    }
+}
+
+// Prints a text in one piece.
+fn print_text<O: Sink>(status: Status, text: &Vec<u8>, last_line: &Vec<u8>, out: &mut O) -> Status
+    requires memory { status ≢ Status.OutOfMemory }
+    requires last { last_line.now.items ≡ status_line Status.OutOfMemory }
+    ensures delivers { DeliversText (Rose (O.faults out.old) (O.faults out.new)) (O.told out.old) (O.told out.new)
+        status text.now.items result }
+    ensures no_fall { O.faults out.old ≤ O.faults out.new }
+{
+    match out.write(text) {
+        SinkAnswer::Written => status,
+        SinkAnswer::Failed => Status::WriteFault,
+        SinkAnswer::OutOfMemory => print_last(last_line, out),
+    }
+}
+
+// Prints the line that says that memory is gone, or as much of it as the sink takes.
+fn print_last<O: Sink>(last_line: &Vec<u8>, out: &mut O) -> Status
+    ensures status { result ≡ Status.OutOfMemory }
+    ensures part { GainsFirstOf (O.told out.old) (O.told out.new) last_line.now.items }
+    ensures no_fall { O.faults out.old ≤ O.faults out.new }
+{
+    // The status says it even where the line can't be printed.
+    let _ = out.write(last_line);
+    Status::OutOfMemory
+}

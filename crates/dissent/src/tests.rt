@@ -1,0 +1,173 @@
+use super::*;
+use std::alloc::Global;
+use std::test::Fail;
+
+pub(crate) fn words_of(alloc: Global, words: &[&str]) -> Result<Vec<String>, AllocError> {
+    let mut all = Vec::new(alloc);
+    for word in words {
+        all.push(String::from_str(alloc, word)?)?;
+    }
+    Ok(all)
+}
+
+const JUDGE: [&str; 5] = ["judge", "--roster", "r", "--transcript", "t"];
+
+const SHOW: [&str; 7] = ["show", "--roster", "r", "--round", "8", "--post", "t"];
+
+// Files of which the roster `r` has this many bytes and the transcript `t` as many.
+fn two_files(alloc: Global, roster: usize, transcript: usize) -> Result<SteadyFiles, AllocError> {
+    let mut files = SteadyFiles::new(alloc);
+    for (name, len) in [("r", roster), ("t", transcript)] {
+        let name = String::from_str(alloc, name)?;
+        let bytes = vec![in alloc; 0u8; len]?;
+        let _ = files.write(&name, &bytes);
+    }
+    Ok(files)
+}
+
+#[test]
+fn other_words_are_usage(rt: HostRuntime) -> Result<(), Fail> {
+    let alloc = rt.alloc();
+    for words in [
+        ["judge", "--roster", "r"].as_slice(),
+        ["judge", "--roster", "", "--transcript", "t"].as_slice(),
+        ["judge", "--roster", "r", "--transcript", "-t"].as_slice(),
+        ["judge", "--transcript", "t", "--roster", "r"].as_slice(),
+        ["show", "--roster", "r", "--round", "0", "--post", "t"].as_slice(),
+        ["show", "--roster", "r", "--round", "08", "--post", "t"].as_slice(),
+        [
+            "show",
+            "--roster",
+            "r",
+            "--round",
+            "18446744073709551616",
+            "--post",
+            "t",
+        ]
+        .as_slice(),
+    ] {
+        let words = words_of(alloc, words)?;
+        let mut files = two_files(alloc, 100, 100)?;
+        let mut out = SteadySink::new(alloc);
+        let status = run_offline(&rt, alloc, &words, &mut files, &mut out);
+        assert_eq!(rt; status, Status::Usage);
+        assert_eq!(rt; status.number(), 1);
+        assert_eq!(rt; out.written(), b"usage\n".as_slice());
+    }
+    Ok(())
+}
+
+#[test]
+fn a_missing_roster_is_a_read_fault(rt: HostRuntime) -> Result<(), Fail> {
+    let alloc = rt.alloc();
+    let words = words_of(alloc, &JUDGE)?;
+    let mut files = MemoryFiles::new(SteadyFiles::new(alloc), Vec::new(alloc));
+    let mut out = MemorySink::new(alloc, Vec::new(alloc));
+    let status = run_offline(&rt, alloc, &words, &mut files, &mut out);
+    assert_eq!(rt; status.number(), 5);
+    assert_eq!(rt; out.written(), b"read fault\n".as_slice());
+    Ok(())
+}
+
+// A roster of two keys of H5 and W4.
+fn roster_of_two(alloc: Global) -> Result<Vec<u8>, AllocError> {
+    let mut bytes = Vec::from_slice(alloc, b"DSRO\x01\x02")?;
+    for member in [1, 2] {
+        bytes.extend_from_slice(&[0, 0, 0, 5, 0, 0, 0, 3])?;
+        bytes.extend_from_slice(&[member; 48])?;
+    }
+    Ok(bytes)
+}
+
+// The bytes of a post of round 7 by a member of the roster of two, with no signature.
+fn post_of_round_7(alloc: Global) -> Result<Vec<u8>, Fail> {
+    let roster = match roster::decode(alloc, &roster_of_two(alloc)?) {
+        Ok(roster) => roster,
+        Err(_) => return Err(Fail::from(AllocError)),
+    };
+    let mut bytes = Vec::from_slice(alloc, &[0, 0, 0, 76, 1])?;
+    bytes.extend_from_slice(&roster.group())?;
+    bytes.extend_from_slice(&7u64.to_be_bytes())?;
+    bytes.extend_from_slice(&[0, 1])?;
+    bytes.extend_from_slice(&[0; 33])?;
+    Ok(bytes)
+}
+
+#[test]
+fn a_cut_post_and_one_of_another_round_are_not_shown(rt: HostRuntime) -> Result<(), Fail> {
+    let alloc = rt.alloc();
+    let words = words_of(alloc, &SHOW)?;
+    let cut = vec![in alloc; 0u8; 3]?;
+    let other = post_of_round_7(alloc)?;
+    for (post, line) in [
+        (&cut, b"refused check 1 post 1 at 3\n".as_slice()),
+        (&other, b"refused check 4 post 1 at 0\n".as_slice()),
+    ] {
+        let mut files = SteadyFiles::new(alloc);
+        let _ = files.write(&String::from_str(alloc, "r")?, &roster_of_two(alloc)?);
+        let _ = files.write(&String::from_str(alloc, "t")?, post);
+        let mut out = SteadySink::new(alloc);
+        let status = run_offline(&rt, alloc, &words, &mut files, &mut out);
+        assert_eq!(rt; status.number(), 4);
+        assert_eq!(rt; out.written(), line);
+    }
+    Ok(())
+}
+
+#[test]
+fn a_failed_read_of_the_transcript_is_a_read_fault(rt: HostRuntime) -> Result<(), Fail> {
+    let alloc = rt.alloc();
+    let words = words_of(alloc, &JUDGE)?;
+    let mut held = two_files(alloc, 0, 100)?;
+    let _ = held.write(&String::from_str(alloc, "r")?, &roster_of_two(alloc)?);
+    let mut files = MemoryFiles::new(held, vec![in alloc; 2]?);
+    let mut out = SteadySink::new(alloc);
+    let status = run_offline(&rt, alloc, &words, &mut files, &mut out);
+    assert_eq!(rt; status, Status::ReadFault);
+    Ok(())
+}
+
+#[test]
+fn a_failed_first_write_is_a_write_fault(rt: HostRuntime) -> Result<(), Fail> {
+    let alloc = rt.alloc();
+    let words = words_of(alloc, &JUDGE)?;
+    let mut files = two_files(alloc, 100, 100)?;
+    let mut out = MemorySink::new(alloc, vec![in alloc; 1]?);
+    let status = run_offline(&rt, alloc, &words, &mut files, &mut out);
+    assert_eq!(rt; status.number(), 6);
+    assert_eq!(rt; out.written().len(), 0);
+    Ok(())
+}
+
+#[test]
+fn a_roster_of_4097_bytes_is_too_long(rt: HostRuntime) -> Result<(), Fail> {
+    let alloc = rt.alloc();
+    let words = words_of(alloc, &JUDGE)?;
+    let mut files = two_files(alloc, 4097, 100)?;
+    let mut out = SteadySink::new(alloc);
+    let status = run_offline(&rt, alloc, &words, &mut files, &mut out);
+    assert_eq!(rt; status.number(), 13);
+    assert_eq!(rt; out.written(), b"too long limit 4096\n".as_slice());
+    Ok(())
+}
+
+#[test]
+fn real_files_are_written_and_read(rt: HostRuntime) -> Result<(), Fail> {
+    let alloc = rt.alloc();
+    let name = String::from_str(alloc, "dissent-files-test")?;
+    let bytes = vec![in alloc; 7u8; 10]?;
+    let mut files = HostFiles::new(&rt, alloc);
+    assert_eq!(rt; files.write(&name, &bytes), FileWrite::Written);
+    assert!(rt; matches!(files.read(&name, 10), FileRead::Bytes(read) if read == bytes));
+    assert!(rt; matches!(files.read(&name, 9), FileRead::TooLong));
+    std::fs::remove_file(&rt, name.as_str())?;
+    assert!(rt; matches!(files.read(&name, 10), FileRead::Failed));
+    Ok(())
+}
+
+#[test]
+fn the_standard_output_is_written(rt: HostRuntime) -> Result<(), Fail> {
+    let piece = vec![in rt.alloc(); b'.'; 1]?;
+    assert_eq!(rt; HostSink::new(&rt).write(&piece), SinkAnswer::Written);
+    Ok(())
+}
