@@ -4,6 +4,7 @@ use Rattle.std.specs.Prelude.{bytes_eq, nat_le, ◌==◌}
 use Rattle.std.proofs.lemmas.Bool.{leb-true, le-leb, eqb-true, eq-eqb}
 use Rattle.std.proofs.lemmas.Slice.Eq.{bytes_eq-Decides}
 use Rattle.wire_core.specs.declared.cursor.Short.{Short}
+use Rattle.wire_core.specs.Bytes.{IsBytes}
 use Rattle.wire_core.specs.Reading.{◌>>=◌, fault_as}
 use Rattle.wire_core.proofs.Readings.{bind_ok, fault_as_ok}
 use Rattle.phase_message.specs.declared.header.Header.{Header}
@@ -12,7 +13,8 @@ use Rattle.phase_message.specs.Stages.{group_of, is_member, is_slot}
 use Rattle.phase_message.proofs.First.{first_some-none, first_some-none_parts}
 use Rattle.lms_tree.specs.declared.keys.LmsPublic.{LmsPublic}
 use Rattle.lms_tree.specs.declared.verifier.LmsRefusal.{LmsRefusal}
-use Rattle.lms_tree.specs.Tree.{lms_check}
+use Rattle.lms_tree.specs.Tree.{LmsValid, lms_check}
+use Rattle.lms_tree.proofs.Validity.{valid_if_passed, passed_if_valid}
 use Rattle.dissent.specs.declared.roster.Roster.{Roster}
 use Rattle.dissent.specs.declared.post.PostRefusal.{PostRefusal}
 use Rattle.dissent.specs.declared.post.PostRefusal.TheVariants.{Frame, Version, Group, Round, Sender, Stage}
@@ -23,22 +25,23 @@ use Rattle.dissent.proofs.Keys.{fault_unless-true, value_unless-ok}
 use Rattle.dissent.proofs.Frames.{fault_unless-holds}
 use Rattle.dissent.proofs.Rosters.{both}
 
-valid : (r : Result (Unit {0}) LmsRefusal) → invalid r ≡ None → r ≡ Ok tt
-valid (Ok u) e = refl
-valid (Err refusal) e = absurd cc
+passed : (r : Result (Unit {0}) LmsRefusal) → invalid r ≡ None → r ≡ Ok tt
+passed (Ok u) e = refl
+passed (Err refusal) e = absurd cc
 
-signed : (sender : ℕ) (o : Option LmsPublic) (post : Signed) → signature_refusal sender o post ≡ None → (key : LmsPublic) × (o ≡ Some key) × (lms_check key post.content post.signature ≡ Ok tt)
-signed sender None post e = absurd cc
-signed sender (Some key) post e = (key, refl, valid (lms_check key post.content post.signature) e)
+signed : (sender : ℕ) (o : Option LmsPublic) (post : Signed) → IsBytes post.signature → signature_refusal sender o post ≡ None → (key : LmsPublic) × (o ≡ Some key) × LmsValid key post.content post.signature
+signed sender None post fits e = absurd cc
+signed sender (Some key) post fits e =
+    (key, refl, valid_if_passed key post.content post.signature fits (passed (lms_check key post.content post.signature) e))
 
-unrefused : (sender : ℕ) (o : Option LmsPublic) (post : Signed) (key : LmsPublic) → o ≡ Some key → lms_check key post.content post.signature ≡ Ok tt → signature_refusal sender o post ≡ None
-unrefused sender o post key o-is ok =
-    ap (λ (o : Option LmsPublic). signature_refusal sender o post) o-is ∙ ap invalid ok
+unrefused : (sender : ℕ) (o : Option LmsPublic) (post : Signed) (key : LmsPublic) → o ≡ Some key → LmsValid key post.content post.signature → signature_refusal sender o post ≡ None
+unrefused sender o post key o-is valid =
+    ap (λ (o : Option LmsPublic). signature_refusal sender o post) o-is ∙ ap invalid (passed_if_valid key post.content post.signature valid)
 
 -- a post in the frame that is not refused is admitted,
-pub admit-found : (roster : Roster) (round : ℕ) (post : Signed) (header : Header) → FitsFrame post → admit_framed roster round post ≡ Ok header → Admitted roster round post header
+pub admit-found : (roster : Roster) (round : ℕ) (post : Signed) (header : Header) → FitsFrame post → IsBytes post.signature → admit_framed roster round post ≡ Ok header → Admitted roster round post header
 unfolding admit_framed
-admit-found roster round post header fits e =
+admit-found roster round post header fits bytes e =
     let b = bind_ok (fault_as (λ (short : Short). Frame 0) (header_of post.content)) (λ header. value_unless (header_refusal roster round post header) header) header e in
     let parts = value_unless-ok (header_refusal roster round post b.0) b.0 header b.2 in
     let reads = fault_as_ok (λ (short : Short). Frame 0) (header_of post.content) b.0 b.1 in
@@ -67,7 +70,7 @@ admit-found roster round post header fits e =
           this_round = eqb-true _ _ (fault_unless-holds (h.round == round) (Round h.round) p3.0);
           member = fault_unless-holds (is_member n h.sender) (Sender h.sender) p4.0;
           slot = fault_unless-holds (is_slot (group_of n) h.stage h.sender) (Stage h.stage) p5.0;
-          signed = signed h.sender (key_of roster h.sender) post p6.0;
+          signed = signed h.sender (key_of roster h.sender) post bytes p6.0;
         }
 
 -- and what is admitted is not refused
@@ -105,9 +108,9 @@ first_way true x y h never e = (refl, e)
 first_way false x y h never e = absurd (never e)
 
 pub admits_exactly : AdmitsExactly
-admits_exactly roster round post header = (
+admits_exactly roster round post header bytes = (
   λ ok.
       let way = first_way (fits_frame post) (admit_framed roster round post) (Err (Frame 0)) header (λ err. absurd cc) ok in
-      admit-found roster round post header (fits-test post way.0) way.1,
+      admit-found roster round post header (fits-test post way.0) bytes way.1,
   λ admitted. rw (test-fits post admitted.frame) (admit-again roster round post header admitted),
 )

@@ -1,12 +1,13 @@
 -- The frame of a post.
-use Rattle.std.proofs.Common.{◌≡◌, ℕ, ◌+◌, ◌<◌, ◌≤◌, ◌^◌, Bool, true, false, List, [], ◌∷◌, ◌++◌, length, take, drop, Option, None, Result, Ok, refl, sym, ap, subst, ◌∙◌, arith, inl, inr, append_assoc, length-append}
+use Rattle.std.proofs.Common.{◌≡◌, ℕ, ◌+◌, ◌<◌, ◌≤◌, ◌^◌, Bool, true, false, List, [], ◌∷◌, ◌++◌, length, take, drop, Option, None, Result, Ok, refl, sym, ap, subst, ◌∙◌, arith, append_assoc, length-append}
 use Rattle.std.specs.Prelude.{nat_le}
 use Rattle.std.specs.Int.{w32, from_be_bytes, to_be_bytes}
-use Rattle.std.proofs.lemmas.Bool.{leb-true, le-leb, cases_lt}
-use Rattle.std.proofs.lemmas.List.{length-take, length-drop, take-append-drop, take_at, drop_at, drop-drop, get_or-take, get_or_past}
+use Rattle.std.proofs.lemmas.Bool.{leb-true, le-leb}
+use Rattle.std.proofs.lemmas.List.{length-take, length-drop, take-append-drop, take_at, drop_at, drop-drop}
 use Rattle.std.proofs.lemmas.Nat.{be_bytes_4, from_be_bytes-to_be_bytes_4}
 use Rattle.phase_message.proofs.First.{first_some-none, first_some-none_parts}
 use Rattle.wire_core.specs.Bytes.{IsBytes}
+use Rattle.wire_core.proofs.ByteLists.{IsBytes-back, IsBytes-take}
 use Rattle.dissent.specs.Places.{word_at, fault_unless, value_unless}
 use Rattle.dissent.specs.Post.{Signed, FitsFrame, post_limit, least_content, frame_fault, framed, signed_of, post_spelling}
 use Rattle.dissent.proofs.Keys.{fault_unless-true, value_unless-ok}
@@ -54,20 +55,13 @@ framed-fits bytes post e =
     let parts = value_unless-ok (frame_fault bytes) (signed_of bytes) post e in
     subst (λ (p : Signed). FitsFrame p) parts.1 (signed-fits bytes (framed-parts bytes parts.0))
 
-bytes-take : (n : ℕ) (bytes : List ℕ) → IsBytes bytes → IsBytes (take n bytes)
-bytes-take n bytes h i =
-    elim (cases_lt i n) [
-      | inl lt ↦ rw (get_or-take n bytes i 0 lt) (h i)
-      | inr le ↦ rw (get_or_past (take n bytes) i 0 (omega (arith, length-take n bytes))) (omega arith)
-    ]
-
 signed-spelled : (bytes : List ℕ) → IsBytes bytes → IsFramed bytes → bytes ≡ post_spelling (signed_of bytes)
 signed-spelled bytes fits f =
     let n = word_at bytes 0 in
     let back = length-drop 4 bytes in
     let long : length (take n (drop 4 bytes)) ≡ n = omega (arith, length-take n (drop 4 bytes), f.whole, f.head) in
     let four : length (take 4 bytes) ≡ 4 = omega (arith, length-take 4 bytes, f.head) in
-    let head : to_be_bytes w32 n ≡ take 4 bytes = be_bytes_4 (take 4 bytes) n four (bytes-take 4 bytes fits) refl in
+    let head : to_be_bytes w32 n ≡ take 4 bytes = be_bytes_4 (take 4 bytes) n four (IsBytes-take 4 bytes fits) refl in
     sym (take-append-drop 4 bytes)
     ∙ ap (λ (x : List ℕ). x ++ drop 4 bytes) (sym head)
     ∙ ap (λ (m : ℕ). to_be_bytes w32 m ++ drop 4 bytes) (sym long)
@@ -82,6 +76,12 @@ framed-found bytes post fits e =
     let parts = value_unless-ok (frame_fault bytes) (signed_of bytes) post e in
     let f = framed-parts bytes parts.0 in
     subst (λ (p : Signed). FitsFrame p × (bytes ≡ post_spelling p)) parts.1 (signed-fits bytes f, signed-spelled bytes fits f)
+
+-- the signature of what is framed is bytes
+pub framed-bytes : (bytes : List ℕ) (post : Signed) → IsBytes bytes → framed bytes ≡ Ok post → IsBytes post.signature
+framed-bytes bytes post fits e =
+    let spelled = subst (λ (x : List ℕ). IsBytes x) (framed-found bytes post fits e).1 fits in
+    IsBytes-back (to_be_bytes w32 (length post.content) ++ post.content) post.signature spelled
 
 -- what fits a frame is framed where it is spelled
 pub framed-again : (post : Signed) → FitsFrame post → framed (post_spelling post) ≡ Ok post

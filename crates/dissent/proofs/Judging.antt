@@ -1,11 +1,12 @@
 -- What the judge accepts convicts, what convicts is accepted, and nobody is framed.
-use Rattle.std.proofs.Common.{◌≡◌, ◌≢◌, ℕ, zero, suc, true, false, not, ◌&&◌, List, [], ◌∷◌, ◌++◌, length, get_or, Result, Ok, refl, sym, ap, subst, ◌∙◌, arith}
+use Rattle.std.proofs.Common.{◌≡◌, ◌≢◌, ℕ, true, false, not, ◌&&◌, List, [], ◌∷◌, ◌++◌, length, get_or, Result, Ok, refl, sym, ap, subst, ◌∙◌, arith}
 use Rattle.std.specs.Prelude.{◌==◌, bytes_eq, Contains}
 use Rattle.std.specs.List.{flat_map}
 use Rattle.std.specs.Int.{w32, w64, to_be_bytes}
 use Rattle.std.proofs.lemmas.Bool.{eqb-true, eq-eqb, false_from_ne_true}
 use Rattle.std.proofs.lemmas.Slice.Eq.{bytes_eq-Decides}
 use Rattle.wire_core.specs.Bytes.{IsBytes}
+use Rattle.wire_core.proofs.ByteLists.{IsBytes-front, IsBytes-back}
 use Rattle.wire_core.specs.Reading.{◌>>=◌, fault_as, unless}
 use Rattle.wire_core.proofs.Readings.{bind_ok, fault_as_ok, guard_ok}
 use Rattle.phase_message.specs.declared.header.Header.{Header}
@@ -20,7 +21,7 @@ use Rattle.dissent.specs.declared.transcript.Transcript.{Transcript}
 use Rattle.dissent.specs.Post.{Signed, framed, admit_framed, admit_bytes}
 use Rattle.dissent.specs.Transcript.{transcript_magic, claim_number, claim_posts, listed, transcript_spelling, transcript_read}
 use Rattle.dissent.specs.Accepts.{Says, Equivocates, Convicts, Accepts, post_fault, slot_fault, same_fault, spoken, equivocation_judged, listed_post, judged, AcceptsExactly, SaidBy, NobodyIsFramed}
-use Rattle.dissent.proofs.Frames.{framed-found, framed-again}
+use Rattle.dissent.proofs.Frames.{framed-found, framed-again, framed-bytes}
 use Rattle.dissent.proofs.Admits.{admit-found, admit-again}
 use Rattle.dissent.proofs.Rosters.{both}
 use Rattle.dissent.proofs.Transcripts.{not_not, only_claim, transcript_found, transcript_again}
@@ -39,7 +40,7 @@ says-found roster round bytes x fits e =
     let b = bind_ok (admit_framed roster round a.0) (λ header. Ok (header, a.0.content)) x a.2 in
     let frame = framed-found bytes a.0 fits (fault_as_ok (λ at. Frame at) (framed bytes) a.0 a.1) in
     let same : (b.0, a.0.content) ≡ x = (let e : said_ok (b.0, a.0.content) ≡ said_ok x = b.2 in cc) in
-    let says : Says roster round bytes a.0.content b.0 = record { signature = a.0.signature; spelled = frame.1; admitted = admit-found roster round a.0 b.0 frame.0 b.1 } in
+    let says : Says roster round bytes a.0.content b.0 = record { signature = a.0.signature; spelled = frame.1; admitted = admit-found roster round a.0 b.0 frame.0 (framed-bytes bytes a.0 fits (fault_as_ok (λ at. Frame at) (framed bytes) a.0 a.1)) b.1 } in
     subst (λ (x : Header × List ℕ). Says roster round bytes x.1 x.0) same says
 
 says-again : (roster : Roster) (round : ℕ) (bytes content : List ℕ) (header : Header) → Says roster round bytes content header → admit_bytes roster round bytes ≡ Ok (header, content)
@@ -107,16 +108,7 @@ two-again roster round accused first second two =
     (eq-eqb _ _ two.first_sender) (eq-eqb _ _ two.second_sender) (eq-eqb _ _ two.one_stage)
     (false_from_ne_true (bytes_eq two.first_content two.second_content) (λ same. two.differ ((bytes_eq-Decides two.first_content two.second_content).0 same)))
 
--- ---- the bytes of a transcript's posts are bytes
-
-bytes-front : (xs ys : List ℕ) → IsBytes (xs ++ ys) → IsBytes xs
-bytes-front [] ys h i = omega arith
-bytes-front (x ∷ xs) ys h zero = h 0
-bytes-front (x ∷ xs) ys h (suc i) = bytes-front xs ys (λ k. h (suc k)) i
-
-bytes-back : (xs ys : List ℕ) → IsBytes (xs ++ ys) → IsBytes ys
-bytes-back [] ys h = h
-bytes-back (x ∷ xs) ys h = bytes-back xs ys (λ k. h (suc k))
+-- ---- the bytes of a transcript's posts
 
 -- two posts are all
 two-posts : (posts : List (List ℕ)) → length posts ≡ 2 → posts ≡ get_or posts 0 [] ∷ get_or posts 1 [] ∷ []
@@ -128,10 +120,10 @@ two-posts (a ∷ b ∷ c ∷ more) long = absurd (omega arith)
 posts-bytes : (t : Transcript) (first second : List ℕ) → t.posts ≡ first ∷ second ∷ [] → IsBytes (transcript_spelling t) → IsBytes first × IsBytes second
 posts-bytes t first second posts fits =
     let count = to_be_bytes w32 (length t.posts) in
-    let text = bytes-back count (flat_map listed t.posts) (bytes-back (to_be_bytes w64 t.round) (count ++ flat_map listed t.posts) (bytes-back (claim_number t.claim ∷ t.accused ∷ []) (to_be_bytes w64 t.round ++ (count ++ flat_map listed t.posts)) (bytes-back transcript_magic ((claim_number t.claim ∷ t.accused ∷ []) ++ (to_be_bytes w64 t.round ++ (count ++ flat_map listed t.posts))) fits))) in
+    let text = IsBytes-back count (flat_map listed t.posts) (IsBytes-back (to_be_bytes w64 t.round) (count ++ flat_map listed t.posts) (IsBytes-back (claim_number t.claim ∷ t.accused ∷ []) (to_be_bytes w64 t.round ++ (count ++ flat_map listed t.posts)) (IsBytes-back transcript_magic ((claim_number t.claim ∷ t.accused ∷ []) ++ (to_be_bytes w64 t.round ++ (count ++ flat_map listed t.posts))) fits))) in
     let two : IsBytes (listed first ++ (listed second ++ [])) = subst (λ (p : List (List ℕ)). IsBytes (flat_map listed p)) posts text in (
-      bytes-back (to_be_bytes w32 (length first)) first (bytes-front (listed first) (listed second ++ []) two),
-      bytes-back (to_be_bytes w32 (length second)) second (bytes-front (listed second) [] (bytes-back (listed first) (listed second ++ []) two)),
+      IsBytes-back (to_be_bytes w32 (length first)) first (IsBytes-front (listed first) (listed second ++ []) two),
+      IsBytes-back (to_be_bytes w32 (length second)) second (IsBytes-front (listed second) [] (IsBytes-back (listed first) (listed second ++ []) two)),
     )
 
 -- ---- the whole

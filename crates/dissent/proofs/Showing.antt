@@ -13,19 +13,19 @@ use Rattle.dissent.specs.declared.post.PostRefusal.TheVariants.{Memory, Body as 
 use Rattle.dissent.specs.Post.{Signed, framed, admit, Admitted, checked}
 use Rattle.dissent.specs.Show.{IsPostFile}
 use Rattle.dissent.proofs.Admits.{admits_exactly}
-use Rattle.dissent.proofs.Frames.{framed-found}
+use Rattle.dissent.proofs.Frames.{framed-found, framed-bytes}
 
 -- a post that passes is admitted with the header of its content
 abbrev header_ok : Header → Result Header Short
 header_ok header = Ok header
 
-checked-found : (roster : Roster) (round : ℕ) (post : Signed) (content : Content) → checked roster round post ≡ Ok content
+checked-found : (roster : Roster) (round : ℕ) (post : Signed) (content : Content) → IsBytes post.signature → checked roster round post ≡ Ok content
     → Admitted roster round post content.header × (content_read (length roster.keys) post.content ≡ Ok content)
 unfolding checked
-checked-found roster round post content e =
+checked-found roster round post content bytes e =
     let a = bind_ok (admit roster round post) (λ header. fault_as (λ (o : Offence). BodyFault o.at o.rule) (content_read (length roster.keys) post.content)) content e in
     let reads = fault_as_ok (λ (o : Offence). BodyFault o.at o.rule) (content_read (length roster.keys) post.content) content a.2 in
-    let admitted = (admits_exactly roster round post a.0).0 a.1 in
+    let admitted = (admits_exactly roster round post a.0 bytes).0 a.1 in
     let both : header_ok a.0 ≡ header_ok content.header = sym admitted.reads ∙ content-header (length roster.keys) post.content content reads in
     let same : a.0 ≡ content.header = cc in
     (subst (λ (h : Header). Admitted roster round post h) same admitted, reads)
@@ -35,6 +35,6 @@ pub file-passes : (roster : Roster) (round : ℕ) (bytes : List ℕ) (post : Sig
     → framed bytes ≡ Ok post → (Ok content ≡ checked roster round post) ⊎ ((Ok content ≡ Err Memory) × X)
     → IsPostFile roster round bytes content
 file-passes roster round bytes post content X fits frame (inl e) =
-    let found = checked-found roster round post content (sym e) in
+    let found = checked-found roster round post content (framed-bytes bytes post fits frame) (sym e) in
     record { post = post; spelled = (framed-found bytes post fits frame).1; admitted = found.0; reads = found.1 }
 file-passes roster round bytes post content X fits frame (inr (e, x)) = absurd (cc)

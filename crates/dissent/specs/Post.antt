@@ -12,7 +12,7 @@ use Rattle.phase_message.specs.Offence.{content_read}
 use Rattle.phase_message.specs.Stages.{group_of, is_member, is_slot}
 use Rattle.lms_tree.specs.declared.keys.LmsPublic.{LmsPublic}
 use Rattle.lms_tree.specs.declared.verifier.LmsRefusal.{LmsRefusal}
-use Rattle.lms_tree.specs.Tree.{lms_check}
+use Rattle.lms_tree.specs.Tree.{LmsValid, lms_check}
 use Rattle.dissent.specs.declared.roster.Roster.{Roster}
 use Rattle.dissent.specs.declared.post.PostRefusal.{PostRefusal}
 use Rattle.dissent.specs.declared.post.PostRefusal.TheVariants.{Frame, Version, Group, Round, Sender, Stage, Signature, Body, Memory}
@@ -119,7 +119,7 @@ admit_bytes roster round bytes = do
   Ok (header, post.content)
 
 -- A post is admitted for a roster and a round: it has a frame, and its header names the version, the
--- group, the round, and a sender in a slot of the group, whose key in the roster made the signature.
+-- group, the round, and a sender in a slot of the group, under whose key in the roster the signature is valid.
 pub record Admitted (roster : Roster) (round : ℕ) (post : Signed) (header : Header) : Type 0 where
   pub frame : FitsFrame post
   pub reads : header_of post.content ≡ Ok header
@@ -129,11 +129,11 @@ pub record Admitted (roster : Roster) (round : ℕ) (post : Signed) (header : He
   pub member : IsTrue (is_member (length roster.keys) header.sender)
   pub slot : IsTrue (is_slot (group_of (length roster.keys)) header.stage header.sender)
   pub signed : (key : LmsPublic) × (key_of roster header.sender ≡ Some key)
-      × (lms_check key post.content post.signature ≡ Ok tt)
+      × LmsValid key post.content post.signature
 
 -- a post is admitted exactly where no check refuses it, with the header that it has
 abbrev pub AdmitsExactly : Type 0
-AdmitsExactly = (roster : Roster) (round : ℕ) (post : Signed) (header : Header)
+AdmitsExactly = (roster : Roster) (round : ℕ) (post : Signed) (header : Header) → IsBytes post.signature
     → (admit roster round post ≡ Ok header) ↔ Admitted roster round post header
 
 -- the content of an admitted post whose body is in the grammar, or the first of the eight checks that

@@ -216,7 +216,10 @@ fn posts_are_refused(
         refused(rt, alloc, roster, (&post, &yes), want)?;
     }
     let later = Vote { stage: 7, ..right }.post(alloc, 3, 1)?;
-    refused(rt, alloc, roster, (&yes, &later), (5, 2, 7))
+    refused(rt, alloc, roster, (&yes, &later), (5, 2, 7))?;
+    let unframed = vec![in alloc; 0u8; 2429]?;
+    refused(rt, alloc, roster, (&unframed, &yes), (4, 1, 1))?;
+    refused(rt, alloc, roster, (&yes, &unframed), (4, 2, 1))
 }
 
 #[test]

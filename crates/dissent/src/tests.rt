@@ -140,14 +140,25 @@ fn a_failed_first_write_is_a_write_fault(rt: HostRuntime) -> Result<(), Fail> {
 }
 
 #[test]
-fn a_roster_of_4097_bytes_is_too_long(rt: HostRuntime) -> Result<(), Fail> {
+fn wrong_rosters_have_their_status(rt: HostRuntime) -> Result<(), Fail> {
     let alloc = rt.alloc();
     let words = words_of(alloc, &JUDGE)?;
-    let mut files = two_files(alloc, 4097, 100)?;
-    let mut out = SteadySink::new(alloc);
-    let status = run_offline(&rt, alloc, &words, &mut files, &mut out);
-    assert_eq!(rt; status.number(), 13);
-    assert_eq!(rt; out.written(), b"too long limit 4096\n".as_slice());
+    let long = vec![in alloc; 0u8; 4097]?;
+    let mut of_one = roster_of_two(alloc)?;
+    if let Some(members) = of_one.get_mut(5) {
+        *members = 1;
+    }
+    for (roster, number, line) in [
+        (&long, 13, b"too long limit 4096\n".as_slice()),
+        (&of_one, 11, b"bad roster at 5 rule 3\n".as_slice()),
+    ] {
+        let mut files = two_files(alloc, 0, 100)?;
+        let _ = files.write(&String::from_str(alloc, "r")?, roster);
+        let mut out = SteadySink::new(alloc);
+        let status = run_offline(&rt, alloc, &words, &mut files, &mut out);
+        assert_eq!(rt; status.number(), number);
+        assert_eq!(rt; out.written(), line);
+    }
     Ok(())
 }
 

@@ -1,14 +1,13 @@
 -- A seed finds exactly what is sealed under its key.
-use Rattle.std.proofs.Common.{◌≡◌, ℕ, ◌+◌, ◌-◌, ◌*◌, ◌<◌, ◌≤◌, List, [], ◌∷◌, ◌++◌, length, take, drop, Bool, true, false, not, cond, refl, sym, ap, subst, ◌∙◌, arith, Option, Some, None, append_assoc, length-append}
+use Rattle.std.proofs.Common.{◌≡◌, ℕ, ◌+◌, ◌<◌, ◌≤◌, List, [], ◌∷◌, ◌++◌, length, take, drop, Bool, true, false, not, cond, refl, sym, ap, subst, ◌∙◌, arith, Option, Some, None, append_assoc, length-append}
 use Rattle.std.specs.Option.{option_and_then}
 use Rattle.std.specs.Str.{bytes_eq}
 use Rattle.std.proofs.lemmas.Slice.Eq.{bytes_eq-Decides}
-use Rattle.std.proofs.lemmas.List.{take_at, drop_at, take-append-drop, length-drop, length-take-le, drop-drop}
+use Rattle.std.proofs.lemmas.List.{take_at, drop_at, take-append-drop, drop-drop}
 use Rattle.wire_core.specs.declared.tag.Tag.TheVariants.{LayerStream, LayerTag}
 use Rattle.wire_core.specs.Hash.{Hash}
 use Rattle.wire_core.proofs.ByteLists.{hash_bytes}
 use Rattle.pad_stream.specs.Stream.{Stream}
-use Rattle.pad_stream.specs.ExclusiveOr.{exclusive_or}
 use Rattle.pad_stream.proofs.StreamLemmas.{length-bytes_from}
 use Rattle.pad_stream.proofs.ExclusiveOrLemmas.{exclusive_or_undo, length-exclusive_or}
 use Rattle.ring_encrypt.specs.Capsule.{Key, Sealed}

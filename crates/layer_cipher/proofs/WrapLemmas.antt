@@ -1,12 +1,9 @@
 -- Layer upon layer.
-use Rattle.std.proofs.Common.{◌≡◌, ℕ, suc, ◌+◌, ◌-◌, ◌*◌, ◌<◌, ◌≤◌, List, [], ◌∷◌, length, take, drop, get_or, map, refl, sym, ap, subst, ◌∙◌, arith, Option, Some, None, add-one}
-use Rattle.std.specs.Option.{option_and_then, option_map}
-use Rattle.std.specs.List.{AllByRecursion}
+use Rattle.std.proofs.Common.{◌≡◌, ℕ, suc, ◌+◌, ◌*◌, ◌<◌, ◌≤◌, List, [], ◌∷◌, length, drop, get_or, map, refl, sym, ap, ◌∙◌, arith, Some, add-one}
 use Rattle.std.proofs.Math.Seq.{drop-cons}
-use Rattle.std.proofs.lemmas.List.{drop_all, length-drop}
+use Rattle.std.proofs.lemmas.List.{drop_all}
 use Rattle.ring_encrypt.specs.Capsule.{Key}
-use Rattle.ring_encrypt.specs.Opening.{IsMessage}
-use Rattle.layer_cipher.specs.Layer.{Layered, Opens, peeled, Wrapped, opened_through}
+use Rattle.layer_cipher.specs.Layer.{Layered, peeled, Wrapped, opened_through}
 use Rattle.layer_cipher.specs.Laws.{WrappingAdds, WrappedOpens, OutermostDetermined}
 use Rattle.layer_cipher.proofs.LayerLemmas.{layer_adds, peels_exactly}
 

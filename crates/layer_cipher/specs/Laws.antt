@@ -1,5 +1,5 @@
 -- What holds of layers.
-use Rattle.std.specs.Prelude.{◌≡◌, ℕ, ◌+◌, ◌*◌, List, [], ◌∷◌, length, map, Some, ◌↔◌}
+use Rattle.std.specs.Prelude.{◌≡◌, ℕ, ◌+◌, ◌*◌, List, ◌∷◌, length, map, Some, ◌↔◌}
 use Rattle.std.specs.List.{AllByRecursion}
 use Rattle.ring_encrypt.specs.Capsule.{Key}
 use Rattle.ring_encrypt.specs.Opening.{IsMessage}

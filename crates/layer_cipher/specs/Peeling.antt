@@ -1,5 +1,5 @@
 -- What the calls that peel return.
-use Rattle.std.specs.Prelude.{◌≡◌, ℕ, List, Option, Some, None}
+use Rattle.std.specs.Prelude.{ℕ, List, Option, Some, None}
 use Rattle.layer_cipher.specs.declared.peeling.Peeled.{Peeled}
 use Rattle.layer_cipher.specs.declared.peeling.Peeled.TheVariants.{Layer, NoLayer}
 use Rattle.layer_cipher.specs.Layer.{Opens}

@@ -1,21 +1,14 @@
 -- A header is read exactly where there are 75 bytes.
-use Rattle.std.proofs.Common.{◌≡◌, ℕ, ◌+◌, ◌-◌, ◌<◌, ◌≤◌, Bool, true, false, cond, ltb, List, length, take, drop, Result, Ok, Err, refl, sym, ap, subst, ◌∙◌, arith, inl, inr}
+use Rattle.std.proofs.Common.{◌≡◌, ℕ, ◌+◌, ◌≤◌, ltb, List, length, take, drop, Result, Ok, Err, refl, sym, ap, ◌∙◌, arith}
 use Rattle.std.specs.Prelude.{IsOk}
 use Rattle.std.specs.Int.{Width, w8, w64, byte_len, from_be_bytes}
-use Rattle.std.proofs.lemmas.Bool.{cases_lt, ltb-false, le-ltb}
+use Rattle.std.proofs.lemmas.Bool.{ltb-false}
 use Rattle.std.proofs.lemmas.List.{length-take, length-drop}
 use Rattle.wire_core.specs.declared.cursor.Short.{Short}
 use Rattle.wire_core.specs.Reading.{Reading, Reads, reading_of, advanced, ◌>>=◌, bytes_at, number_at}
+use Rattle.wire_core.proofs.Readings.{bind_ok, guard_ok, bytes_at-enough}
 use Rattle.phase_message.specs.declared.header.Header.{Header}
 use Rattle.phase_message.specs.Header.{header_at, header_of}
-
-bind_ok : {A B E : Type 0} (r : Result A E) (f : A → Result B E) (y : B) → (r >>= f) ≡ Ok y → (x : A) × (r ≡ Ok x) × (f x ≡ Ok y)
-bind_ok (Ok x) f y e = (x, refl, e)
-bind_ok (Err d) f y e = absurd cc
-
-guard_ok : {A E : Type 0} (b : Bool) (d : E) (x y : A) → cond b (Err d) (Ok x) ≡ Ok y → (b ≡ false) × (x ≡ y)
-guard_ok true d x y e = absurd cc
-guard_ok false d x y e = (refl, cc)
 
 abbrev done : {A : Type 0} → A → Result A Short
 done x = Ok x
@@ -66,11 +59,8 @@ header_takes r x e =
     let left : length g.0.1.rest ≡ length x.1.rest = ap (λ (q : Reading). length q.rest) same in
     omega (arith, number_at-length w8 r a.0 a.1, bytes_at-rest 32 a.0.1 b.0 b.1, number_at-length w64 b.0.1 c.0 c.1, number_at-length w8 c.0.1 d.0 d.1, number_at-length w8 d.0.1 f.0 f.1, bytes_at-rest 32 f.0.1 g.0 g.1, left)
 
-bytes_at-long : (n : ℕ) (r : Reading) → n ≤ length r.rest → bytes_at n r ≡ Ok (take n r.rest, advanced n r)
-bytes_at-long n r le = let long : ltb (length r.rest) n ≡ false = le-ltb _ _ le in rw long refl
-
 number_at-long : (w : Width) (r : Reading) → byte_len w ≤ length r.rest → number_at w r ≡ Ok (from_be_bytes w (take (byte_len w) r.rest), advanced (byte_len w) r)
-number_at-long w r le = rw (bytes_at-long (byte_len w) r le) refl
+number_at-long w r le = rw (bytes_at-enough (byte_len w) r le) refl
 
 -- 75 bytes have a header
 header_long : (r : Reading) → 75 ≤ length r.rest → (x : Header × Reading) × (header_at r ≡ Ok x)
@@ -87,11 +77,11 @@ header_long r le =
     let l4 = length-drop 1 r3.rest in
     let l5 = length-drop 1 r4.rest in
     let e0 = number_at-long w8 r (omega arith) in
-    let e1 = bytes_at-long 32 r1 (omega arith) in
+    let e1 = bytes_at-enough 32 r1 (omega arith) in
     let e2 = number_at-long w64 r2 (omega arith) in
     let e3 = number_at-long w8 r3 (omega arith) in
     let e4 = number_at-long w8 r4 (omega arith) in
-    let e5 = bytes_at-long 32 r5 (omega arith) in (
+    let e5 = bytes_at-enough 32 r5 (omega arith) in (
       (record { version = from_be_bytes w8 (take 1 r.rest); group = take 32 r1.rest; round = from_be_bytes w64 (take 8 r2.rest); stage = from_be_bytes w8 (take 1 r3.rest); sender = from_be_bytes w8 (take 1 r4.rest); view = take 32 r5.rest }, advanced 32 r5),
       rw (e0, e1, e2, e3, e4, e5) refl,
     )

@@ -1,5 +1,5 @@
 -- The head of a content: 75 bytes, of which six fields are read from left to right.
-use Rattle.std.specs.Prelude.{ℕ, List, Result, Ok, Err}
+use Rattle.std.specs.Prelude.{ℕ, List, Result, Ok}
 use Rattle.std.specs.Int.{w8, w64}
 use Rattle.wire_core.specs.declared.cursor.Short.{Short}
 use Rattle.wire_core.specs.Reading.{Reading, reading_of, ◌>>=◌, bytes_at, number_at}

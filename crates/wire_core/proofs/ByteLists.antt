@@ -1,6 +1,7 @@
 -- Lists of bytes: joined ones, a number's bytes, and a hash.
-use Rattle.std.proofs.Common.{◌≡◌, ℕ, zero, suc, ◌/◌, ◌%◌, ◌<◌, ◌^◌, List, [], ◌∷◌, ◌++◌, length, arith, get_or}
+use Rattle.std.proofs.Common.{◌≡◌, ℕ, zero, suc, ◌/◌, ◌%◌, ◌<◌, ◌^◌, List, [], ◌∷◌, ◌++◌, length, take, drop, sym, subst, arith, get_or}
 use Rattle.std.specs.Int.{Width, w32, byte_len, byte_at, bytes_high_first, to_be_bytes}
+use Rattle.std.proofs.lemmas.List.{take-append-drop}
 use Rattle.sha2.specs.Sha256.{sha256, digest_bytes}
 use Rattle.sha2.proofs.Facts256.{length-sha256}
 use Rattle.wire_core.specs.declared.tag.Tag.{Tag}
@@ -17,6 +18,20 @@ IsBytes-cons b bytes small rest (suc i) = rest i
 pub IsBytes-append : (xs ys : List ℕ) → IsBytes xs → IsBytes ys → IsBytes (xs ++ ys)
 IsBytes-append [] ys p q = q
 IsBytes-append (x ∷ xs) ys p q = IsBytes-cons x (xs ++ ys) (p 0) (IsBytes-append xs ys (λ i. p (suc i)) q)
+
+-- the parts of bytes are bytes
+pub IsBytes-front : (xs ys : List ℕ) → IsBytes (xs ++ ys) → IsBytes xs
+IsBytes-front [] ys h i = omega arith
+IsBytes-front (x ∷ xs) ys h zero = h 0
+IsBytes-front (x ∷ xs) ys h (suc i) = IsBytes-front xs ys (λ k. h (suc k)) i
+
+pub IsBytes-back : (xs ys : List ℕ) → IsBytes (xs ++ ys) → IsBytes ys
+IsBytes-back [] ys h = h
+IsBytes-back (x ∷ xs) ys h = IsBytes-back xs ys (λ k. h (suc k))
+
+pub IsBytes-take : (n : ℕ) (bytes : List ℕ) → IsBytes bytes → IsBytes (take n bytes)
+IsBytes-take n bytes h =
+    IsBytes-front (take n bytes) (drop n bytes) (subst (λ (x : List ℕ). IsBytes x) (sym (take-append-drop n bytes)) h)
 
 byte_at-small : (k n : ℕ) → byte_at k n < 256
 byte_at-small zero n = omega arith

@@ -10,6 +10,7 @@ use Rattle.std.proofs.lemmas.Nat.{be_bytes_2, be_bytes_4, be_bytes_8, from_be_by
 use Rattle.std.proofs.Math.Seq.{take-append_seam, drop-append_seam}
 use Rattle.wire_core.specs.declared.cursor.Short.{Short}
 use Rattle.wire_core.specs.Bytes.{IsBytes}
+use Rattle.wire_core.proofs.ByteLists.{IsBytes-front, IsBytes-back}
 use Rattle.wire_core.specs.Reading.{Reading, reading_at, ◌>>=◌, fault_as, unless, advanced, bytes_at, number_at, repeated, with_front, IsFault, Takes}
 
 -- ---- readings one after the other
@@ -44,15 +45,6 @@ Takes-append t u a b c first second = record {
   text_is = first.text_is ∙ ap (λ (x : List ℕ). t ++ x) second.text_is ∙ sym (append_assoc t u c.rest);
   place_is = omega (arith, length-append t u, first.place_is, second.place_is);
 }
-
-IsBytes-front : (xs ys : List ℕ) → IsBytes (xs ++ ys) → IsBytes xs
-IsBytes-front [] ys h i = omega arith
-IsBytes-front (x ∷ xs) ys h zero = h 0
-IsBytes-front (x ∷ xs) ys h (suc i) = IsBytes-front xs ys (λ k. h (suc k)) i
-
-IsBytes-back : (xs ys : List ℕ) → IsBytes (xs ++ ys) → IsBytes ys
-IsBytes-back [] ys h = h
-IsBytes-back (x ∷ xs) ys h = IsBytes-back xs ys (λ k. h (suc k))
 
 -- of bytes, what is read and what is left are bytes
 pub Takes-bytes : (t : List ℕ) (a b : Reading) → Takes t a b → IsBytes a.rest → IsBytes t × IsBytes b.rest

@@ -12,6 +12,7 @@ fn rules_of_rosters(rt: HostRuntime) {
         (b"DSRO".as_slice(), 4, 2),
         (b"DSRO\x02\x02".as_slice(), 4, 2),
         (b"DSRO\x01".as_slice(), 5, 3),
+        (b"DSRO\x01\x01".as_slice(), 5, 3),
         (b"DSRO\x01\x09".as_slice(), 5, 3),
         (b"DSRO\x01\x02".as_slice(), 6, 4),
     ];

@@ -1,6 +1,5 @@
 use Rattle.std.proofs.Common.{◌≡◌, ◌++◌, take}
 use Rattle.std.specs.List.{flat_map}
-use Rattle.phase_message.specs.Grammar.{prefixed}
 use Rattle.phase_message.proofs.encoding.put_entries.Given as goal
 
 abbrev pub invariant-loop-entry : goal.invariant-loop-entry

@@ -2,7 +2,6 @@ use Rattle.std.proofs.Common.{subst, sym, Result}
 use Rattle.std.specs.Prelude.{IsOk}
 use Rattle.wire_core.specs.declared.cursor.Short.{Short}
 use Rattle.phase_message.specs.declared.header.Header.{Header}
-use Rattle.phase_message.specs.Header.{header_of}
 use Rattle.phase_message.proofs.Fields.{is_header, header_ok-length, length-header_ok}
 use Rattle.phase_message.proofs.header.read_header.Goals as goal
 
