@@ -12,3 +12,4 @@ pub mod Commands
 pub mod Promised
 pub mod Requests
 pub mod Showing
+pub mod Adapters

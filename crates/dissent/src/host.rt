@@ -1,5 +1,8 @@
-//! The files of the system and the standard output. They count their faults, and tell nothing of content.
-ghost use Rattle.std.specs.Prelude.{◌≡◌, ◌≤◌, ◌+◌, ◌-◌, ◌^◌, min, None, IfOk, IfSome, length};
+//! The files of the system, and writers such as the standard output. They count their faults. Files tell nothing of
+//! content, and a sink over a writer tells what is known of the writer.
+ghost use Rattle.std.specs.Prelude.{◌≡◌, ◌≤◌, ◌+◌, ◌-◌, ◌^◌, min, None, IfOk, OnOk, IfSome, length, option_map, vec_items};
+ghost use Rattle.dissent.specs.Outside.{Gains, GainsFirstOf};
+ghost use Rattle.dissent.specs.Host.{within_limit};
 
 use crate::outside::{FileRead, FileWrite, Files, Sink, SinkAnswer};
 use std::alloc::Global;
@@ -38,7 +41,11 @@ impl<'a, R: rt::Files> Files for HostFiles<'a, R> {
     ghost told = { λ _. None };
 
     fn read(&mut self, name: &String, limit: u32) -> FileRead {
-        match read_up_to(self.rt, self.alloc, name, limit) {
+        let answer = match File::open(self.rt, name.as_str()) {
+            Ok(file) => read_up_to(self.alloc, file, limit),
+            Err(error) => Err(error),
+        };
+        match answer {
             Ok(Some(bytes)) => FileRead::Bytes(bytes),
             Ok(None) => FileRead::TooLong,
             Err(error) if error.kind() == ErrorKind::OutOfMemory => FileRead::OutOfMemory,
@@ -61,51 +68,48 @@ impl<'a, R: rt::Files> Files for HostFiles<'a, R> {
     }
 }
 
-// The bytes of a file, or `None` where it has more than `limit`.
-fn read_up_to<R: rt::Files>(
-    rt: &R,
-    alloc: Global,
-    name: &String,
-    limit: u32,
-) -> io::Result<Option<Vec<u8>>>
-    ensures { IfOk result (λ file. IfSome file (λ bytes. length bytes.items ≤ limit)) }
+// All bytes of a reader, or `None` where it has more than `limit`.
+fn read_up_to<R: Read + Drop>(alloc: Global, reader: R, limit: u32) -> io::Result<Option<Vec<u8>>>
+    ensures bounded { IfOk result (λ file. IfSome file (λ bytes. length bytes.items ≤ limit)) }
+    ensures all { IfOk result (λ file. IfSome (R.remaining reader) (λ all.
+        option_map (λ bytes. vec_items bytes) file ≡ within_limit limit all)) }
 {
-    let file = File::open(rt, name.as_str())?;
     let mut bytes = Vec::new(alloc);
-    file.take(u64::from(limit) + 1).read_to_end(&mut bytes)?;
+    reader.take(u64::from(limit) + 1).read_to_end(&mut bytes)?;
     if bytes.len() > limit as usize {
         return Ok(None);
     }
     Ok(Some(bytes))
 }
 
-/// The standard output.
+/// A writer as a sink.
 #[derive(Drop)]
-pub struct HostSink<'a, P> {
-    rt: &'a P,
+pub struct WriterSink<W> {
+    writer: W,
     faults: u64,
 }
 
-impl<'a, P> HostSink<'a, P> {
-    ghost use Rattle.dissent.specs.Host.{output_faults};
+impl<W> WriterSink<W> {
+    ghost use Rattle.dissent.specs.Host.{sink_faults, sink_writer};
 
-    /// Over the standard output of `rt`.
-    pub fn new(rt: &'a P) -> Self
-        ensures { output_faults result ≡ 0 }
+    /// Over a writer.
+    pub fn new(writer: W) -> Self
+        ensures faults { sink_faults result ≡ 0 }
+        ensures writer { sink_writer result ≡ writer }
     {
-        HostSink { rt, faults: 0 }
+        WriterSink { writer, faults: 0 }
     }
 }
 
-impl<'a, P: Print> Sink for HostSink<'a, P> {
-    ghost use Rattle.dissent.specs.Host.{output_faults};
+impl<W: Write> Sink for WriterSink<W> {
+    ghost use Rattle.dissent.specs.Host.{sink_faults, sink_writer};
 
-    ghost faults = { λ sink. output_faults sink };
+    ghost faults = { λ sink. sink_faults sink };
 
-    ghost told = { λ _. None };
+    ghost told = { λ sink. W.contents (sink_writer sink) };
 
     fn write(&mut self, piece: &Vec<u8>) -> SinkAnswer {
-        match io::writer(self.rt).write_all(piece.as_slice()) {
+        match put_all(&mut self.writer, piece.as_slice()) {
             Ok(()) => SinkAnswer::Written,
             Err(error) if error.kind() == ErrorKind::OutOfMemory => SinkAnswer::OutOfMemory,
             Err(_) => {
@@ -114,4 +118,25 @@ impl<'a, P: Print> Sink for HostSink<'a, P> {
             }
         }
     }
+}
+
+// Writes a whole piece, or its first bytes and then fails. (`write_all` does not say the second.)
+fn put_all<W: Write>(writer: &mut W, piece: &[u8]) -> io::Result<()>
+    ensures whole { OnOk result (Gains (W.contents writer.old) (W.contents writer.new) piece.now) }
+    ensures part { GainsFirstOf (W.contents writer.old) (W.contents writer.new) piece.now }
+{
+    let mut put = 0;
+    for _ in 0..u64::MAX {
+        if put == piece.len() {
+            return Ok(());
+        }
+        let (_, rest) = piece.split_at(put);
+        match writer.write(rest) {
+            Ok(0) => return Err(io::Error::from(ErrorKind::WriteZero)),
+            Ok(count) => put += count,
+            Err(error) if error.kind() == ErrorKind::Interrupted => {}
+            Err(error) => return Err(error),
+        }
+    }
+    Err(io::Error::from(ErrorKind::Interrupted))
 }

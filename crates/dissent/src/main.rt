@@ -21,7 +21,7 @@ mod tests;
 mod transcript;
 mod words;
 
-pub use host::{HostFiles, HostSink};
+pub use host::{HostFiles, WriterSink};
 pub use judge::{Accepted, Claim, FailedCheck, Refused, judge};
 pub use laws::{
     checks_are_exact, nobody_is_framed, posts_are_admitted, posts_are_framed, rosters_are_spelled,
@@ -51,7 +51,7 @@ fn run<R: Runtime<A = Global> + Threads + Sync>(rt: &R) -> Status {
     match given_words(rt) {
         Ok(words) => {
             let mut files = HostFiles::new(rt, alloc);
-            let mut out = HostSink::new(rt);
+            let mut out = WriterSink::new(io::writer(rt));
             run_offline(rt, alloc, &words, &mut files, &mut out)
         }
         Err(AllocError) => Status::OutOfMemory,

@@ -179,6 +179,9 @@ fn real_files_are_written_and_read(rt: HostRuntime) -> Result<(), Fail> {
 #[test]
 fn the_standard_output_is_written(rt: HostRuntime) -> Result<(), Fail> {
     let piece = vec![in rt.alloc(); b'.'; 1]?;
-    assert_eq!(rt; HostSink::new(&rt).write(&piece), SinkAnswer::Written);
+    assert_eq!(rt;
+        WriterSink::new(std::io::writer(&rt)).write(&piece),
+        SinkAnswer::Written
+    );
     Ok(())
 }
