@@ -2,3 +2,4 @@ pub mod Blocks
 pub mod DigitSizes
 pub mod Steps
 pub mod Words
+pub mod Signatures

@@ -1,1 +1,2 @@
 pub mod OneTime
+pub mod Signing

@@ -10,7 +10,7 @@ use crate::types::OtsType;
 use sha2::{Digest, Sha256};
 
 // D_PBLC and D_MESG of the RFC.
-const D_PBLC: u16 = 0x8080;
+pub(crate) const D_PBLC: u16 = 0x8080;
 
 const D_MESG: u16 = 0x8181;
 

@@ -1,8 +1,9 @@
-//! LM-OTS, the one-time signatures of RFC 8554, section 4, with SHA-256: what a verifier computes.
+//! LM-OTS, the one-time signatures of RFC 8554, section 4, with SHA-256: keys that sign once, and what a verifier computes.
 #![tactic(auto)]
 
 mod chains;
 mod digits;
+mod one_time_keys;
 mod strings;
 #[cfg(test)]
 mod tests;
@@ -10,5 +11,6 @@ mod types;
 
 pub use chains::{OtsRefusal, candidate, chain, message_hash};
 pub use digits::{checksum, coef, signed_string};
+pub use one_time_keys::{OtsKey, make, own_signatures_lead_to_their_key};
 pub use strings::{head_word, u16str, u32str};
 pub use types::OtsType;

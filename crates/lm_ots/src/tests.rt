@@ -1,4 +1,5 @@
-use crate::{OtsRefusal, OtsType, candidate, checksum, coef};
+use crate::{OtsRefusal, OtsType, candidate, checksum, coef, make};
+use sha2::{Digest, Sha256};
 
 #[test]
 fn digits_are_those_of_the_rfc(rt: HostRuntime) {
@@ -32,4 +33,35 @@ fn the_length_is_tested_before_the_type(rt: HostRuntime) {
     let found = 4;
     let expected = 3;
     assert_eq!(rt; kind, Err(OtsRefusal::Kind { found, expected }));
+}
+
+const IDENTIFIER: [u8; 16] = *b"\x33\xa7\xe4\x56\x23\xf9\xc8\x6d\x85\x2a\xec\xc2\x70\xf3\x32\x8e";
+
+const SEED: [u8; 32] =
+    *b"\x6c\xde\x02\x52\x87\x64\x47\x63\xd8\x23\xf1\xae\x6a\x48\xab\xea\xd7\x1b\xb4\x5a\x4c\xd2\x35\xb1\xc1\x87\x4d\xb7\xd3\x96\x78\x09";
+
+// The SHA-256 of the signature of the empty message, and K, as another implementation has them.
+const SIGNED: [u8; 32] =
+    *b"\xb0\xba\xb1\x88\x3c\xa8\xda\x82\x1b\xcc\xdb\xf0\xd5\xb3\xde\x5c\x69\xf2\x29\xc3\x67\x8b\x29\x2f\xf3\xa3\x29\x16\xe2\x1c\x06\x9f";
+
+const KEY: [u8; 32] =
+    *b"\xbf\x86\xff\x18\x24\x00\xe6\x5a\x23\xcb\xf6\x94\xf9\x34\x62\x42\xa4\x3a\x0d\x42\xa4\x65\xe0\x85\xc7\x48\xaf\xfd\x24\x4a\xda\x87";
+
+#[test]
+fn a_key_signs_what_leads_to_it(rt: HostRuntime) {
+    let unused = make(OtsType::W8, IDENTIFIER, 31, SEED);
+    assert_eq!(rt; unused.public(), KEY);
+    unused.retire();
+    match make(OtsType::W8, IDENTIFIER, 31, SEED).sign(rt.alloc(), b"") {
+        Ok(signature) => {
+            assert_eq!(rt; Sha256::digest(&signature), SIGNED);
+            assert_eq!(rt; signature.len(), 1124);
+            let led_to = candidate(OtsType::W8, IDENTIFIER, 31, b"", &signature);
+            assert_eq!(rt; led_to, Ok(KEY));
+        }
+        Err((key, _)) => {
+            key.retire();
+            assert!(rt; false, "no memory");
+        }
+    }
 }

@@ -10,7 +10,7 @@ pub enum OtsType {
 }
 
 impl OtsType {
-    ghost use Rattle.std.specs.Prelude.{◌≡◌};
+    ghost use Rattle.std.specs.Prelude.{◌≡◌, ◌-◌, ◌^◌};
     ghost use Rattle.lm_ots.specs.OneTime.{checksum_shift, chain_count, digit_bits, signature_bytes, type_number, type_of_number};
 
     /// The type of a number, or `None` where the number is none of 1 to 4.
@@ -59,6 +59,18 @@ impl OtsType {
             OtsType::W2 => 133,
             OtsType::W4 => 67,
             OtsType::W8 => 34,
+        }
+    }
+
+    // 2^w - 1: the last place of a chain, and the greatest digit.
+    pub(crate) fn last_place(self) -> u8
+        ensures { result ≡ 2 ^ digit_bits self - 1 }
+    {
+        match self {
+            OtsType::W1 => 1,
+            OtsType::W2 => 3,
+            OtsType::W4 => 15,
+            OtsType::W8 => 255,
         }
     }
 
