@@ -1,20 +1,20 @@
 -- What the promises of each status follow from: an answer that was come to, and its printing.
-use Rattle.std.proofs.Common.{◌≡◌, ◌≢◌, ◌⊎◌, inl, inr, refl, sym, ◌∙◌, ap, subst, ℕ, List, length, Option, Some, None, Result, Ok, Err, IfOk, IsSomeAnd, IsSome, Bool, true, false, nat_lt, if◌then◌else◌}
+use Rattle.std.proofs.Common.{◌≡◌, ◌≢◌, ◌⊎◌, inl, inr, refl, sym, ◌∙◌, ap, subst, ℕ, List, length, Option, Some, None, Result, Ok, Err, IsSomeAnd, IsSome, Bool, true, false, nat_lt, if◌then◌else◌}
 use Rattle.dissent.specs.declared.status.Status.{Status}
-use Rattle.dissent.specs.declared.status.Status.TheVariants.{Done, Usage, Refused, ReadFault, WriteFault, BadRoster, TooLong, OutOfMemory}
+use Rattle.dissent.specs.declared.status.Status.TheVariants.{Done, Usage, Refused, ReadFault, WriteFault, DiskFault, BadRoster, TooLong, OutOfMemory}
 use Rattle.dissent.specs.declared.judge.Accepted.{Accepted}
 use Rattle.dissent.specs.Outside.{Held, Shows, IsMissing, Gains}
-use Rattle.dissent.specs.Command.{Request, judge, show}
+use Rattle.dissent.specs.Command.{Request, judge, show, keygen}
 use Rattle.dissent.specs.declared.judge.FailedCheck.{FailedCheck}
 use Rattle.dissent.specs.declared.roster.Roster.{Roster}
 use Rattle.dissent.specs.Roster.{roster_read, IsRosterFile, roster_spelling}
 use Rattle.phase_message.specs.declared.content.Content.{Content}
 use Rattle.dissent.specs.Accepts.{judged}
 use Rattle.dissent.specs.Show.{IsPostFile, file_checked, shown_line}
-use Rattle.dissent.specs.Outcome.{Yields, Answers, RequestMisses, within, and_then, or_bad_roster, or_refused, judge_outcome, show_outcome, outcome_of, accepted_line}
+use Rattle.dissent.specs.Outcome.{Yields, YieldsOr, Answers, RequestMisses, within, and_then, or_bad_roster, or_refused, judge_outcome, show_outcome, keygen_outcome, accepted_line}
 use Rattle.dissent.specs.Delivery.{Delivers, status_of, text_of}
 use Rattle.dissent.proofs.Commands.{outcome_by}
-use Rattle.dissent.specs.Promise.{IsToldStatus, IsStatusOf, IsComplete, BearsOut, FilesConvict, FilesShow, OnOutput, PrintsBorneOut}
+use Rattle.dissent.specs.Promise.{IsToldStatus, IsStatusOf, IsWhole, IsComplete, FilesConvict, FilesShow, OnOutput, PrintsOutput}
 use Rattle.dissent.specs.declared.roster.RosterRefusal.{RosterRefusal}
 use Rattle.dissent.specs.declared.roster.RosterRefusal.TheVariants.{Bad, Memory as RosterMemory}
 use Rattle.dissent.specs.declared.judge.Refused.{Refused as JudgeRefusal}
@@ -72,63 +72,86 @@ err_of : (answer : Result (List ℕ) Status) (status : Status) → status_of ans
 err_of (Ok output) status h other = absurd (other (sym h))
 err_of (Err refusal) status h other = ap Err h
 
--- where the files tell, the answer is that of the definition
-yields : (fault : Type 0) (held : Held) (request : Option Request) (answer : Result (List ℕ) Status)
-    → Answers fault (Some held) request answer → Yields fault (outcome_of held request) answer
-yields fault held None answer h = inl h
-yields fault held (Some (judge roster transcript)) answer (file, second, shows, shows', h) =
+-- the answer of a command on files that tell is that of the definition
+judge_yields : (fault : Type 0) (held : Held) (roster transcript : List ℕ) (file second : Option (List ℕ)) (answer : Result (List ℕ) Status)
+    → held roster ≡ file → held transcript ≡ second → Yields fault (judge_outcome file second) answer
+    → Yields fault (judge_outcome (held roster) (held transcript)) answer
+judge_yields fault held roster transcript file second answer shows shows' h =
     let e : judge_outcome file second ≡ judge_outcome (held roster) (held transcript) = rw (shows, shows') in
     let P : Result (List ℕ) Status → Type 0 = λ expected. Yields fault expected answer in
     subst P e h
-yields fault held (Some (show roster round post)) answer (file, second, shows, shows', h) =
+
+show_yields : (fault : Type 0) (held : Held) (roster : List ℕ) (round : ℕ) (post : List ℕ) (file second : Option (List ℕ)) (answer : Result (List ℕ) Status)
+    → held roster ≡ file → held post ≡ second → Yields fault (show_outcome round file second) answer
+    → Yields fault (show_outcome round (held roster) (held post)) answer
+show_yields fault held roster round post file second answer shows shows' h =
     let e : show_outcome round file second ≡ show_outcome round (held roster) (held post) = rw (shows, shows') in
     let P : Result (List ℕ) Status → Type 0 = λ expected. Yields fault expected answer in
     subst P e h
 
-told_status : (read_fault write_fault : Type 0) (expected answer : Result (List ℕ) Status) (old new : Option (List ℕ)) (status : Status)
-    → Yields read_fault expected answer → Delivers write_fault old new answer status
-    → IsStatusOf read_fault write_fault (status_of expected) status
-told_status read_fault write_fault expected answer old new status y (gained, gains, inl whole) = elim y [
+told_status : (failed : Status) (fault write_fault : Type 0) (expected answer : Result (List ℕ) Status) (old new : Option (List ℕ)) (status : Status)
+    → YieldsOr failed fault expected answer → Delivers write_fault old new answer status
+    → IsStatusOf failed fault write_fault (status_of expected) status
+told_status failed fault write_fault expected answer old new status y (gained, gains, inl whole) = elim y [
   | inl e ↦ inl (whole.0 ∙ ap status_of e)
   | inr others ↦ elim others [
     | inl e ↦ inr (inl (whole.0 ∙ ap status_of e))
-    | inr failed ↦ inr (inr (inl (whole.0 ∙ ap status_of failed.0, failed.1)))
+    | inr failure ↦ inr (inr (inl (whole.0 ∙ ap status_of failure.0, failure.1)))
   ]
 ]
-told_status read_fault write_fault expected answer old new status y (gained, gains, inr (inl unwritten)) =
+told_status failed fault write_fault expected answer old new status y (gained, gains, inr (inl unwritten)) =
     inr (inr (inr (unwritten.0, unwritten.1)))
-told_status read_fault write_fault expected answer old new status y (gained, gains, inr (inr memory)) = inr (inl memory.0)
+told_status failed fault write_fault expected answer old new status y (gained, gains, inr (inr memory)) = inr (inl memory.0)
 
-pub promised_status : (read_fault write_fault : Type 0) (told : Option Held) (old new : Option (List ℕ)) (request : Option Request)
-    (answer : Result (List ℕ) Status) (status : Status) → Answers read_fault told request answer
-    → Delivers write_fault old new answer status → IsToldStatus read_fault write_fault told request status
-promised_status read_fault write_fault None old new request answer status a d = tt
-promised_status read_fault write_fault (Some held) old new request answer status a d =
-    told_status read_fault write_fault (outcome_of held request) answer old new status (yields read_fault held request answer a) d
+pub promised_status : (read_fault disk_fault write_fault : Type 0) (told : Option Held) (master : List ℕ) (old new : Option (List ℕ))
+    (request : Option Request) (answer : Result (List ℕ) Status) (status : Status) → Answers read_fault disk_fault told master request answer
+    → Delivers write_fault old new answer status → IsToldStatus read_fault disk_fault write_fault told master request status
+promised_status read_fault disk_fault write_fault None master old new None answer status a d = tt
+promised_status read_fault disk_fault write_fault None master old new (Some (judge roster transcript)) answer status a d = tt
+promised_status read_fault disk_fault write_fault None master old new (Some (show roster round post)) answer status a d = tt
+promised_status read_fault disk_fault write_fault (Some held) master old new None answer status a d =
+    told_status ReadFault read_fault write_fault (Err Usage) answer old new status (inl a) d
+promised_status read_fault disk_fault write_fault (Some held) master old new (Some (judge roster transcript)) answer status (file, second, shows, shows', h) d =
+    told_status ReadFault read_fault write_fault (judge_outcome (held roster) (held transcript)) answer old new status
+    (judge_yields read_fault held roster transcript file second answer shows shows' h) d
+promised_status read_fault disk_fault write_fault (Some held) master old new (Some (show roster round post)) answer status (file, second, shows, shows', h) d =
+    told_status ReadFault read_fault write_fault (show_outcome round (held roster) (held post)) answer old new status
+    (show_yields read_fault held roster round post file second answer shows shows' h) d
+promised_status read_fault disk_fault write_fault told master old new (Some (keygen key height width)) answer status a d =
+    told_status DiskFault disk_fault write_fault (keygen_outcome master height width) answer old new status a d
 
-complete : (read_fault write_fault : Type 0) (expected answer : Result (List ℕ) Status) (old new : Option (List ℕ)) (status : Status)
-    → Yields read_fault expected answer → Delivers write_fault old new answer status
-    → IfOk expected (λ output. ¬ read_fault → ¬ write_fault → ((status ≡ Done) × Gains old new output) ⊎ (status ≡ OutOfMemory))
-complete read_fault write_fault (Err refusal) answer old new status y d = tt
-complete read_fault write_fault (Ok output) answer old new status y (gained, gains, inl whole) = λ no_read no_write. elim y [
+complete : (failed : Status) (fault write_fault : Type 0) (expected answer : Result (List ℕ) Status) (old new : Option (List ℕ)) (status : Status)
+    → YieldsOr failed fault expected answer → Delivers write_fault old new answer status
+    → IsWhole fault write_fault old new status expected
+complete failed fault write_fault (Err refusal) answer old new status y d = tt
+complete failed fault write_fault (Ok output) answer old new status y (gained, gains, inl whole) = λ no_fault no_write. elim y [
   | inl e ↦ (let P : List ℕ → Type 0 = λ text. Gains old new text in
       inl (whole.0 ∙ ap status_of e, subst P (whole.1 ∙ ap text_of e) gains))
   | inr others ↦ elim others [
     | inl e ↦ inr (whole.0 ∙ ap status_of e)
-    | inr failed ↦ absurd (no_read failed.1)
+    | inr failure ↦ absurd (no_fault failure.1)
   ]
 ]
-complete read_fault write_fault (Ok output) answer old new status y (gained, gains, inr (inl unwritten)) =
-    λ no_read no_write. absurd (no_write unwritten.1)
-complete read_fault write_fault (Ok output) answer old new status y (gained, gains, inr (inr memory)) =
-    λ no_read no_write. inr memory.0
+complete failed fault write_fault (Ok output) answer old new status y (gained, gains, inr (inl unwritten)) =
+    λ no_fault no_write. absurd (no_write unwritten.1)
+complete failed fault write_fault (Ok output) answer old new status y (gained, gains, inr (inr memory)) =
+    λ no_fault no_write. inr memory.0
 
-pub promised_complete : (read_fault write_fault : Type 0) (told : Option Held) (old new : Option (List ℕ)) (request : Option Request)
-    (answer : Result (List ℕ) Status) (status : Status) → Answers read_fault told request answer
-    → Delivers write_fault old new answer status → IsComplete read_fault write_fault told old new request status
-promised_complete read_fault write_fault None old new request answer status a d = tt
-promised_complete read_fault write_fault (Some held) old new request answer status a d =
-    complete read_fault write_fault (outcome_of held request) answer old new status (yields read_fault held request answer a) d
+pub promised_complete : (read_fault disk_fault write_fault : Type 0) (told : Option Held) (master : List ℕ) (old new : Option (List ℕ))
+    (request : Option Request) (answer : Result (List ℕ) Status) (status : Status) → Answers read_fault disk_fault told master request answer
+    → Delivers write_fault old new answer status → IsComplete read_fault disk_fault write_fault told master old new request status
+promised_complete read_fault disk_fault write_fault None master old new None answer status a d = tt
+promised_complete read_fault disk_fault write_fault None master old new (Some (judge roster transcript)) answer status a d = tt
+promised_complete read_fault disk_fault write_fault None master old new (Some (show roster round post)) answer status a d = tt
+promised_complete read_fault disk_fault write_fault (Some held) master old new None answer status a d = tt
+promised_complete read_fault disk_fault write_fault (Some held) master old new (Some (judge roster transcript)) answer status (file, second, shows, shows', h) d =
+    complete ReadFault read_fault write_fault (judge_outcome (held roster) (held transcript)) answer old new status
+    (judge_yields read_fault held roster transcript file second answer shows shows' h) d
+promised_complete read_fault disk_fault write_fault (Some held) master old new (Some (show roster round post)) answer status (file, second, shows, shows', h) d =
+    complete ReadFault read_fault write_fault (show_outcome round (held roster) (held post)) answer old new status
+    (show_yields read_fault held roster round post file second answer shows shows' h) d
+promised_complete read_fault disk_fault write_fault told master old new (Some (keygen key height width)) answer status a d =
+    complete DiskFault disk_fault write_fault (keygen_outcome master height width) answer old new status a d
 
 no_bytes : (file : Option (List ℕ)) → file ≡ None → IsSome file → ⊥
 no_bytes None none some = cc
@@ -138,83 +161,102 @@ is_missing : (told : Option Held) (name : List ℕ) (file : Option (List ℕ)) �
 is_missing None name file none shows = absurd (no_bytes file none shows)
 is_missing (Some held) name file none shows = shows ∙ none
 
--- an answer of the definition, or want of memory, or a fault of the files
-answer_cases : (fault : Type 0) (told : Option Held) (request : Option Request) (status : Status) (P : Status → Type 0)
-    → (request ≡ None → P Usage) → P OutOfMemory → (fault ⊎ IsSomeAnd request (RequestMisses told) → P ReadFault)
+-- a status that a definition gives, or that tells of memory or of a fault
+by_cases : (failed : Status) (fault : Type 0) (expected : Result (List ℕ) Status) (status : Status) (P : Status → Type 0)
+    → (expected ≡ Err status → P status) → P OutOfMemory → (fault → P failed) → YieldsOr failed fault expected (Err status) → P status
+by_cases failed fault expected status P given memory fails (inl e) = given (sym e)
+by_cases failed fault expected status P given memory fails (inr (inl e)) = let e' : OutOfMemory ≡ status = cc in subst P e' memory
+by_cases failed fault expected status P given memory fails (inr (inr (e, rose))) = let e' : failed ≡ status = cc in subst P e' (fails rose)
+
+-- an answer of the definition, or want of memory, or a fault of the files or of the disk
+answer_cases : (read_fault disk_fault : Type 0) (told : Option Held) (master : List ℕ) (request : Option Request) (status : Status) (P : Status → Type 0)
+    → (request ≡ None → P Usage) → P OutOfMemory → (read_fault ⊎ IsSomeAnd request (RequestMisses told) → P ReadFault)
+    → (disk_fault → P DiskFault)
     → ((limit : ℕ) → P (TooLong limit)) → ((at rule : ℕ) → P (BadRoster at rule)) → ((check post at : ℕ) → P (Refused check post at))
-    → Answers fault told request (Err status) → P status
-answer_cases fault told None status P usage memory read long bad refused h =
+    → Answers read_fault disk_fault told master request (Err status) → P status
+answer_cases read_fault disk_fault told master None status P usage memory read disk long bad refused h =
     let e : Usage ≡ status = cc in subst P e (usage refl)
-answer_cases fault told (Some (judge roster transcript)) status P usage memory read long bad refused (file, second, shows, shows', h) = elim h [
-  | inl e ↦ outcome_cases Roster Accepted 134217728 accepted_line roster_read judged file second P (λ none. read (inr (inl (is_missing told roster file none shows))))
-      (λ none. read (inr (inr (is_missing told transcript second none shows')))) long bad refused status (sym e)
-  | inr others ↦ elim others [
-    | inl e ↦ (let e' : OutOfMemory ≡ status = cc in subst P e' memory)
-    | inr failed ↦ (let e' : ReadFault ≡ status = (let f : Err status ≡ Err ReadFault = failed.0 in cc) in subst P e' (read (inl failed.1)))
-  ]
-]
-answer_cases fault told (Some (show roster round post)) status P usage memory read long bad refused (file, second, shows, shows', h) = elim h [
-  | inl e ↦ outcome_cases Roster Content 16777216 shown_line roster_read (file_checked round) file second P (λ none. read (inr (inl (is_missing told roster file none shows))))
-      (λ none. read (inr (inr (is_missing told post second none shows')))) long bad refused status (sym e)
-  | inr others ↦ elim others [
-    | inl e ↦ (let e' : OutOfMemory ≡ status = cc in subst P e' memory)
-    | inr failed ↦ (let e' : ReadFault ≡ status = (let f : Err status ≡ Err ReadFault = failed.0 in cc) in subst P e' (read (inl failed.1)))
-  ]
-]
+answer_cases read_fault disk_fault told master (Some (judge roster transcript)) status P usage memory read disk long bad refused (file, second, shows, shows', h) =
+    by_cases ReadFault read_fault (judge_outcome file second) status P
+    (outcome_cases Roster Accepted 134217728 accepted_line roster_read judged file second P (λ none. read (inr (inl (is_missing told roster file none shows))))
+    (λ none. read (inr (inr (is_missing told transcript second none shows')))) long bad refused status)
+    memory (λ rose. read (inl rose)) h
+answer_cases read_fault disk_fault told master (Some (show roster round post)) status P usage memory read disk long bad refused (file, second, shows, shows', h) =
+    by_cases ReadFault read_fault (show_outcome round file second) status P
+    (outcome_cases Roster Content 16777216 shown_line roster_read (file_checked round) file second P (λ none. read (inr (inl (is_missing told roster file none shows))))
+    (λ none. read (inr (inr (is_missing told post second none shows')))) long bad refused status)
+    memory (λ rose. read (inl rose)) h
+answer_cases read_fault disk_fault told master (Some (keygen key height width)) status P usage memory read disk long bad refused h =
+    by_cases DiskFault disk_fault (keygen_outcome master height width) status P (λ e. cc) memory disk h
 
 -- the answer that is printed whole, under its status
-answer_at : (read_fault : Type 0) (told : Option Held) (request : Option Request) (answer : Result (List ℕ) Status) (status : Status)
-    → status_of answer ≡ status → status ≢ Done → Answers read_fault told request answer
-    → Answers read_fault told request (Err status)
-answer_at read_fault told request answer status is other h =
-    let P : Result (List ℕ) Status → Type 0 = λ a. Answers read_fault told request a in
+answer_at : (read_fault disk_fault : Type 0) (told : Option Held) (master : List ℕ) (request : Option Request) (answer : Result (List ℕ) Status) (status : Status)
+    → status_of answer ≡ status → status ≢ Done → Answers read_fault disk_fault told master request answer
+    → Answers read_fault disk_fault told master request (Err status)
+answer_at read_fault disk_fault told master request answer status is other h =
+    let P : Result (List ℕ) Status → Type 0 = λ a. Answers read_fault disk_fault told master request a in
     subst P (err_of answer status is other) h
 
-pub promised_usage : (read_fault write_fault : Type 0) (told : Option Held) (old new : Option (List ℕ)) (request : Option Request)
-    (answer : Result (List ℕ) Status) (status : Status) → Answers read_fault told request answer
+pub promised_usage : (read_fault disk_fault write_fault : Type 0) (told : Option Held) (master : List ℕ) (old new : Option (List ℕ))
+    (request : Option Request) (answer : Result (List ℕ) Status) (status : Status) → Answers read_fault disk_fault told master request answer
     → Delivers write_fault old new answer status → status ≡ Usage → request ≡ None
-promised_usage read_fault write_fault told old new request answer status a (gained, gains, inl whole) e =
-    answer_cases read_fault told request Usage (λ s. s ≡ Usage → request ≡ None) (λ none _. none) (λ e. cc) (λ _ e. cc) (λ _ e. cc)
-    (λ _ _ e. cc) (λ _ _ _ e. cc) (answer_at read_fault told request answer Usage (sym whole.0 ∙ e) (λ e. cc) a) refl
-promised_usage read_fault write_fault told old new request answer status a (gained, gains, inr (inl unwritten)) e =
+promised_usage read_fault disk_fault write_fault told master old new request answer status a (gained, gains, inl whole) e =
+    answer_cases read_fault disk_fault told master request Usage (λ s. s ≡ Usage → request ≡ None)
+    (λ none _. none) (λ e. cc) (λ _ e. cc) (λ _ e. cc) (λ _ e. cc) (λ _ _ e. cc) (λ _ _ _ e. cc)
+    (answer_at read_fault disk_fault told master request answer Usage (sym whole.0 ∙ e) (λ e. cc) a) refl
+promised_usage read_fault disk_fault write_fault told master old new request answer status a (gained, gains, inr (inl unwritten)) e =
     let f : WriteFault ≡ Usage = sym unwritten.0 ∙ e in cc
-promised_usage read_fault write_fault told old new request answer status a (gained, gains, inr (inr memory)) e =
+promised_usage read_fault disk_fault write_fault told master old new request answer status a (gained, gains, inr (inr memory)) e =
     let f : OutOfMemory ≡ Usage = sym memory.0 ∙ e in cc
 
-pub promised_read_fault : (read_fault write_fault : Type 0) (told : Option Held) (old new : Option (List ℕ)) (request : Option Request)
-    (answer : Result (List ℕ) Status) (status : Status) → Answers read_fault told request answer
-    → Delivers write_fault old new answer status → status ≡ ReadFault → read_fault ⊎ IsSomeAnd request (RequestMisses told)
-promised_read_fault read_fault write_fault told old new request answer status a (gained, gains, inl whole) e =
-    answer_cases read_fault told request ReadFault (λ s. s ≡ ReadFault → read_fault ⊎ IsSomeAnd request (RequestMisses told))
-    (λ _ e. cc) (λ e. cc) (λ why _. why) (λ _ e. cc) (λ _ _ e. cc) (λ _ _ _ e. cc)
-    (answer_at read_fault told request answer ReadFault (sym whole.0 ∙ e) (λ e. cc) a) refl
-promised_read_fault read_fault write_fault told old new request answer status a (gained, gains, inr (inl unwritten)) e =
+pub promised_read_fault : (read_fault disk_fault write_fault : Type 0) (told : Option Held) (master : List ℕ) (old new : Option (List ℕ))
+    (request : Option Request) (answer : Result (List ℕ) Status) (status : Status) → Answers read_fault disk_fault told master request answer
+    → Delivers write_fault old new answer status → status ≡ ReadFault
+    → read_fault ⊎ IsSomeAnd request (RequestMisses told)
+promised_read_fault read_fault disk_fault write_fault told master old new request answer status a (gained, gains, inl whole) e =
+    answer_cases read_fault disk_fault told master request ReadFault (λ s. s ≡ ReadFault → read_fault ⊎ IsSomeAnd request (RequestMisses told))
+    (λ _ e. cc) (λ e. cc) (λ why _. why) (λ _ e. cc) (λ _ e. cc) (λ _ _ e. cc) (λ _ _ _ e. cc)
+    (answer_at read_fault disk_fault told master request answer ReadFault (sym whole.0 ∙ e) (λ e. cc) a) refl
+promised_read_fault read_fault disk_fault write_fault told master old new request answer status a (gained, gains, inr (inl unwritten)) e =
     let f : WriteFault ≡ ReadFault = sym unwritten.0 ∙ e in cc
-promised_read_fault read_fault write_fault told old new request answer status a (gained, gains, inr (inr memory)) e =
+promised_read_fault read_fault disk_fault write_fault told master old new request answer status a (gained, gains, inr (inr memory)) e =
     let f : OutOfMemory ≡ ReadFault = sym memory.0 ∙ e in cc
 
-pub promised_write_fault : (read_fault write_fault : Type 0) (told : Option Held) (old new : Option (List ℕ)) (request : Option Request)
-    (answer : Result (List ℕ) Status) (status : Status) → Answers read_fault told request answer
+pub promised_disk_fault : (read_fault disk_fault write_fault : Type 0) (told : Option Held) (master : List ℕ) (old new : Option (List ℕ))
+    (request : Option Request) (answer : Result (List ℕ) Status) (status : Status) → Answers read_fault disk_fault told master request answer
+    → Delivers write_fault old new answer status → status ≡ DiskFault → disk_fault
+promised_disk_fault read_fault disk_fault write_fault told master old new request answer status a (gained, gains, inl whole) e =
+    answer_cases read_fault disk_fault told master request DiskFault (λ s. s ≡ DiskFault → disk_fault)
+    (λ _ e. cc) (λ e. cc) (λ _ e. cc) (λ rose _. rose) (λ _ e. cc) (λ _ _ e. cc) (λ _ _ _ e. cc)
+    (answer_at read_fault disk_fault told master request answer DiskFault (sym whole.0 ∙ e) (λ e. cc) a) refl
+promised_disk_fault read_fault disk_fault write_fault told master old new request answer status a (gained, gains, inr (inl unwritten)) e =
+    let f : WriteFault ≡ DiskFault = sym unwritten.0 ∙ e in cc
+promised_disk_fault read_fault disk_fault write_fault told master old new request answer status a (gained, gains, inr (inr memory)) e =
+    let f : OutOfMemory ≡ DiskFault = sym memory.0 ∙ e in cc
+
+pub promised_write_fault : (read_fault disk_fault write_fault : Type 0) (told : Option Held) (master : List ℕ) (old new : Option (List ℕ))
+    (request : Option Request) (answer : Result (List ℕ) Status) (status : Status) → Answers read_fault disk_fault told master request answer
     → Delivers write_fault old new answer status → status ≡ WriteFault → write_fault
-promised_write_fault read_fault write_fault told old new request answer status a (gained, gains, inl whole) e =
-    answer_cases read_fault told request WriteFault (λ s. s ≡ WriteFault → write_fault)
-    (λ _ e. cc) (λ e. cc) (λ _ e. cc) (λ _ e. cc) (λ _ _ e. cc) (λ _ _ _ e. cc)
-    (answer_at read_fault told request answer WriteFault (sym whole.0 ∙ e) (λ e. cc) a) refl
-promised_write_fault read_fault write_fault told old new request answer status a (gained, gains, inr (inl unwritten)) e = unwritten.1
-promised_write_fault read_fault write_fault told old new request answer status a (gained, gains, inr (inr memory)) e =
+promised_write_fault read_fault disk_fault write_fault told master old new request answer status a (gained, gains, inl whole) e =
+    answer_cases read_fault disk_fault told master request WriteFault (λ s. s ≡ WriteFault → write_fault)
+    (λ _ e. cc) (λ e. cc) (λ _ e. cc) (λ _ e. cc) (λ _ e. cc) (λ _ _ e. cc) (λ _ _ _ e. cc)
+    (answer_at read_fault disk_fault told master request answer WriteFault (sym whole.0 ∙ e) (λ e. cc) a) refl
+promised_write_fault read_fault disk_fault write_fault told master old new request answer status a (gained, gains, inr (inl unwritten)) e =
+    unwritten.1
+promised_write_fault read_fault disk_fault write_fault told master old new request answer status a (gained, gains, inr (inr memory)) e =
     let f : OutOfMemory ≡ WriteFault = sym memory.0 ∙ e in cc
 
-other_words : (read_fault write_fault : Type 0) (told : Option Held) (old new : Option (List ℕ)) (request : Option Request)
-    (answer : Result (List ℕ) Status) (status : Status) → request ≡ None → Answers read_fault told request answer → answer ≡ Err Usage
-other_words read_fault write_fault told old new None answer status none a = a
-other_words read_fault write_fault told old new (Some request) answer status none a = cc
+other_words : (read_fault disk_fault : Type 0) (told : Option Held) (master : List ℕ) (request : Option Request)
+    (answer : Result (List ℕ) Status) → request ≡ None → Answers read_fault disk_fault told master request answer → answer ≡ Err Usage
+other_words read_fault disk_fault told master None answer none a = a
+other_words read_fault disk_fault told master (Some request) answer none a = cc
 
-pub promised_other_words : (read_fault write_fault : Type 0) (told : Option Held) (old new : Option (List ℕ)) (request : Option Request)
-    (answer : Result (List ℕ) Status) (status : Status) → Answers read_fault told request answer
-    → Delivers write_fault old new answer status → request ≡ None → IsStatusOf ⊥ write_fault Usage status
-promised_other_words read_fault write_fault told old new request answer status a d none =
-    told_status ⊥ write_fault (Err Usage) answer old new status
-    (inl (other_words read_fault write_fault told old new request answer status none a)) d
+pub promised_other_words : (read_fault disk_fault write_fault : Type 0) (told : Option Held) (master : List ℕ) (old new : Option (List ℕ))
+    (request : Option Request) (answer : Result (List ℕ) Status) (status : Status) → Answers read_fault disk_fault told master request answer
+    → Delivers write_fault old new answer status → request ≡ None → IsStatusOf ReadFault ⊥ write_fault Usage status
+promised_other_words read_fault disk_fault write_fault told master old new request answer status a d none =
+    told_status ReadFault ⊥ write_fault (Err Usage) answer old new status
+    (inl (other_words read_fault disk_fault told master request answer none a)) d
 
 -- The conviction that `judge` prints.
 
@@ -276,13 +318,12 @@ pub judge_status-not_done : (refusal : JudgeRefusal) → judge_status refusal �
 judge_status-not_done (Check check post at) = λ e. cc
 judge_status-not_done JudgeMemory = λ e. cc
 
-pub promised_borne_out : (fault : Type 0) (told : Option Held) (old new : Option (List ℕ)) (request : Option Request)
-    (answer : Result (List ℕ) Status) (status : Status) → OnOutput (BearsOut told request) answer
-    → Delivers fault old new answer status → status ≡ Done → PrintsBorneOut told old new request
-promised_borne_out fault told old new request (Ok output) status a (gained, gains, inl whole) e =
+pub promised_borne_out : (fault : Type 0) (P : List ℕ → Type 0) (old new : Option (List ℕ)) (answer : Result (List ℕ) Status) (status : Status)
+    → OnOutput P answer → Delivers fault old new answer status → status ≡ Done → PrintsOutput P old new
+promised_borne_out fault P old new (Ok output) status a (gained, gains, inl whole) e =
     let At : List ℕ → Type 0 = λ text. Gains old new text in (output, a, subst At whole.1 gains)
-promised_borne_out fault told old new request (Err refusal) status a (gained, gains, inl whole) e = absurd (a (sym whole.0 ∙ e))
-promised_borne_out fault told old new request answer status a (gained, gains, inr (inl unwritten)) e =
+promised_borne_out fault P old new (Err refusal) status a (gained, gains, inl whole) e = absurd (a (sym whole.0 ∙ e))
+promised_borne_out fault P old new answer status a (gained, gains, inr (inl unwritten)) e =
     let f : WriteFault ≡ Done = sym unwritten.0 ∙ e in cc
-promised_borne_out fault told old new request answer status a (gained, gains, inr (inr memory)) e =
+promised_borne_out fault P old new answer status a (gained, gains, inr (inr memory)) e =
     let f : OutOfMemory ≡ Done = sym memory.0 ∙ e in cc

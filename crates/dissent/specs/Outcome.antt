@@ -1,9 +1,16 @@
 -- What each command comes to, as a function of its words and of the bytes of its files.
 use Rattle.std.specs.Prelude.{◌≡◌, ◌⊎◌, ℕ, List, [], ◌∷◌, nat_lt, if◌then◌else◌, length, Option, Some, None, Result, Ok, Err, MatchOption, codes, decimal}
 use Rattle.dissent.specs.declared.status.Status.{Status}
-use Rattle.dissent.specs.declared.status.Status.TheVariants.{Usage, Refused, ReadFault, BadRoster, TooLong, OutOfMemory}
+use Rattle.dissent.specs.declared.status.Status.TheVariants.{Usage, Refused, ReadFault, DiskFault, BadRoster, TooLong, OutOfMemory}
+use Rattle.hex.specs.Hex.{encode_lower}
+use Rattle.lm_ots.specs.declared.types.OtsType.{OtsType}
+use Rattle.lms_tree.specs.declared.keys.LmsPublic.{LmsPublic}
+use Rattle.lms_tree.specs.declared.secrets.MadeHeight.{MadeHeight}
+use Rattle.lms_tree.specs.Tree.{key_bytes}
+use Rattle.lms_tree.specs.Secret.{SecretParts, own_public, parts_of_master}
+use Rattle.lms_tree.specs.States.{made_type}
 use Rattle.dissent.specs.declared.judge.Accepted.{Accepted}
-use Rattle.dissent.specs.Command.{Request, judge, show}
+use Rattle.dissent.specs.Command.{Request, judge, show, keygen}
 use Rattle.dissent.specs.Outside.{Held, Shows, IsMissing}
 use Rattle.dissent.specs.Roster.{roster_read}
 use Rattle.dissent.specs.declared.judge.FailedCheck.{FailedCheck}
@@ -52,34 +59,55 @@ show_outcome round roster_file post_file =
     and_then (within 16777216 post_file) (λ bytes.
     or_refused shown_line (file_checked round roster bytes))))
 
--- the output of a command that comes to its end, or the status that ends it
-abbrev pub request_outcome : Held → Request → Result (List ℕ) Status
-request_outcome held (judge roster transcript) = judge_outcome (held roster) (held transcript)
-request_outcome held (show roster round post) = show_outcome round (held roster) (held post)
+-- the secret that `keygen` makes of a master
+abbrev pub made_parts : MadeHeight → OtsType → List ℕ → SecretParts
+made_parts height width master = parts_of_master (made_type height) width master
+
+-- the output of `keygen`: the public key in lower-case hexadecimal digits
+abbrev pub key_line : LmsPublic → List ℕ
+key_line key = line_of (encode_lower (key_bytes key) ∷ [])
+
+-- `keygen`: the line of the public key that a master gives
+abbrev pub keygen_outcome : List ℕ → MadeHeight → OtsType → Result (List ℕ) Status
+keygen_outcome master height width = Ok (key_line (own_public (made_parts height width master)))
+
+-- the output of a command that comes to its end, or the status that ends it; `keygen` takes the master
+abbrev pub request_outcome : List ℕ → Held → Request → Result (List ℕ) Status
+request_outcome master held (judge roster transcript) = judge_outcome (held roster) (held transcript)
+request_outcome master held (show roster round post) = show_outcome round (held roster) (held post)
+request_outcome master held (keygen key height width) = keygen_outcome master height width
 
 -- the same of what the words ask for, which may be nothing
-abbrev pub outcome_of : Held → Option Request → Result (List ℕ) Status
-outcome_of held None = Err Usage
-outcome_of held (Some request) = request_outcome held request
+abbrev pub outcome_of : List ℕ → Held → Option Request → Result (List ℕ) Status
+outcome_of master held None = Err Usage
+outcome_of master held (Some request) = request_outcome master held request
 
--- an answer is the one that a definition gives, but for want of memory, and for a fault of the files
+-- an answer is the one that a definition gives, but for want of memory, and for a fault, which a status tells
+abbrev pub YieldsOr : Status → Type 0 → Result (List ℕ) Status → Result (List ℕ) Status → Type 0
+YieldsOr failed fault expected answer = (answer ≡ expected) ⊎ (answer ≡ Err OutOfMemory) ⊎ ((answer ≡ Err failed) × fault)
+
+-- the same where the fault is one of the files
 abbrev pub Yields : Type 0 → Result (List ℕ) Status → Result (List ℕ) Status → Type 0
-Yields fault expected answer = (answer ≡ expected) ⊎ (answer ≡ Err OutOfMemory) ⊎ ((answer ≡ Err ReadFault) × fault)
+Yields fault expected answer = YieldsOr ReadFault fault expected answer
 
 -- an answer to a request, whatever its files hold
-abbrev pub AnswersRequest : Type 0 → Option Held → Result (List ℕ) Status → Request → Type 0
-AnswersRequest fault told answer (judge roster transcript) =
+abbrev pub AnswersRequest : (read_fault disk_fault : Type 0) → Option Held → List ℕ → Result (List ℕ) Status → Request → Type 0
+AnswersRequest read_fault disk_fault told master answer (judge roster transcript) =
     (roster_file transcript_file : Option (List ℕ)) × Shows told roster roster_file × Shows told transcript transcript_file
-    × Yields fault (judge_outcome roster_file transcript_file) answer
-AnswersRequest fault told answer (show roster round post) =
+    × Yields read_fault (judge_outcome roster_file transcript_file) answer
+AnswersRequest read_fault disk_fault told master answer (show roster round post) =
     (roster_file post_file : Option (List ℕ)) × Shows told roster roster_file × Shows told post post_file
-    × Yields fault (show_outcome round roster_file post_file) answer
+    × Yields read_fault (show_outcome round roster_file post_file) answer
+AnswersRequest read_fault disk_fault told master answer (keygen key height width) =
+    YieldsOr DiskFault disk_fault (keygen_outcome master height width) answer
 
 -- an answer to these words
-abbrev pub Answers : Type 0 → Option Held → Option Request → Result (List ℕ) Status → Type 0
-Answers fault told request answer = MatchOption request (answer ≡ Err Usage) (AnswersRequest fault told answer)
+abbrev pub Answers : (read_fault disk_fault : Type 0) → Option Held → List ℕ → Option Request → Result (List ℕ) Status → Type 0
+Answers read_fault disk_fault told master request answer =
+    MatchOption request (answer ≡ Err Usage) (AnswersRequest read_fault disk_fault told master answer)
 
 -- a file that the words name to be read is missing
 abbrev pub RequestMisses : Option Held → Request → Type 0
 RequestMisses told (judge roster transcript) = IsMissing told roster ⊎ IsMissing told transcript
 RequestMisses told (show roster round post) = IsMissing told roster ⊎ IsMissing told post
+RequestMisses told (keygen key height width) = ⊥

@@ -1,7 +1,7 @@
 -- What the program prints, and the numbers that it ends with.
 use Rattle.std.specs.Prelude.{ℕ, List, [], ◌∷◌, ◌++◌, codes, decimal}
 use Rattle.dissent.specs.declared.status.Status.{Status}
-use Rattle.dissent.specs.declared.status.Status.TheVariants.{Done, Usage, Refused, ReadFault, WriteFault, BadRoster, TooLong, OutOfMemory}
+use Rattle.dissent.specs.declared.status.Status.TheVariants.{Done, Usage, Refused, ReadFault, WriteFault, DiskFault, BadRoster, TooLong, OutOfMemory}
 
 -- the exit status
 abbrev pub status_number : Status → ℕ
@@ -10,6 +10,7 @@ status_number Usage = 1
 status_number (Refused check post at) = 4
 status_number ReadFault = 5
 status_number WriteFault = 6
+status_number DiskFault = 8
 status_number (BadRoster at rule) = 11
 status_number (TooLong limit) = 13
 status_number OutOfMemory = 16
@@ -27,6 +28,7 @@ status_line (Refused check post at) =
     line_of (codes "refused check " ∷ decimal check ∷ codes " post " ∷ decimal post ∷ codes " at " ∷ decimal at ∷ [])
 status_line ReadFault = line_of (codes "read fault" ∷ [])
 status_line WriteFault = []
+status_line DiskFault = line_of (codes "disk fault" ∷ [])
 status_line (BadRoster at rule) = line_of (codes "bad roster at " ∷ decimal at ∷ codes " rule " ∷ decimal rule ∷ [])
 status_line (TooLong limit) = line_of (codes "too long limit " ∷ decimal limit ∷ [])
 status_line OutOfMemory = line_of (codes "out of memory" ∷ [])

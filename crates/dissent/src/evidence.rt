@@ -4,20 +4,38 @@ ghost use Rattle.std.specs.Prelude.{◌≡◌, ◌<◌, length};
 ghost use Rattle.dissent.specs.Roster.{IsRosterForm};
 
 use super::*;
-use crate::tests::words_of;
-use lms_tree::OtsType;
-use lms_tree::fixture::{key_fixed, sign_fixed};
+use crate::tests::{FRESH, words_of};
+use key_store::SteadyDisk;
+use lms_tree::{LmsSecret, MadeHeight, OtsType};
 use phase_message::Body;
 use std::process::Abort;
 use std::test::Fail;
 use wire_core::{Mem, Register, Tag, put_bytes, put_u8, put_u32, put_u64};
 
-// A roster of four members with keys of H5 and W4, each made from its number.
+// The key of H5 and W4 that is made from a member's number, with this leaf as the next.
+fn secret_of(alloc: Global, member: u8, leaf: u32) -> Mem<LmsSecret>
+    requires { leaf < 32 }
+{
+    LmsSecret::make(alloc, MadeHeight::H5, OtsType::W4, &[member; 32], leaf)
+}
+
+fn signature_of(alloc: Global, signer: u8, leaf: u32, content: &[u8]) -> Mem<Vec<u8>>
+    requires { leaf < 32 }
+{
+    let Ok(mut run) = secret_of(alloc, signer, leaf)?.reserve(alloc, 1) else {
+        return Err(AllocError);
+    };
+    let signature = run.sign(alloc, content);
+    run.retire();
+    signature
+}
+
+// A roster of four members.
 fn roster_of_four(alloc: Global) -> Mem<Vec<u8>> {
     let mut bytes = Vec::new(alloc);
     put_bytes(&mut bytes, b"DSRO\x01\x04")?;
     for member in 1..5 {
-        put_bytes(&mut bytes, &key_fixed(alloc, OtsType::W4, &[member; 32])?)?;
+        put_bytes(&mut bytes, &secret_of(alloc, member, 0)?.public().bytes())?;
     }
     Ok(bytes)
 }
@@ -50,7 +68,7 @@ impl Vote {
         requires { leaf < 32 }
     {
         let content = self.content(alloc)?;
-        let signature = sign_fixed(alloc, OtsType::W4, &[signer; 32], leaf, &content)?;
+        let signature = signature_of(alloc, signer, leaf, &content)?;
         let mut post = Vec::new(alloc);
         put_u32(&mut post, 77)?;
         put_bytes(&mut post, &content)?;
@@ -258,14 +276,15 @@ fn commands_come_to_their_end(rt: HostRuntime) -> Result<(), Fail> {
         let _ = files.write(&String::from_str(alloc, name)?, bytes);
     }
     let mut out = SteadySink::new(alloc);
+    let mut disk = SteadyDisk::new(alloc)?;
     let words = words_of(alloc, &["judge", "--roster", "r", "--transcript", "t"])?;
-    let judged = run_offline(&rt, alloc, &words, &mut files, &mut out);
+    let judged = run_offline(&rt, alloc, &words, &mut files, &mut disk, FRESH, &mut out);
     assert_eq!(rt; judged, Status::Done);
     let words = words_of(
         alloc,
         &["show", "--roster", "r", "--round", "1", "--post", "p"],
     )?;
-    let shown = run_offline(&rt, alloc, &words, &mut files, &mut out);
+    let shown = run_offline(&rt, alloc, &words, &mut files, &mut disk, FRESH, &mut out);
     assert_eq!(rt; shown, Status::Done);
     assert_eq!(rt;
         out.written(),

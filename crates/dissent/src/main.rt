@@ -1,9 +1,11 @@
-//! Dissent: the program. It judges the transcripts that convict the disrupters of a round, and shows what a post says.
+//! Dissent: the program. It judges the transcripts that convict the disrupters of a round, shows what a post says, and
+//! makes key files.
 #![tactic(auto)]
 
 #[cfg(test)]
 mod evidence;
 mod host;
+mod host_disk;
 mod judge;
 mod laws;
 mod memory;
@@ -22,6 +24,7 @@ mod transcript;
 mod words;
 
 pub use host::{HostFiles, WriterSink};
+pub use host_disk::HostDisk;
 pub use judge::{Accepted, Claim, FailedCheck, Refused, judge};
 pub use laws::{
     checks_are_exact, nobody_is_framed, posts_are_admitted, posts_are_framed, rosters_are_spelled,
@@ -35,6 +38,7 @@ pub use roster::{Roster, RosterRefusal, decode};
 pub use status::Status;
 use std::alloc::{AllocError, Global};
 use std::process::ExitCode;
+use std::random::RandomSource;
 use std::rt::{Env, Runtime};
 use std::thread::Threads;
 use std::{env, io};
@@ -46,16 +50,22 @@ fn main(rt: HostRuntime) -> ExitCode {
 }
 
 // Runs the command that the program was started with.
-fn run<R: Runtime<A = Global> + Threads + Sync>(rt: &R) -> Status {
+fn run<R: Runtime<A = Global> + RandomSource + Threads + Sync>(rt: &R) -> Status {
     let alloc = rt.alloc();
-    match given_words(rt) {
-        Ok(words) => {
-            let mut files = HostFiles::new(rt, alloc);
-            let mut out = WriterSink::new(io::writer(rt));
-            run_offline(rt, alloc, &words, &mut files, &mut out)
-        }
-        Err(AllocError) => Status::OutOfMemory,
+    let words = match given_words(rt) {
+        Ok(words) => words,
+        Err(AllocError) => return Status::OutOfMemory,
+    };
+    let mut fresh = [0; 32];
+    match rt.fill_bytes(&mut fresh) {
+        Ok(()) => {}
+        Err(error) if error.kind() == io::ErrorKind::OutOfMemory => return Status::OutOfMemory,
+        Err(_) => return Status::ReadFault,
     }
+    let mut files = HostFiles::new(rt, alloc);
+    let mut disk = HostDisk::new(rt);
+    let mut out = WriterSink::new(io::writer(rt));
+    run_offline(rt, alloc, &words, &mut files, &mut disk, fresh, &mut out)
 }
 
 // The words of the command line without the program's name. Where one is not text, there are none: no command

@@ -1,11 +1,11 @@
-//! The commands that use files alone.
+//! The commands that use files alone, and the one that makes a key file.
 ghost use Rattle.std.specs.Prelude.{◌≡◌, ◌≢◌, ◌⊎◌, ◌≤◌, None, Some, IfOk, IfErr, IfSome, IsSomeAnd, length, string_bytes};
 ghost use Rattle.dissent.specs.Outside.{Rose, Shows, GainsFirstOf};
 ghost use Rattle.dissent.specs.Command.{requested, texts, named};
-ghost use Rattle.dissent.specs.Outcome.{Yields, Answers, AnswersRequest, RequestMisses, within, judge_outcome, show_outcome, accepted_line, or_bad_roster, or_refused};
+ghost use Rattle.dissent.specs.Outcome.{Yields, YieldsOr, Answers, AnswersRequest, RequestMisses, within, judge_outcome, show_outcome, keygen_outcome, made_parts, key_line, accepted_line, or_bad_roster, or_refused};
 ghost use Rattle.dissent.specs.Delivery.{Delivers, DeliversText, answer_bytes, status_of, text_of};
 ghost use Rattle.dissent.specs.Status.{status_line};
-ghost use Rattle.dissent.specs.Promise.{AnswersAndPrints, BearsOut, IsStatusOf, IsToldStatus, IsComplete, FilesConvict, FilesShow, OnOutput, PrintsBorneOut};
+ghost use Rattle.dissent.specs.Promise.{AnswersAndPrints, BearsOut, IsStatusOf, IsToldStatus, IsComplete, IsMade, MakesKey, FilesConvict, FilesShow, OnOutput, PrintsOutput};
 ghost use Rattle.dissent.specs.Refusals.{RefusesRoster, RefusesTranscript};
 
 use crate::judge::{Accepted, Refused};
@@ -15,6 +15,8 @@ use crate::show::{check_file, shown_text};
 use crate::status::Status;
 use crate::words::{Command, read_words};
 use crate::{judge, roster};
+use key_store::{Disk, DiskAnswer, StoreRefusal};
+use lms_tree::{LmsPublic, MadeHeight, OtsType};
 use std::alloc::{AllocError, Global};
 use std::thread::Threads;
 
@@ -27,59 +29,75 @@ pub const TRANSCRIPT_LIMIT: u32 = 134_217_728;
 /// The most bytes of a post's file.
 pub const POST_FILE_LIMIT: u32 = 16_777_216;
 
-/// Runs a command on files and a sink. The words don't hold the program's name.
-pub fn run_offline<R: Threads + Sync, F: Files, O: Sink>(
+/// Runs a command on files, a disk for a key file, and a sink. The words don't hold the program's name. `fresh` is what
+/// `keygen` makes a key of.
+pub fn run_offline<R: Threads + Sync, F: Files, D: Disk, O: Sink>(
     _rt: &R,
     alloc: Global,
     words: &Vec<String>,
     files: &mut F,
+    disk: &mut D,
+    fresh: [u8; 32],
     out: &mut O,
 ) -> Status
     // The command came to an answer, which is that of its definition but for want of memory and a fault of the
-    // files, and this answer was printed.
+    // files or, in `keygen`, of the disk, and this answer was printed.
     ensures ends { AnswersAndPrints (Rose (F.faults files.old) (F.faults files.new))
-        (Rose (O.faults out.old) (O.faults out.new)) (F.told files.old) (O.told out.old) (O.told out.new)
-        (requested (texts words.now.items)) result }
+        (Rose (D.faults disk.old) (D.faults disk.new)) (Rose (O.faults out.old) (O.faults out.new))
+        (F.told files.old) fresh (O.told out.old) (O.told out.new) (requested (texts words.now.items)) result }
 
-    // Each status where the files tell: it is the one that follows from the words and the files, or a fault that
-    // a count tells, or memory was wanting.
+    // Each status: it is the one that follows from the words and, where the files tell, from the files, or a fault
+    // that a count tells, or memory was wanting.
     ensures status { IsToldStatus (Rose (F.faults files.old) (F.faults files.new))
-        (Rose (O.faults out.old) (O.faults out.new)) (F.told files.old) (requested (texts words.now.items)) result }
+        (Rose (D.faults disk.old) (D.faults disk.new)) (Rose (O.faults out.old) (O.faults out.new))
+        (F.told files.old) fresh (requested (texts words.now.items)) result }
     ensures complete { IsComplete (Rose (F.faults files.old) (F.faults files.new))
-        (Rose (O.faults out.old) (O.faults out.new)) (F.told files.old) (O.told out.old) (O.told out.new)
-        (requested (texts words.now.items)) result }
+        (Rose (D.faults disk.old) (D.faults disk.new)) (Rose (O.faults out.old) (O.faults out.new))
+        (F.told files.old) fresh (O.told out.old) (O.told out.new) (requested (texts words.now.items)) result }
 
-    // Done comes of `judge` only where the files convict, and nobody is framed by them; and of `show` only where the
-    // post passes the eight checks.
-    ensures borne_out { result ≡ Status.Done → PrintsBorneOut (F.told files.old) (O.told out.old) (O.told out.new)
-        (requested (texts words.now.items)) }
+    // Done comes of `judge` only where the files convict, and nobody is framed by them; of `show` only where the
+    // post passes the eight checks; and of `keygen` only where the disk has the key file that `fresh` makes.
+    ensures borne_out { result ≡ Status.Done → PrintsOutput (BearsOut (F.told files.old) (D.file disk.new)
+        fresh (requested (texts words.now.items))) (O.told out.old) (O.told out.new) }
 
     ensures usage { result ≡ Status.Usage → requested (texts words.now.items) ≡ None }
     ensures other_words { requested (texts words.now.items) ≡ None
-        → IsStatusOf ⊥ (Rose (O.faults out.old) (O.faults out.new)) Status.Usage result }
+        → IsStatusOf Status.ReadFault ⊥ (Rose (O.faults out.old) (O.faults out.new)) Status.Usage result }
     ensures read_fault { result ≡ Status.ReadFault → Rose (F.faults files.old) (F.faults files.new)
         ⊎ IsSomeAnd (requested (texts words.now.items)) (RequestMisses (F.told files.old)) }
+    ensures disk_fault { result ≡ Status.DiskFault → Rose (D.faults disk.old) (D.faults disk.new) }
     ensures write_fault { result ≡ Status.WriteFault → Rose (O.faults out.old) (O.faults out.new) }
 
     ensures kept { F.told files.new ≡ F.told files.old }
     ensures no_fall { F.faults files.old ≤ F.faults files.new }
+
+    // Only `keygen` uses the disk.
+    ensures disk_kept { ¬ MakesKey (requested (texts words.now.items)) → D.file disk.new ≡ D.file disk.old }
+    ensures disk_count_kept { ¬ MakesKey (requested (texts words.now.items)) → D.faults disk.new ≡ D.faults disk.old }
+    ensures disk_no_fall { D.faults disk.old ≤ D.faults disk.new }
     ensures sink_no_fall { O.faults out.old ≤ O.faults out.new }
 {
-    let answer = answer_words(alloc, words, files);
+    let answer = answer_words(alloc, words, files, disk, &fresh);
     print(alloc, answer, out)
 }
 
 // The output of the command that the words ask for, or the status that ends it.
-fn answer_words<F: Files>(
+fn answer_words<F: Files, D: Disk>(
     alloc: Global,
     words: &Vec<String>,
     files: &mut F,
+    disk: &mut D,
+    fresh: &[u8; 32],
 ) -> Result<Vec<u8>, Status>
-    ensures answers { Answers (Rose (F.faults files.old) (F.faults files.new)) (F.told files.old)
-        (requested (texts words.now.items)) (answer_bytes result) }
-    ensures borne_out { OnOutput (BearsOut (F.told files.old) (requested (texts words.now.items))) (answer_bytes result) }
+    ensures answers { Answers (Rose (F.faults files.old) (F.faults files.new)) (Rose (D.faults disk.old) (D.faults disk.new))
+        (F.told files.old) fresh.now (requested (texts words.now.items)) (answer_bytes result) }
+    ensures borne_out { OnOutput (BearsOut (F.told files.old) (D.file disk.new) fresh.now
+        (requested (texts words.now.items))) (answer_bytes result) }
     ensures kept { F.told files.new ≡ F.told files.old }
     ensures no_fall { F.faults files.old ≤ F.faults files.new }
+    ensures disk_kept { ¬ MakesKey (requested (texts words.now.items)) → D.file disk.new ≡ D.file disk.old }
+    ensures disk_count_kept { ¬ MakesKey (requested (texts words.now.items)) → D.faults disk.new ≡ D.faults disk.old }
+    ensures disk_no_fall { D.faults disk.old ≤ D.faults disk.new }
 {
     match read_words(words) {
         Some(Command::Judge { roster, transcript }) => run_judge(alloc, roster, transcript, files),
@@ -90,6 +108,9 @@ fn answer_words<F: Files>(
                 post,
             },
         ) => run_show(alloc, roster, round, post, files),
+        Some(Command::Keygen { key, height, width }) => {
+            run_keygen(alloc, key, height, width, disk, fresh)
+        }
         None => Err(Status::Usage),
     }
 }
@@ -139,6 +160,30 @@ fn run_show<F: Files>(
     Ok(shown_text(alloc, &content)?)
 }
 
+// The command `keygen`.
+fn run_keygen<D: Disk>(
+    alloc: Global,
+    name: &String,
+    height: MadeHeight,
+    width: OtsType,
+    disk: &mut D,
+    fresh: &[u8; 32],
+) -> Result<Vec<u8>, Status>
+    ensures answers { YieldsOr Status.DiskFault (Rose (D.faults disk.old) (D.faults disk.new))
+        (keygen_outcome fresh.now height width) (answer_bytes result) }
+    ensures made { OnOutput (IsMade height width fresh.now (D.file disk.new)) (answer_bytes result) }
+    ensures no_fall { D.faults disk.old ≤ D.faults disk.new }
+{
+    if disk.choose(name, true) == DiskAnswer::Failed {
+        return Err(Status::DiskFault);
+    }
+    match key_store::create(alloc, disk, height, width, fresh) {
+        Ok(key) => Ok(key_text(alloc, &key)?),
+        Err(StoreRefusal::Memory) => Err(Status::OutOfMemory),
+        Err(_) => Err(Status::DiskFault),
+    }
+}
+
 // Reads a file that a command names.
 fn read_within<F: Files>(files: &mut F, name: &String, limit: u32) -> Result<Vec<u8>, Status>
     ensures answer { (file : _) × Shows (F.told files.old) (string_bytes name.now) file
@@ -164,6 +209,15 @@ fn accepted_text(alloc: Global, accepted: Accepted) -> Result<Vec<u8>, AllocErro
     let accused = accepted.accused;
     let claim = accepted.claim;
     let text = format!(in alloc; "accepted member {accused} claim {claim}\n")?;
+    Ok(text.into_bytes())
+}
+
+// The output of `keygen`.
+fn key_text(alloc: Global, key: &LmsPublic) -> Result<Vec<u8>, AllocError>
+    ensures { IfOk result (λ text. text.items ≡ key_line key.now) }
+{
+    let digits = hex::encode(alloc, key.bytes())?;
+    let text = format!(in alloc; "{digits}\n")?;
     Ok(text.into_bytes())
 }
 

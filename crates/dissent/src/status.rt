@@ -23,6 +23,8 @@ pub enum Status {
     ReadFault,
     /// The output could not be written.
     WriteFault,
+    /// The disk failed under a key file.
+    DiskFault,
     /// The roster file breaks a rule of its grammar, first at this offset.
     BadRoster { at: u32, rule: u32 },
     /// A file has more bytes than its limit.
@@ -41,6 +43,7 @@ impl Status {
             Status::Refused { .. } => 4,
             Status::ReadFault => 5,
             Status::WriteFault => 6,
+            Status::DiskFault => 8,
             Status::BadRoster { .. } => 11,
             Status::TooLong { .. } => 13,
             Status::OutOfMemory => 16,
@@ -64,6 +67,7 @@ impl Status {
                 format!(in alloc; "refused check {check} post {post} at {at}\n")
             }
             Status::ReadFault => format!(in alloc; "read fault\n"),
+            Status::DiskFault => format!(in alloc; "disk fault\n"),
             Status::BadRoster { at, rule } => {
                 format!(in alloc; "bad roster at {at} rule {rule}\n")
             }

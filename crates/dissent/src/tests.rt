@@ -1,4 +1,7 @@
+//! Commands over files and sinks in memory, and the adapters over real files.
+
 use super::*;
+use key_store::{Disk, DiskAnswer, DiskRead, MemoryDisk, SteadyDisk};
 use std::alloc::Global;
 use std::test::Fail;
 
@@ -9,6 +12,9 @@ pub(crate) fn words_of(alloc: Global, words: &[&str]) -> Result<Vec<String>, All
     }
     Ok(all)
 }
+
+// What `keygen` makes a key of.
+pub(crate) const FRESH: [u8; 32] = [7; 32];
 
 const JUDGE: [&str; 5] = ["judge", "--roster", "r", "--transcript", "t"];
 
@@ -45,11 +51,18 @@ fn other_words_are_usage(rt: HostRuntime) -> Result<(), Fail> {
             "t",
         ]
         .as_slice(),
+        ["keygen", "--key", "--height", "5", "--width", "8"].as_slice(),
+        ["keygen", "--key", "", "--height", "5", "--width", "8"].as_slice(),
+        ["keygen", "--key", "k", "--height", "6", "--width", "8"].as_slice(),
+        ["keygen", "--key", "k", "--height", "05", "--width", "8"].as_slice(),
+        ["keygen", "--key", "k", "--height", "5", "--width", "3"].as_slice(),
+        ["keygen", "--key", "k", "--width", "8", "--height", "5"].as_slice(),
     ] {
         let words = words_of(alloc, words)?;
         let mut files = two_files(alloc, 100, 100)?;
         let mut out = SteadySink::new(alloc);
-        let status = run_offline(&rt, alloc, &words, &mut files, &mut out);
+        let mut disk = SteadyDisk::new(alloc)?;
+        let status = run_offline(&rt, alloc, &words, &mut files, &mut disk, FRESH, &mut out);
         assert_eq!(rt; status, Status::Usage);
         assert_eq!(rt; status.number(), 1);
         assert_eq!(rt; out.written(), b"usage\n".as_slice());
@@ -63,7 +76,8 @@ fn a_missing_roster_is_a_read_fault(rt: HostRuntime) -> Result<(), Fail> {
     let words = words_of(alloc, &JUDGE)?;
     let mut files = MemoryFiles::new(SteadyFiles::new(alloc), Vec::new(alloc));
     let mut out = MemorySink::new(alloc, Vec::new(alloc));
-    let status = run_offline(&rt, alloc, &words, &mut files, &mut out);
+    let mut disk = SteadyDisk::new(alloc)?;
+    let status = run_offline(&rt, alloc, &words, &mut files, &mut disk, FRESH, &mut out);
     assert_eq!(rt; status.number(), 5);
     assert_eq!(rt; out.written(), b"read fault\n".as_slice());
     Ok(())
@@ -107,7 +121,8 @@ fn a_cut_post_and_one_of_another_round_are_not_shown(rt: HostRuntime) -> Result<
         let _ = files.write(&String::from_str(alloc, "r")?, &roster_of_two(alloc)?);
         let _ = files.write(&String::from_str(alloc, "t")?, post);
         let mut out = SteadySink::new(alloc);
-        let status = run_offline(&rt, alloc, &words, &mut files, &mut out);
+        let mut disk = SteadyDisk::new(alloc)?;
+        let status = run_offline(&rt, alloc, &words, &mut files, &mut disk, FRESH, &mut out);
         assert_eq!(rt; status.number(), 4);
         assert_eq!(rt; out.written(), line);
     }
@@ -122,7 +137,8 @@ fn a_failed_read_of_the_transcript_is_a_read_fault(rt: HostRuntime) -> Result<()
     let _ = held.write(&String::from_str(alloc, "r")?, &roster_of_two(alloc)?);
     let mut files = MemoryFiles::new(held, vec![in alloc; 2]?);
     let mut out = SteadySink::new(alloc);
-    let status = run_offline(&rt, alloc, &words, &mut files, &mut out);
+    let mut disk = SteadyDisk::new(alloc)?;
+    let status = run_offline(&rt, alloc, &words, &mut files, &mut disk, FRESH, &mut out);
     assert_eq!(rt; status, Status::ReadFault);
     Ok(())
 }
@@ -133,7 +149,8 @@ fn a_failed_first_write_is_a_write_fault(rt: HostRuntime) -> Result<(), Fail> {
     let words = words_of(alloc, &JUDGE)?;
     let mut files = two_files(alloc, 100, 100)?;
     let mut out = MemorySink::new(alloc, vec![in alloc; 1]?);
-    let status = run_offline(&rt, alloc, &words, &mut files, &mut out);
+    let mut disk = SteadyDisk::new(alloc)?;
+    let status = run_offline(&rt, alloc, &words, &mut files, &mut disk, FRESH, &mut out);
     assert_eq!(rt; status.number(), 6);
     assert_eq!(rt; out.written().len(), 0);
     Ok(())
@@ -155,7 +172,8 @@ fn wrong_rosters_have_their_status(rt: HostRuntime) -> Result<(), Fail> {
         let mut files = two_files(alloc, 0, 100)?;
         let _ = files.write(&String::from_str(alloc, "r")?, roster);
         let mut out = SteadySink::new(alloc);
-        let status = run_offline(&rt, alloc, &words, &mut files, &mut out);
+        let mut disk = SteadyDisk::new(alloc)?;
+        let status = run_offline(&rt, alloc, &words, &mut files, &mut disk, FRESH, &mut out);
         assert_eq!(rt; status.number(), number);
         assert_eq!(rt; out.written(), line);
     }
@@ -173,6 +191,72 @@ fn real_files_are_written_and_read(rt: HostRuntime) -> Result<(), Fail> {
     assert!(rt; matches!(files.read(&name, 9), FileRead::TooLong));
     std::fs::remove_file(&rt, name.as_str())?;
     assert!(rt; matches!(files.read(&name, 10), FileRead::Failed));
+    Ok(())
+}
+
+const KEYGEN: [&str; 7] = ["keygen", "--key", "k", "--height", "5", "--width", "8"];
+
+#[test]
+fn a_failed_disk_is_a_disk_fault(rt: HostRuntime) -> Result<(), Fail> {
+    let alloc = rt.alloc();
+    let words = words_of(alloc, &KEYGEN)?;
+    let mut files = SteadyFiles::new(alloc);
+    let mut out = SteadySink::new(alloc);
+    let mut disk = MemoryDisk::new(alloc, vec![in alloc; 1]?)?;
+    let status = run_offline(&rt, alloc, &words, &mut files, &mut disk, FRESH, &mut out);
+    assert_eq!(rt; status.number(), 8);
+    assert_eq!(rt; out.written(), b"disk fault\n".as_slice());
+    Ok(())
+}
+
+#[test]
+fn a_real_key_file_is_made(rt: HostRuntime) -> Result<(), Fail> {
+    let alloc = rt.alloc();
+    let mut words = words_of(alloc, &KEYGEN)?;
+    let name = String::from_str(alloc, "dissent-keygen-test")?;
+    if let Some(word) = words.get_mut(2) {
+        *word = name.clone()?;
+    }
+    let _ = std::fs::remove_file(&rt, name.as_str());
+    let mut files = HostFiles::new(&rt, alloc);
+    let mut out = SteadySink::new(alloc);
+    let mut disk = HostDisk::new(&rt);
+    let made = run_offline(&rt, alloc, &words, &mut files, &mut disk, FRESH, &mut out);
+    assert_eq!(rt; made, Status::Done);
+    assert_eq!(rt;
+        out.written(),
+        b"0000000500000004c38970f99daec961dcb56caff82ff0504de3b0aa54fe7804110429bd2ef14f4d37f7eb3c5340ecd941ae59bc02404f5c\n".as_slice()
+    );
+    assert!(rt;
+        matches!(files.read(&name, 128), FileRead::Bytes(file)
+        if file.len() == 128 && file.get(64) == Some(&1))
+    );
+    let again = run_offline(&rt, alloc, &words, &mut files, &mut disk, FRESH, &mut out);
+    assert_eq!(rt; again, Status::DiskFault);
+    std::fs::remove_file(&rt, name.as_str())?;
+    Ok(())
+}
+
+#[test]
+fn a_real_file_is_a_disk(rt: HostRuntime) -> Result<(), Fail> {
+    let alloc = rt.alloc();
+    let name = String::from_str(alloc, "dissent-disk-test")?;
+    let _ = std::fs::remove_file(&rt, name.as_str());
+    let mut disk = HostDisk::new(&rt);
+    assert_eq!(rt; disk.sync(), DiskAnswer::Failed);
+    assert_eq!(rt; disk.choose(&name, true), DiskAnswer::Done);
+    assert_eq!(rt; disk.write_at(0, b"a disk"), DiskAnswer::Done);
+    assert_eq!(rt; disk.write_at(2, b"DISK"), DiskAnswer::Done);
+    assert_eq!(rt; disk.sync(), DiskAnswer::Done);
+    let mut read = [0; 8];
+    assert_eq!(rt; disk.read_at(0, &mut read), DiskRead::Read { taken: 6 });
+    assert_eq!(rt; &read, b"a DISK\0\0");
+    assert_eq!(rt; disk.read_at(6, &mut read), DiskRead::Read { taken: 0 });
+    assert_eq!(rt; disk.choose(&name, true), DiskAnswer::Failed);
+    assert_eq!(rt; disk.read_at(0, &mut read), DiskRead::Failed);
+    assert_eq!(rt; disk.choose(&name, false), DiskAnswer::Done);
+    assert_eq!(rt; disk.read_at(2, &mut read), DiskRead::Read { taken: 4 });
+    std::fs::remove_file(&rt, name.as_str())?;
     Ok(())
 }
 

@@ -1,6 +1,8 @@
 //! The words of a command line.
-ghost use Rattle.std.specs.Prelude.{◌≡◌, None, Some, MatchOption, IsTrue, ◌↔◌, length, string_bytes};
-ghost use Rattle.dissent.specs.Command.{requested, named, texts, is_value, number_of, has_judge_form, has_show_form};
+ghost use Rattle.std.specs.Prelude.{◌≡◌, None, Some, MatchOption, IsTrue, ◌↔◌, length, option_map, string_bytes};
+ghost use Rattle.dissent.specs.Command.{requested, named, texts, is_value, number_of, height_of, width_of, has_judge_form, has_show_form, has_keygen_form, show_values, keygen_values};
+
+use lms_tree::{MadeHeight, OtsType};
 
 /// A command with the names that its words give.
 #[derive(Clone, Copy)]
@@ -16,11 +18,18 @@ pub enum Command<'a> {
         round: u64,
         post: &'a String,
     },
+    /// Makes a key file of a height and a width, and tells the public key.
+    Keygen {
+        key: &'a String,
+        height: MadeHeight,
+        width: OtsType,
+    },
 }
 
 /// The command that the words name, where they are exactly those of a command, in order: `judge --roster FILE
-/// --transcript FILE` or `show --roster FILE --round R --post FILE`. No FILE is empty or begins with `-`, and R is
-/// a number from 1 to 2^64 - 1 in decimal digits, of which the first is not 0.
+/// --transcript FILE`, `show --roster FILE --round R --post FILE` or `keygen --key FILE --height H --width W`. No FILE
+/// is empty or begins with `-`, R is a number from 1 to 2^64 - 1 in decimal digits, of which the first is not 0, H is
+/// `5` or `10`, and W is `1`, `2`, `4` or `8`.
 #[tactic(auto, using(crate::proofs::Requests::other_count))]
 pub fn read_words(words: &Vec<String>) -> Option<Command<'_>>
     ensures { MatchOption result (requested (texts words.now.items) ≡ None)
@@ -28,7 +37,7 @@ pub fn read_words(words: &Vec<String>) -> Option<Command<'_>>
 {
     match words.len() {
         5 => judge_words(words),
-        7 => show_words(words),
+        7 => seven_words(words),
         _ => None,
     }
 }
@@ -59,34 +68,57 @@ fn judge_words(words: &Vec<String>) -> Option<Command<'_>>
     }
 }
 
-// The same for seven words, which only `show` has.
-fn show_words(words: &Vec<String>) -> Option<Command<'_>>
+// The same for seven words, which `show` and `keygen` have.
+fn seven_words(words: &Vec<String>) -> Option<Command<'_>>
     requires { length words.now.items ≡ 7 }
     ensures { MatchOption result (requested (texts words.now.items) ≡ None)
         (λ command. requested (texts words.now.items) ≡ Some (named command)) }
 {
     let [
         command,
-        roster_option,
-        roster,
-        round_option,
-        round,
-        post_option,
-        post,
+        first_option,
+        first,
+        second_option,
+        second,
+        third_option,
+        third,
     ] = words.as_slice()
     else {
         return None;
     };
-    if is_show_form(command, roster_option, round_option, post_option)
-        && is_plain(roster)
-        && is_plain(post)
-    {
+    if is_show_form(command, first_option, second_option, third_option) {
+        show_words(first, second, third)
+    } else if is_keygen_form(command, first_option, second_option, third_option) {
+        keygen_words(first, second, third)
+    } else {
+        None
+    }
+}
+
+// The command `show` of these values.
+fn show_words<'a>(roster: &'a String, round: &String, post: &'a String) -> Option<Command<'a>>
+    ensures { option_map named result ≡ show_values (string_bytes roster.now) (string_bytes round.now) (string_bytes post.now) }
+{
+    if is_plain(roster) && is_plain(post) {
         let round = read_number(round)?;
         Some(Command::Show {
             roster,
             round,
             post,
         })
+    } else {
+        None
+    }
+}
+
+// The command `keygen` of these values.
+fn keygen_words<'a>(key: &'a String, height: &String, width: &String) -> Option<Command<'a>>
+    ensures { option_map named result ≡ keygen_values (string_bytes key.now) (string_bytes height.now) (string_bytes width.now) }
+{
+    if is_plain(key) {
+        let height = read_height(height)?;
+        let width = read_width(width)?;
+        Some(Command::Keygen { key, height, width })
     } else {
         None
     }
@@ -117,12 +149,52 @@ fn is_show_form(
         && third_option.as_str() == "--post"
 }
 
+// Whether the words that are no values are those of `keygen`.
+fn is_keygen_form(
+    command: &String,
+    first_option: &String,
+    second_option: &String,
+    third_option: &String,
+) -> bool
+    ensures { result ≡ has_keygen_form (string_bytes command.now) (string_bytes first_option.now)
+        (string_bytes second_option.now) (string_bytes third_option.now) }
+{
+    command.as_str() == "keygen"
+        && first_option.as_str() == "--key"
+        && second_option.as_str() == "--height"
+        && third_option.as_str() == "--width"
+}
+
 // The number that a word spells, where it does without a sign or a leading zero.
 fn read_number(word: &String) -> Option<u64>
     ensures { result ≡ number_of (string_bytes word.now) }
 {
     match word.as_bytes() {
         [first, ..] if *first > b'0' => word.as_str().parse().ok(),
+        _ => None,
+    }
+}
+
+// The height that a word spells.
+fn read_height(word: &String) -> Option<MadeHeight>
+    ensures { result ≡ height_of (string_bytes word.now) }
+{
+    match word.as_str() {
+        "5" => Some(MadeHeight::H5),
+        "10" => Some(MadeHeight::H10),
+        _ => None,
+    }
+}
+
+// The width that a word spells.
+fn read_width(word: &String) -> Option<OtsType>
+    ensures { result ≡ width_of (string_bytes word.now) }
+{
+    match word.as_str() {
+        "1" => Some(OtsType::W1),
+        "2" => Some(OtsType::W2),
+        "4" => Some(OtsType::W4),
+        "8" => Some(OtsType::W8),
         _ => None,
     }
 }

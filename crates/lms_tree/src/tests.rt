@@ -1,14 +1,37 @@
-use crate::fixture::{key_fixed, sign_fixed};
-use crate::{KeyRefusal, LmsPublic, LmsRefusal, verify};
+ghost use Rattle.std.specs.Prelude.{◌<◌};
+
+use crate::{
+    KeyRefusal, LeafRun, LmsPublic, LmsRefusal, LmsSecret, MadeHeight, ReserveRefusal, verify,
+};
 use lm_ots::{OtsRefusal, OtsType};
+use sha2::{Digest, Sha256};
 use std::alloc::Global;
 use std::test::Fail;
 
 const MASTER: [u8; 32] = [7; 32];
 
-fn key_of(alloc: Global) -> Result<LmsPublic, Fail> {
-    let bytes = key_fixed(alloc, OtsType::W4, &MASTER)?;
-    Ok(LmsPublic::read(&bytes).ok().ok_or("no key")?)
+// The master's key of H5 and W4, and the SHA-256 of its signature of `a` with leaf 20, as another
+// implementation has them.
+const KEY: [u8; 56] =
+    *b"\x00\x00\x00\x05\x00\x00\x00\x03\xc3\x89\x70\xf9\x9d\xae\xc9\x61\xdc\xb5\x6c\xaf\xf8\x2f\xf0\x50\xa2\x9f\xe3\x0d\x4a\xca\xc2\x07\x71\xa0\x85\x0a\x73\xf1\x3b\x74\xb2\xde\x82\x80\x44\x18\xcf\x40\x3f\x24\x2c\xb8\x0d\x99\x2c\x37";
+
+const SIGNED: [u8; 32] =
+    *b"\x08\x39\xb1\x9d\xce\x95\x67\xeb\x94\xca\x6a\x55\x23\x9d\x10\xcd\xc6\x4c\xd6\x8a\xab\xac\x6b\x00\x0a\x49\x63\xe9\x77\x0b\x12\x7b";
+
+fn key() -> Result<LmsPublic, Fail> {
+    Ok(LmsPublic::read(&KEY).ok().ok_or("no key")?)
+}
+
+fn signature(alloc: Global, leaf: u32) -> Result<Vec<u8>, Fail>
+    requires { leaf < 32 }
+{
+    let mut secret = LmsSecret::make(alloc, MadeHeight::H5, OtsType::W4, &MASTER, leaf)?;
+    let Ok(mut run) = secret.reserve(alloc, 1) else {
+        return Err(Fail::from("no leaf"));
+    };
+    let sig = run.sign(alloc, b"a");
+    run.retire();
+    Ok(sig?)
 }
 
 fn verified(key: &LmsPublic, message: &[u8], sig: &[u8]) -> Result<Result<(), LmsRefusal>, Fail> {
@@ -26,8 +49,8 @@ fn put(sig: &mut Vec<u8>, at: usize, byte: u8) {
 
 #[test]
 fn a_signature_is_accepted_for_its_message_alone(rt: HostRuntime) -> Result<(), Fail> {
-    let key = key_of(rt.alloc())?;
-    let sig = sign_fixed(rt.alloc(), OtsType::W4, &MASTER, 3, b"a")?;
+    let key = key()?;
+    let sig = signature(rt.alloc(), 3)?;
     assert!(rt; verified(&key, b"a", &sig)? == Ok(()));
     match verified(&key, b"b", &sig)? {
         Err(LmsRefusal::Root { computed, kept }) => {
@@ -41,8 +64,8 @@ fn a_signature_is_accepted_for_its_message_alone(rt: HostRuntime) -> Result<(), 
 
 #[test]
 fn refusals_come_in_their_order(rt: HostRuntime) -> Result<(), Fail> {
-    let key = key_of(rt.alloc())?;
-    let mut sig = sign_fixed(rt.alloc(), OtsType::W4, &MASTER, 3, b"a")?;
+    let key = key()?;
+    let mut sig = signature(rt.alloc(), 3)?;
     put(&mut sig, 3, 32);
     let leaf = LmsRefusal::Leaf { q: 32, height: 5 };
     assert!(rt; verified(&key, b"a", &sig)? == Err(leaf));
@@ -77,4 +100,41 @@ fn the_first_unknown_type_of_a_key_is_refused(rt: HostRuntime) {
     bytes[3] = 10;
     let tree = Err(KeyRefusal::LmsKind { found: 10 });
     assert!(rt; LmsPublic::read(&bytes) == tree);
+}
+
+// Whether the run signs with the leaves from 20 to 31, and with no other.
+fn signs_from_20(alloc: Global, run: &mut LeafRun, key: &LmsPublic) -> Result<bool, Fail> {
+    for leaf in 20..32 {
+        if run.left() == 0 || run.next() != leaf {
+            return Ok(false);
+        }
+        let sig = run.sign(alloc, b"a")?;
+        if leaf == 20 && Sha256::digest(&sig) != SIGNED || verified(key, b"a", &sig)? != Ok(()) {
+            return Ok(false);
+        }
+    }
+    Ok(run.left() == 0)
+}
+
+#[test]
+fn a_secret_gives_each_leaf_once(rt: HostRuntime) -> Result<(), Fail> {
+    let mut secret = LmsSecret::make(rt.alloc(), MadeHeight::H5, OtsType::W4, &MASTER, 20)?;
+    let key = key()?;
+    assert!(rt; secret.public() == key);
+    let Ok(mut run) = secret.reserve(rt.alloc(), 12) else {
+        return Err(Fail::from("no run"));
+    };
+    let signs = signs_from_20(rt.alloc(), &mut run, &key);
+    run.retire();
+    assert!(rt; signs?);
+    let next = 32;
+    let height = 5;
+    match secret.reserve(rt.alloc(), 1) {
+        Err(refusal) => assert!(rt; refusal == ReserveRefusal::Exhausted { next, height }),
+        Ok(run) => {
+            run.retire();
+            return Err(Fail::from("a leaf twice"));
+        }
+    }
+    Ok(())
 }

@@ -1,13 +1,12 @@
 //! Answers lines of vectors for LM-OTS and LMS, a line each: `coef BYTES I W` with a digit,
-//! `checksum TYPE HASH` with two bytes, `lms 5 TYPE MASTER LEAF MESSAGE` with a public key and a
+//! `checksum TYPE HASH` with two bytes, `lms TREE TYPE MASTER LEAF MESSAGE` with a public key and a
 //! signature, and `verify KEY MESSAGE SIGNATURE` with `ok` or the name of the refusal. Bytes are in
 //! hexadecimal digits, `-` for none.
 #![tactic(auto)]
 
 use anyhow::{Context, Result, bail, ensure};
 use lm_ots::{OtsType, checksum, coef};
-use lms_tree::fixture::{key_fixed, sign_fixed};
-use lms_tree::{LmsPublic, LmsRefusal, verify};
+use lms_tree::{LmsPublic, LmsRefusal, LmsSecret, MadeHeight, verify};
 use std::alloc::Global;
 use std::io::{BufRead, BufReader};
 
@@ -61,15 +60,30 @@ fn checksum_line(alloc: Global, words: &[&str]) -> Result<String> {
 }
 
 fn lms_line(alloc: Global, words: &[&str]) -> Result<String> {
-    ensure!(number_at(words, 1)? == 5, "a height other than 5");
+    let height = match number_at(words, 1)? {
+        5 => MadeHeight::H5,
+        6 => MadeHeight::H10,
+        _ => bail!("no height of which keys are made"),
+    };
     let width = type_at(words, 2)?;
     let master = hash_at(words, 3)?;
     let q = number_at(words, 4)?;
-    ensure!(q < 32, "no such leaf");
+    ensure!(q < 1 << height.lms_type().height(), "no such leaf");
     let message = bytes_at(alloc, words, 5)?;
-    let key = hex::encode(alloc, key_fixed(alloc, width, &master)?)?;
-    let sig = hex::encode(alloc, &sign_fixed(alloc, width, &master, q, &message)?)?;
+    let mut secret = LmsSecret::make(alloc, height, width, &master, q)?;
+    let key = hex::encode(alloc, secret.public().bytes())?;
+    let sig = hex::encode(alloc, &sign_next(alloc, &mut secret, &message)?)?;
     Ok(format!(in alloc; "{key} {sig}")?)
+}
+
+// A signature with the secret's next leaf.
+fn sign_next(alloc: Global, secret: &mut LmsSecret, message: &[u8]) -> Result<Vec<u8>> {
+    let Ok(mut run) = secret.reserve(alloc, 1) else {
+        bail!("no leaf, or no memory");
+    };
+    let sig = run.sign(alloc, message);
+    run.retire();
+    Ok(sig?)
 }
 
 fn refusal_name(refusal: LmsRefusal) -> &'static str {

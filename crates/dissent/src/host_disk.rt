@@ -1,0 +1,155 @@
+//! A file of the system as the disk of a key file. It tells nothing of the file's bytes, and counts its faults.
+ghost use Rattle.std.specs.Prelude.{◌≤◌, IfOk, None, length};
+
+use key_store::{Disk, DiskAnswer, DiskRead};
+use std::fs::{OpenFile, OpenOptions};
+use std::io::{ErrorKind, Read, Seek, SeekFrom, Write};
+use std::os::unix::fs::OpenOptionsExt;
+use std::{io, rt};
+
+/// A file of the system. Where nothing is chosen yet, and after a choice that failed, each call fails. The choice of a
+/// fresh file fails where the name stands; the file is then its owner's alone to read and write.
+#[derive(Drop)]
+pub struct HostDisk<'a, R: rt::Files> {
+    rt: &'a R,
+    file: Option<R::File>,
+    faults: u64,
+}
+
+impl<'a, R: rt::Files> HostDisk<'a, R> {
+    ghost use Rattle.std.specs.Prelude.{◌≡◌};
+    ghost use Rattle.dissent.specs.Host.{disk_faults};
+
+    /// Over the system of `rt`, with no file yet.
+    pub fn new(rt: &'a R) -> Self
+        ensures { disk_faults result ≡ 0 }
+    {
+        HostDisk {
+            rt,
+            file: None,
+            faults: 0,
+        }
+    }
+}
+
+impl<'a, R: rt::Files> Disk for HostDisk<'a, R> {
+    ghost use Rattle.dissent.specs.Host.{disk_faults};
+
+    ghost faults = { λ disk. disk_faults disk };
+
+    ghost file = { λ _. None };
+
+    fn choose(&mut self, name: &String, fresh: bool) -> DiskAnswer {
+        self.file = None;
+        match open_file(self.rt, name, fresh) {
+            Ok(file) => {
+                self.file = Some(file);
+                DiskAnswer::Done
+            }
+            Err(_) => {
+                self.faults = self.faults.saturating_add(1);
+                DiskAnswer::Failed
+            }
+        }
+    }
+
+    fn read_at(&mut self, at: u32, into: &mut [u8]) -> DiskRead {
+        match read_from(&mut self.file, at, into) {
+            Ok(taken) => DiskRead::Read { taken },
+            Err(_) => {
+                self.faults = self.faults.saturating_add(1);
+                DiskRead::Failed
+            }
+        }
+    }
+
+    fn write_at(&mut self, at: u32, bytes: &[u8]) -> DiskAnswer {
+        match write_from(&mut self.file, at, bytes) {
+            Ok(()) => DiskAnswer::Done,
+            Err(_) => {
+                self.faults = self.faults.saturating_add(1);
+                DiskAnswer::Failed
+            }
+        }
+    }
+
+    fn sync(&mut self) -> DiskAnswer {
+        match sync_all(&self.file) {
+            Ok(()) => DiskAnswer::Done,
+            Err(_) => {
+                self.faults = self.faults.saturating_add(1);
+                DiskAnswer::Failed
+            }
+        }
+    }
+}
+
+// Opens a file for reading and writing.
+fn open_file<R: rt::Files>(rt: &R, name: &String, fresh: bool) -> io::Result<R::File> {
+    let mut options = OpenOptions::new();
+    options.read(true).write(true);
+    options.create_new(fresh).mode(0o600);
+    for _ in 0..u64::MAX {
+        match options.open(rt, name.as_str()) {
+            Err(error) if error.kind() == ErrorKind::Interrupted => {}
+            answer => return answer,
+        }
+    }
+    Err(io::Error::from(ErrorKind::Interrupted))
+}
+
+// What is answered where no file is chosen.
+fn not_chosen() -> io::Error {
+    io::Error::from(ErrorKind::NotFound)
+}
+
+// Reads once from a place on.
+fn read_from<F: Read + Seek>(file: &mut Option<F>, at: u32, into: &mut [u8]) -> io::Result<u32>
+    ensures { IfOk result (λ taken. taken ≤ length into.old) }
+{
+    let Some(file) = file else {
+        return Err(not_chosen());
+    };
+    file.seek(SeekFrom::Start(u64::from(at)))?;
+    let taken = read_once(file, into)?;
+    match u32::try_from(taken) {
+        Ok(taken) => Ok(taken),
+        Err(_) => Err(io::Error::from(ErrorKind::FileTooLarge)),
+    }
+}
+
+// One read, and again where it was interrupted.
+fn read_once<F: Read>(file: &mut F, into: &mut [u8]) -> io::Result<usize>
+    ensures { IfOk result (λ taken. taken ≤ length into.old) }
+{
+    for _ in 0..u64::MAX {
+        match file.read(into) {
+            Err(error) if error.kind() == ErrorKind::Interrupted => {}
+            answer => return answer,
+        }
+    }
+    Err(io::Error::from(ErrorKind::Interrupted))
+}
+
+// Writes all bytes from a place on.
+fn write_from<F: Write + Seek>(file: &mut Option<F>, at: u32, bytes: &[u8]) -> io::Result<()> {
+    let Some(file) = file else {
+        return Err(not_chosen());
+    };
+    file.seek(SeekFrom::Start(u64::from(at)))?;
+    file.write_all(bytes)
+}
+
+// Brings what was written onto the disk.
+fn sync_all<F: OpenFile>(file: &Option<F>) -> io::Result<()> {
+    let Some(file) = file else {
+        return Err(not_chosen());
+    };
+    for _ in 0..u64::MAX {
+        match file.sync_all() {
+            Err(error) if error.kind() == ErrorKind::Interrupted => {}
+            answer => return answer,
+        }
+    }
+    Err(io::Error::from(ErrorKind::Interrupted))
+}

@@ -1,0 +1,13 @@
+use Rattle.std.proofs.Common.{◌≡◌, ◌-◌, ◌≤◌, IfSome, length, take}
+use Rattle.key_store.proofs.front.read_front.Given as goal
+
+abbrev pub invariant-loop-size : goal.invariant-loop-size
+invariant-loop-size g l = record {
+  within : l.size ≤ 128;
+  read : IfSome (g.D.Disk.file l.fn.disk) (λ file. (l.size ≤ length file) × (take l.size l.image ≡ take l.size file));
+  kept : g.D.Disk.file l.disk ≡ g.D.Disk.file l.fn.disk;
+  no_fall : g.D.Disk.faults l.fn.disk ≤ g.D.Disk.faults l.disk;
+}
+
+abbrev pub decreases-loop-size : goal.decreases-loop-size
+decreases-loop-size g l = 128 - l.size

@@ -1,0 +1,132 @@
+use Rattle.std.proofs.Common.{sym, refl, arith}
+use Rattle.key_store.proofs.Keys.{HasBegun, IsOf, enough_left, has_begun, raised_state, reserved_run, is_of, not_enough, not_later, not_old, not_short, same_exhausted, same_old}
+use Rattle.key_store.proofs.store.KeyFile.begin_round.Goals as goal
+
+pub returns-then-round-kept-clause-old_round : goal.returns-then-round-kept-clause-old_round
+returns-then-round-kept-clause-old_round g c = λ works old.
+    let of : IsOf c.args.self.now c.self.inside.secret c.in-Ok.content =
+    is_of c.args.self.now c.self.inside.image c.self.inside.secret c.self.inside.failed c.in-Ok.content c.self.view_is
+    (c.self.invariant c.if-self.false) (sym c.in-Ok.ensures.value) in
+    same_old _ _ (sym of.round)
+
+pub returns-then-round-kept-clause-exhausted : goal.returns-then-round-kept-clause-exhausted
+returns-then-round-kept-clause-exhausted g c = λ works later short.
+    let of : IsOf c.args.self.now c.self.inside.secret c.in-Ok.content =
+    is_of c.args.self.now c.self.inside.image c.self.inside.secret c.self.inside.failed c.in-Ok.content c.self.view_is
+    (c.self.invariant c.if-self.false) (sym c.in-Ok.ensures.value) in
+    absurd (not_later _ _ c.args.round later of.round c.if-round-kept.true)
+
+pub returns-then-round-kept-clause-begun : goal.returns-then-round-kept-clause-begun
+returns-then-round-kept-clause-begun g c = λ works later enough.
+    let of : IsOf c.args.self.now c.self.inside.secret c.in-Ok.content =
+    is_of c.args.self.now c.self.inside.image c.self.inside.secret c.self.inside.failed c.in-Ok.content c.self.view_is
+    (c.self.invariant c.if-self.false) (sym c.in-Ok.ensures.value) in
+    absurd (not_later _ _ c.args.round later of.round c.if-round-kept.true)
+
+pub returns-then-leaves-total-clause-old_round : goal.returns-then-leaves-total-clause-old_round
+returns-then-leaves-total-clause-old_round g c = λ works old.
+    let of : IsOf c.args.self.now c.self.inside.secret c.in-Ok.content =
+    is_of c.args.self.now c.self.inside.image c.self.inside.secret c.self.inside.failed c.in-Ok.content c.self.view_is
+    (c.self.invariant c.if-self.false) (sym c.in-Ok.ensures.value) in
+    absurd (not_old _ _ c.args.round old of.round c.if-round-kept.false)
+
+pub returns-then-leaves-total-clause-exhausted : goal.returns-then-leaves-total-clause-exhausted
+returns-then-leaves-total-clause-exhausted g c = λ works later short.
+    let of : IsOf c.args.self.now c.self.inside.secret c.in-Ok.content =
+    is_of c.args.self.now c.self.inside.image c.self.inside.secret c.self.inside.failed c.in-Ok.content c.self.view_is
+    (c.self.invariant c.if-self.false) (sym c.in-Ok.ensures.value) in
+    same_exhausted _ _ (sym of.next)
+
+pub returns-then-leaves-total-clause-begun : goal.returns-then-leaves-total-clause-begun
+returns-then-leaves-total-clause-begun g c = λ works later enough.
+    let of : IsOf c.args.self.now c.self.inside.secret c.in-Ok.content =
+    is_of c.args.self.now c.self.inside.image c.self.inside.secret c.self.inside.failed c.in-Ok.content c.self.view_is
+    (c.self.invariant c.if-self.false) (sym c.in-Ok.ensures.value) in
+    absurd (not_enough _ _ c.args.leaves c.leaves-total.result _ _ enough of.next of.total c.leaves-total.ensures c.if-leaves-total.true)
+
+pub returns-in-Err-clause-old_round : goal.returns-in-Err-clause-old_round
+returns-in-Err-clause-old_round g c = λ works old.
+    let of : IsOf c.args.self.now c.self.inside.secret c.in-Ok.content =
+    is_of c.args.self.now c.self.inside.image c.self.inside.secret c.self.inside.failed c.in-Ok.content c.self.view_is
+    (c.self.invariant c.if-self.false) (sym c.in-Ok.ensures.value) in
+    absurd (not_old _ _ c.args.round old of.round c.if-round-kept.false)
+
+pub returns-in-Err-clause-exhausted : goal.returns-in-Err-clause-exhausted
+returns-in-Err-clause-exhausted g c = λ works later short.
+    let of : IsOf c.args.self.now c.self.inside.secret c.in-Ok.content =
+    is_of c.args.self.now c.self.inside.image c.self.inside.secret c.self.inside.failed c.in-Ok.content c.self.view_is
+    (c.self.invariant c.if-self.false) (sym c.in-Ok.ensures.value) in
+    absurd (not_short _ _ c.args.leaves c.leaves-total.result _ _ short of.next of.total c.leaves-total.ensures c.if-leaves-total.false c.in-Ok.ensures.within)
+
+pub returns-in-Done-clause-old_round : goal.returns-in-Done-clause-old_round
+returns-in-Done-clause-old_round g c = λ works old.
+    let of : IsOf c.args.self.now c.self.inside.secret c.in-Ok.content =
+    is_of c.args.self.now c.self.inside.image c.self.inside.secret c.self.inside.failed c.in-Ok.content c.self.view_is
+    (c.self.invariant c.if-self.false) (sym c.in-Ok.ensures.value) in
+    absurd (not_old _ _ c.args.round old of.round c.if-round-kept.false)
+
+pub returns-in-Done-clause-exhausted : goal.returns-in-Done-clause-exhausted
+returns-in-Done-clause-exhausted g c = λ works later short.
+    let of : IsOf c.args.self.now c.self.inside.secret c.in-Ok.content =
+    is_of c.args.self.now c.self.inside.image c.self.inside.secret c.self.inside.failed c.in-Ok.content c.self.view_is
+    (c.self.invariant c.if-self.false) (sym c.in-Ok.ensures.value) in
+    absurd (not_short _ _ c.args.leaves c.leaves-total.result _ _ short of.next of.total c.leaves-total.ensures c.if-leaves-total.false c.in-Ok.ensures.within)
+
+pub returns-in-Failed-clause-old_round : goal.returns-in-Failed-clause-old_round
+returns-in-Failed-clause-old_round g c = λ works old.
+    let of : IsOf c.args.self.now c.self.inside.secret c.in-Ok.content =
+    is_of c.args.self.now c.self.inside.image c.self.inside.secret c.self.inside.failed c.in-Ok.content c.self.view_is
+    (c.self.invariant c.if-self.false) (sym c.in-Ok.ensures.value) in
+    absurd (not_old _ _ c.args.round old of.round c.if-round-kept.false)
+
+pub returns-in-Failed-clause-exhausted : goal.returns-in-Failed-clause-exhausted
+returns-in-Failed-clause-exhausted g c = λ works later short.
+    let of : IsOf c.args.self.now c.self.inside.secret c.in-Ok.content =
+    is_of c.args.self.now c.self.inside.image c.self.inside.secret c.self.inside.failed c.in-Ok.content c.self.view_is
+    (c.self.invariant c.if-self.false) (sym c.in-Ok.ensures.value) in
+    absurd (not_short _ _ c.args.leaves c.leaves-total.result _ _ short of.next of.total c.leaves-total.ensures c.if-leaves-total.false c.in-Ok.ensures.within)
+
+pub invariant_of-self-in-Done : goal.invariant_of-self-in-Done
+invariant_of-self-in-Done g c = λ works.
+    let of : IsOf c.args.self.now c.self.inside.secret c.in-Ok.content =
+    is_of c.args.self.now c.self.inside.image c.self.inside.secret c.self.inside.failed c.in-Ok.content c.self.view_is
+    (c.self.invariant c.if-self.false) (sym c.in-Ok.ensures.value) in
+    let has : HasBegun c.args.self.now c.self.inside.image c.self.inside.secret c.in-Ok.content c.chosen-at.result c.args.round c.args.leaves c.raise.new.image c.reserve.new.self =
+    has_begun c.args.self.now c.self.inside.image c.self.inside.secret c.in-Ok.content c.chosen-at.result c.args.round c.args.leaves c.raise.new.image c.reserve.new.self
+    of c.in-Ok.ensures.whole (sym c.in-Ok.ensures.value) c.chosen-at.ensures.slot (omega (arith, c.ranges.round.fits)) c.if-round-kept.false
+    (enough_left c.args.leaves c.leaves-total.result _ c.in-Ok.content.kept.next c.if-leaves-total.false c.leaves-total.ensures c.in-Ok.ensures.within)
+    (c.in-Done.ensures.image refl) c.in-Ok-reserve.ensures.risen in
+    has.invariant
+
+pub returns-in-Done-clause-reserved : goal.returns-in-Done-clause-reserved
+returns-in-Done-clause-reserved g c =
+    let of : IsOf c.args.self.now c.self.inside.secret c.in-Ok.content =
+    is_of c.args.self.now c.self.inside.image c.self.inside.secret c.self.inside.failed c.in-Ok.content c.self.view_is
+    (c.self.invariant c.if-self.false) (sym c.in-Ok.ensures.value) in
+    reserved_run c.args.self.now c.self.inside.secret c.in-Ok.content c.in-Ok-reserve.run' c.args.leaves of c.in-Ok-reserve.ensures.reserved
+
+pub returns-in-Done-clause-raised : goal.returns-in-Done-clause-raised
+returns-in-Done-clause-raised g c =
+    let of : IsOf c.args.self.now c.self.inside.secret c.in-Ok.content =
+    is_of c.args.self.now c.self.inside.image c.self.inside.secret c.self.inside.failed c.in-Ok.content c.self.view_is
+    (c.self.invariant c.if-self.false) (sym c.in-Ok.ensures.value) in
+    let has : HasBegun c.args.self.now c.self.inside.image c.self.inside.secret c.in-Ok.content c.chosen-at.result c.args.round c.args.leaves c.raise.new.image c.reserve.new.self =
+    has_begun c.args.self.now c.self.inside.image c.self.inside.secret c.in-Ok.content c.chosen-at.result c.args.round c.args.leaves c.raise.new.image c.reserve.new.self
+    of c.in-Ok.ensures.whole (sym c.in-Ok.ensures.value) c.chosen-at.ensures.slot (omega (arith, c.ranges.round.fits)) c.if-round-kept.false
+    (enough_left c.args.leaves c.leaves-total.result _ c.in-Ok.content.kept.next c.if-leaves-total.false c.leaves-total.ensures c.in-Ok.ensures.within)
+    (c.in-Done.ensures.image refl) c.in-Ok-reserve.ensures.risen in
+    raised_state c.args.self.now c.self.inside.image c.raise.new.image c.self.inside.secret c.reserve.new.self c.self.inside.failed c.in-Ok.content
+    c.chosen-at.result c.leaves-total.result c.args.round c.args.leaves of c.self.view_is c.if-self.false c.leaves-total.ensures c.chosen-at.ensures.value
+    has.parts (c.in-Done.ensures.image refl)
+
+pub returns-in-Done-clause-stands : goal.returns-in-Done-clause-stands
+returns-in-Done-clause-stands g c =
+    let of : IsOf c.args.self.now c.self.inside.secret c.in-Ok.content =
+    is_of c.args.self.now c.self.inside.image c.self.inside.secret c.self.inside.failed c.in-Ok.content c.self.view_is
+    (c.self.invariant c.if-self.false) (sym c.in-Ok.ensures.value) in
+    let has : HasBegun c.args.self.now c.self.inside.image c.self.inside.secret c.in-Ok.content c.chosen-at.result c.args.round c.args.leaves c.raise.new.image c.reserve.new.self =
+    has_begun c.args.self.now c.self.inside.image c.self.inside.secret c.in-Ok.content c.chosen-at.result c.args.round c.args.leaves c.raise.new.image c.reserve.new.self
+    of c.in-Ok.ensures.whole (sym c.in-Ok.ensures.value) c.chosen-at.ensures.slot (omega (arith, c.ranges.round.fits)) c.if-round-kept.false
+    (enough_left c.args.leaves c.leaves-total.result _ c.in-Ok.content.kept.next c.if-leaves-total.false c.leaves-total.ensures c.in-Ok.ensures.within)
+    (c.in-Done.ensures.image refl) c.in-Ok-reserve.ensures.risen in
+    has.kept

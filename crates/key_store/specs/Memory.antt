@@ -1,0 +1,33 @@
+-- Disks in memory.
+use Rattle.std.specs.Prelude.{ℕ, ◌+◌, ◌-◌, ◌^◌, min, List, vec_items}
+use Rattle.key_store.specs.declared.plan.FaultPlan.{FaultPlan}
+use Rattle.key_store.specs.declared.memory_disk.SteadyDisk.{SteadyDisk}
+use Rattle.key_store.specs.declared.memory_disk.MemoryDisk.{MemoryDisk}
+
+-- one more; a count stays at the end of its 64 bits
+abbrev pub counted : ℕ → ℕ
+counted count = min (count + 1) (2 ^ 64 - 1)
+
+-- the numbers of the calls that fail by a plan, and the calls and faults that it has counted
+abbrev pub planned_calls : FaultPlan → List ℕ
+planned_calls plan = vec_items plan.failing
+
+abbrev pub call_count : FaultPlan → ℕ
+call_count plan = plan.calls
+
+abbrev pub fault_count : FaultPlan → ℕ
+fault_count plan = plan.faults
+
+-- the file of a disk that never fails, and how often it had no room
+abbrev pub steady_file : SteadyDisk → List ℕ
+steady_file disk = disk.room
+
+abbrev pub steady_faults : SteadyDisk → ℕ
+steady_faults disk = disk.faults
+
+-- the file of a disk with a plan, and the plan
+abbrev pub memory_file : MemoryDisk → List ℕ
+memory_file disk = disk.room
+
+abbrev pub disk_plan : MemoryDisk → FaultPlan
+disk_plan disk = disk.plan

@@ -1,0 +1,58 @@
+-- A key file as its callers see it, and what its calls answer.
+use Rattle.std.specs.Prelude.{◌≡◌, ℕ, Bool, false, List, take, Option, IfSome, Result, Ok, Err}
+use Rattle.lms_tree.specs.Secret.{SecretParts, leaves}
+use Rattle.lms_tree.specs.States.{SecretState}
+use Rattle.key_store.specs.declared.layout.Standing.{Standing}
+use Rattle.key_store.specs.declared.layout.KeyContent.{KeyContent}
+use Rattle.key_store.specs.declared.refusals.StoreRefusal.{StoreRefusal}
+use Rattle.key_store.specs.declared.refusals.StoreRefusal.TheVariants.{DiskFault, NotKeyFile, OldRound, Exhausted, Memory}
+use Rattle.key_store.specs.Disk.{Rose}
+use Rattle.key_store.specs.KeyFiles.{Mirrors, key_read, parts_in, stands}
+
+-- what the key is of, the file's first 128 bytes as they were last read or written, and whether the disk failed
+pub record KeyState : Type 0 where
+  pub parts : SecretParts
+  pub image : List ℕ
+  pub failed : Bool
+
+-- the greatest round, and the least leaf that was not handed out
+abbrev pub kept_by : KeyState → Standing
+kept_by key = stands (leaves key.parts) key.image
+
+abbrev pub leaves_of : KeyState → ℕ
+leaves_of key = leaves key.parts
+
+-- the file is as the key file holds it, unless the disk failed
+abbrev pub IsCurrent : KeyState → Option (List ℕ) → Type 0
+IsCurrent key told = key.failed ≡ false → Mirrors told key.image
+
+-- the secret is that of a file that was read so, and its next leaf is that which the file stands for
+abbrev pub IsSecretOf : Result KeyContent ℕ → SecretState → Type 0
+IsSecretOf (Ok content) secret = secret ≡ record { parts = parts_in content; next = content.kept.next }
+IsSecretOf (Err at) secret = ⊥
+
+-- a key file of these bytes, which were read so
+abbrev pub IsLoaded : Result KeyContent ℕ → List ℕ → KeyState → Type 0
+IsLoaded (Ok content) image key =
+    (key ≡ record { parts = parts_in content; image = image; failed = false }) × (kept_by key ≡ content.kept)
+IsLoaded (Err at) image key = ⊥
+
+-- the disk failed: its count of faults rose
+abbrev pub IsFault : StoreRefusal → (before now : ℕ) → Type 0
+IsFault refusal before now = (refusal ≡ DiskFault) × Rose before now
+
+-- why a file was not loaded
+abbrev pub LoadRefused : StoreRefusal → Option (List ℕ) → (before now : ℕ) → Type 0
+LoadRefused (NotKeyFile at) told before now = IfSome told (λ file. key_read (take 128 file) ≡ Err at)
+LoadRefused DiskFault told before now = Rose before now
+LoadRefused Memory told before now = Unit {0}
+LoadRefused (OldRound kept) told before now = ⊥
+LoadRefused (Exhausted next) told before now = ⊥
+
+-- why bytes that were read so gave no key file
+abbrev pub FrontRefused : StoreRefusal → Result KeyContent ℕ → Type 0
+FrontRefused (NotKeyFile at) read = read ≡ Err at
+FrontRefused Memory read = Unit {0}
+FrontRefused DiskFault read = ⊥
+FrontRefused (OldRound kept) read = ⊥
+FrontRefused (Exhausted next) read = ⊥

@@ -1,0 +1,20 @@
+//! The key file of an LMS key: it keeps which leaves were handed out and in which round, over a disk that may fail.
+#![tactic(auto)]
+
+mod disk;
+mod front;
+mod layout;
+mod memory_disk;
+mod plan;
+mod refusals;
+mod room;
+mod steps;
+mod store;
+
+pub use disk::{Disk, DiskAnswer, DiskRead};
+pub use memory_disk::{MemoryDisk, SteadyDisk};
+pub use refusals::StoreRefusal;
+pub use store::{KeyFile, create};
+
+#[cfg(test)]
+mod tests;

@@ -1,0 +1,116 @@
+//! The steps by which a key file is written: each changes the image in memory and the file alike.
+ghost use Rattle.std.specs.Prelude.{◌≡◌, ◌+◌, ◌<◌, ◌≤◌, ◌∷◌, [], length, option_map};
+ghost use Rattle.key_store.specs.Disk.{Rose, Tears, Writes, overwritten};
+ghost use Rattle.key_store.specs.KeyFiles.{IsSlot, Mirrors, closed, numbers, opened, raised, written};
+
+use crate::disk::{Disk, DiskAnswer};
+use crate::room::overwrite;
+
+/// Writes bytes into the image and the file, and syncs.
+pub fn put<D: Disk>(disk: &mut D, image: &mut [u8; 128], at: u32, bytes: &[u8]) -> DiskAnswer
+    requires within { at + length bytes.now ≤ 128 }
+    requires current { Mirrors (D.file disk.old) image.old }
+    ensures image { image.new ≡ overwritten image.old at bytes.now }
+    ensures done { result ≡ DiskAnswer.Done
+        → D.file disk.new ≡ option_map (λ file. overwritten file at bytes.now) (D.file disk.old) }
+    ensures current { result ≡ DiskAnswer.Done → Mirrors (D.file disk.new) image.new }
+    ensures torn { Tears (D.file disk.old) (D.file disk.new) at (length bytes.now) }
+    ensures failed { result ≡ DiskAnswer.Failed → Rose (D.faults disk.old) (D.faults disk.new) }
+    ensures no_fall { D.faults disk.old ≤ D.faults disk.new }
+{
+    overwrite(image, at as usize, bytes);
+    match disk.write_at(at, bytes) {
+        DiskAnswer::Done => disk.sync(),
+        DiskAnswer::Failed => DiskAnswer::Failed,
+    }
+}
+
+/// Closes the gate of a slot. Where it reads 0 already it is not written, and there is a sync all the same.
+pub fn close_gate<D: Disk>(disk: &mut D, image: &mut [u8; 128], at: u32) -> DiskAnswer
+    requires slot { IsSlot at }
+    requires current { Mirrors (D.file disk.old) image.old }
+    ensures image { image.new ≡ closed image.old at }
+    ensures done { result ≡ DiskAnswer.Done
+        → D.file disk.new ≡ option_map (λ file. closed file at) (D.file disk.old) }
+    ensures current { result ≡ DiskAnswer.Done → Mirrors (D.file disk.new) image.new }
+    ensures torn { Tears (D.file disk.old) (D.file disk.new) at 1 }
+    ensures failed { result ≡ DiskAnswer.Failed → Rose (D.faults disk.old) (D.faults disk.new) }
+    ensures no_fall { D.faults disk.old ≤ D.faults disk.new }
+{
+    if image[at as usize] == 0 {
+        return disk.sync();
+    }
+    put(disk, image, at, &[0])
+}
+
+/// Writes the numbers of a slot, behind its gate.
+pub fn write_slot<D: Disk>(
+    disk: &mut D,
+    image: &mut [u8; 128],
+    at: u32,
+    round: u64,
+    next: u32,
+) -> DiskAnswer
+    requires slot { IsSlot at }
+    requires current { Mirrors (D.file disk.old) image.old }
+    ensures image { image.new ≡ written image.old at round next }
+    ensures done { result ≡ DiskAnswer.Done
+        → D.file disk.new ≡ option_map (λ file. written file at round next) (D.file disk.old) }
+    ensures current { result ≡ DiskAnswer.Done → Mirrors (D.file disk.new) image.new }
+    ensures torn { Tears (D.file disk.old) (D.file disk.new) (at + 1) 12 }
+    ensures failed { result ≡ DiskAnswer.Failed → Rose (D.faults disk.old) (D.faults disk.new) }
+    ensures no_fall { D.faults disk.old ≤ D.faults disk.new }
+{
+    put(disk, image, at + 1, &numbers(round, next))
+}
+
+/// Opens the gate of a slot.
+pub fn open_gate<D: Disk>(disk: &mut D, image: &mut [u8; 128], at: u32) -> DiskAnswer
+    requires slot { IsSlot at }
+    requires current { Mirrors (D.file disk.old) image.old }
+    ensures image { image.new ≡ opened image.old at }
+    ensures done { result ≡ DiskAnswer.Done
+        → D.file disk.new ≡ option_map (λ file. opened file at) (D.file disk.old) }
+    ensures current { result ≡ DiskAnswer.Done → Mirrors (D.file disk.new) image.new }
+    ensures torn { Tears (D.file disk.old) (D.file disk.new) at 1 }
+    ensures failed { result ≡ DiskAnswer.Failed → Rose (D.faults disk.old) (D.faults disk.new) }
+    ensures no_fall { D.faults disk.old ≤ D.faults disk.new }
+{
+    put(disk, image, at, &[1])
+}
+
+/// Raises a slot: closes it, writes its numbers and opens it, each brought onto the disk before the next.
+#[tactic(auto, unfolding(crate::specs::KeyFiles::raised))]
+pub fn raise<D: Disk>(
+    disk: &mut D,
+    image: &mut [u8; 128],
+    at: u32,
+    round: u64,
+    next: u32,
+) -> DiskAnswer
+    requires slot { IsSlot at }
+    requires current { Mirrors (D.file disk.old) image.old }
+    ensures image { result ≡ DiskAnswer.Done → image.new ≡ raised image.old at round next }
+    ensures current { result ≡ DiskAnswer.Done → Mirrors (D.file disk.new) image.new }
+    ensures failed { result ≡ DiskAnswer.Failed → Rose (D.faults disk.old) (D.faults disk.new) }
+    ensures no_fall { D.faults disk.old ≤ D.faults disk.new }
+{
+    match close_gate(disk, image, at) {
+        DiskAnswer::Done => {}
+        DiskAnswer::Failed => return DiskAnswer::Failed,
+    }
+    match write_slot(disk, image, at, round, next) {
+        DiskAnswer::Done => open_gate(disk, image, at),
+        DiskAnswer::Failed => DiskAnswer::Failed,
+    }
+}
+
+// The numbers of a slot, as they are written.
+fn numbers(round: u64, next: u32) -> [u8; 12]
+    ensures { result ≡ numbers round next }
+{
+    let mut bytes = [0; 12];
+    bytes[..8].copy_from_slice(&round.to_be_bytes());
+    bytes[8..].copy_from_slice(&next.to_be_bytes());
+    bytes
+}
