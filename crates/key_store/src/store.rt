@@ -2,7 +2,6 @@
 ghost use Rattle.std.specs.Prelude.{◌≡◌, ◌⊎◌, ◌≤◌, ◌∷◌, [], false, IfOk, IfErr, IfSome, Ok, take};
 ghost use Rattle.lms_tree.specs.Secret.{own_public, parts_of_master};
 ghost use Rattle.lms_tree.specs.States.{made_leaves, made_type};
-ghost use Rattle.wire_core.specs.Hash.{Hash};
 ghost use Rattle.key_store.specs.declared.refusals.StoreRefusal.TheVariants.{DiskFault, Memory};
 ghost use Rattle.key_store.specs.Disk.{Rose};
 ghost use Rattle.key_store.specs.KeyFiles.{Mirrors, key_read, made, new_content, opened, parts_in};
@@ -13,10 +12,9 @@ use crate::front::read_front;
 use crate::layout::{self, KeyContent, Standing, read_key};
 use crate::refusals::StoreRefusal;
 use crate::steps::{put, raise};
-use lms_tree::{LeafRun, LmsPublic, LmsSecret, MadeHeight, OtsType};
+use lms_tree::{LeafRun, LmsPublic, LmsSecret, MadeHeight, OtsType, parts_of_master};
 use std::alloc::Global;
 use std::marker::Model;
-use wire_core::{Register, Tag};
 
 /// Makes the key file of a master's key over whatever the disk's file held, with no round and no leaf used, and
 /// gives the public key. It answers `Memory`, with the disk not touched, or `DiskFault`, and no other refusal.
@@ -87,24 +85,14 @@ fn from_front(alloc: Global, image: &[u8; 128], size: u32) -> Result<KeyFile, St
 fn first_content(height: MadeHeight, width: OtsType, master: &[u8; 32]) -> KeyContent
     ensures { result ≡ new_content height width master.now }
 {
-    let mut identifier = [0; 16];
-    identifier.copy_from_slice(&hash_of(Tag::LmsIdentifier, master)[..16]);
+    let (identifier, seed) = parts_of_master(master);
     KeyContent {
         height,
         width,
         identifier,
-        seed: hash_of(Tag::LmsSeed, master),
+        seed,
         kept: Standing { round: 0, next: 0 },
     }
-}
-
-// The hash of a master under a tag.
-fn hash_of(tag: Tag, master: &[u8; 32]) -> [u8; 32]
-    ensures { result ≡ Hash tag (master.now ∷ []) }
-{
-    let mut register = Register::new(tag);
-    register.piece(master);
-    register.end()
 }
 
 // Writes the file of a new key, and then opens the gate of its first slot.

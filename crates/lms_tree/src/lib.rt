@@ -15,5 +15,5 @@ pub use keys::{KeyRefusal, LmsPublic, LmsType};
 pub use laws::own_signatures_are_valid;
 pub use leaf_runs::LeafRun;
 pub use lm_ots::{OtsRefusal, OtsType};
-pub use secrets::{LmsSecret, MadeHeight, ReserveRefusal};
+pub use secrets::{LmsSecret, MadeHeight, ReserveRefusal, parts_of_master};
 pub use verifier::{LmsRefusal, check_decides_validity, verify};

@@ -1,7 +1,8 @@
 //! Secrets of trees: each gives its leaves away once, in runs.
 
-ghost use Rattle.std.specs.Prelude.{◌≡◌, ◌+◌, ◌<◌, ◌≤◌, ◌^◌, ◌∷◌, [], IfOk, IfErr, Err};
+ghost use Rattle.std.specs.Prelude.{◌≡◌, ◌+◌, ◌<◌, ◌≤◌, ◌^◌, ◌∷◌, [], IfOk, IfErr, Err, take};
 ghost use Rattle.wire_core.specs.Hash.{Hash};
+ghost use Rattle.wire_core.specs.declared.tag.Tag.TheVariants.{LmsIdentifier, LmsSeed};
 ghost use Rattle.lms_tree.specs.declared.secrets.ReserveRefusal.TheVariants.{Exhausted, Memory};
 ghost use Rattle.lms_tree.specs.Secret.{leaves, own_public, parts_of_master};
 ghost use Rattle.lms_tree.specs.States.{made_leaves, made_type};
@@ -93,9 +94,7 @@ impl LmsSecret {
           next = next;
         }) }
     {
-        let mut identifier = [0; 16];
-        identifier.copy_from_slice(&hash_of(Tag::LmsIdentifier, master)[..16]);
-        let seed = hash_of(Tag::LmsSeed, master);
+        let (identifier, seed) = parts_of_master(master);
         LmsSecret::from_parts(alloc, height, width, identifier, seed, next)
     }
 
@@ -163,6 +162,16 @@ impl LmsSecret {
         self.next += n;
         Ok(run)
     }
+}
+
+/// The identifier I and the SEED of a master: the first 16 bytes of one hash of it, and another hash.
+pub fn parts_of_master(master: &[u8; 32]) -> ([u8; 16], [u8; 32])
+    ensures identifier { result.0 ≡ take 16 (Hash LmsIdentifier (master.now ∷ [])) }
+    ensures seed { result.1 ≡ Hash LmsSeed (master.now ∷ []) }
+{
+    let mut identifier = [0; 16];
+    identifier.copy_from_slice(&hash_of(Tag::LmsIdentifier, master)[..16]);
+    (identifier, hash_of(Tag::LmsSeed, master))
 }
 
 // The hash of a master under a tag.
