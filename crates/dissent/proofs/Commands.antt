@@ -8,7 +8,8 @@ use Rattle.dissent.specs.declared.judge.Refused.{Refused}
 use Rattle.dissent.specs.declared.judge.Refused.TheVariants.{Check, Memory as JudgeMemory}
 use Rattle.dissent.specs.declared.roster.RosterRefusal.{RosterRefusal}
 use Rattle.dissent.specs.declared.roster.RosterRefusal.TheVariants.{Bad, Memory as RosterMemory}
-use Rattle.dissent.specs.Outside.{Held, Shows, Rose}
+use Rattle.key_store.specs.Disk.{Rose}
+use Rattle.dissent.specs.Outside.{Held, Shows}
 use Rattle.dissent.specs.Refusals.{RefusesRoster, RefusesTranscript, roster_status, judge_status}
 use Rattle.dissent.specs.Outcome.{Yields, within, and_then, or_bad_roster, or_refused}
 use Rattle.dissent.proofs.Reading.{some_file}

@@ -1,7 +1,7 @@
 -- Files in memory.
-use Rattle.std.specs.Prelude.{◌≡◌, ℕ, ◌+◌, ◌-◌, ◌^◌, min, List, ◌∷◌, Option, string_bytes, vec_items, bytes_eq, option_map, find}
+use Rattle.key_store.specs.declared.plan.FaultPlan.{FaultPlan}
+use Rattle.std.specs.Prelude.{◌≡◌, ℕ, List, ◌∷◌, Option, string_bytes, vec_items, bytes_eq, option_map, find}
 use Rattle.dissent.specs.declared.stored.StoredFile.{StoredFile}
-use Rattle.dissent.specs.declared.plan.FaultPlan.{FaultPlan}
 use Rattle.dissent.specs.declared.memory.SteadyFiles.{SteadyFiles}
 use Rattle.dissent.specs.declared.memory.SteadySink.{SteadySink}
 use Rattle.dissent.specs.declared.memory.MemoryFiles.{MemoryFiles}
@@ -14,21 +14,6 @@ held_in files name = option_map (λ file. vec_items file.bytes) (find (λ file. 
 -- a file of this name and these bytes came before all others
 abbrev pub IsPut : List StoredFile → List StoredFile → List ℕ → List ℕ → Type 0
 IsPut old new name bytes = (file : StoredFile) × (string_bytes file.name ≡ name) × (vec_items file.bytes ≡ bytes) × (new ≡ file ∷ old)
-
--- the numbers of the calls that fail by a plan
-abbrev pub planned_calls : FaultPlan → List ℕ
-planned_calls plan = vec_items plan.failing
-
--- the calls and the faults that a plan has counted; a count stays at the end of its 64 bits
-abbrev pub call_count : FaultPlan → ℕ
-call_count plan = plan.calls
-
-abbrev pub fault_count : FaultPlan → ℕ
-fault_count plan = plan.faults
-
--- one more
-abbrev pub counted : ℕ → ℕ
-counted count = min (count + 1) (2 ^ 64 - 1)
 
 -- what files that never fail hold
 abbrev pub held_of : SteadyFiles → List ℕ → Option (List ℕ)

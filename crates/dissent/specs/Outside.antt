@@ -1,15 +1,11 @@
 -- The outside of the program as its contracts see it: files by name, a sink of bytes, and counts of faults.
-use Rattle.std.specs.Prelude.{◌≡◌, ◌≢◌, ℕ, ◌+◌, ◌-◌, ◌^◌, ◌≤◌, min, List, ◌++◌, ⊤, Option, Some, None, IsSome, IfSome, IsSomeAnd, vec_items}
+use Rattle.std.specs.Prelude.{◌≡◌, ◌≢◌, ℕ, List, ◌++◌, ⊤, Option, Some, None, IsSome, IfSome, IsSomeAnd, vec_items}
 use Rattle.dissent.specs.declared.outside.FileRead.{FileRead}
 use Rattle.dissent.specs.declared.outside.FileRead.TheVariants.{Bytes, TooLong, Failed, OutOfMemory}
 
 -- what files hold: the bytes of each name, or nothing where the name is missing
 abbrev pub Held : Type 0
 Held = List ℕ → Option (List ℕ)
-
--- a count of faults rose, or stands at the end of its 64 bits
-abbrev pub Rose : ℕ → ℕ → Type 0
-Rose before now = min (before + 1) (2 ^ 64 - 1) ≤ now
 
 -- the files tell what they hold, and this name is missing
 abbrev pub IsMissing : Option Held → List ℕ → Type 0

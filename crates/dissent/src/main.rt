@@ -12,7 +12,6 @@ mod memory;
 mod offline;
 mod outside;
 mod places;
-mod plan;
 mod post;
 mod roster;
 mod show;

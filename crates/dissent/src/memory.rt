@@ -3,8 +3,8 @@
 ghost use Rattle.std.specs.Prelude.{◌≡◌, ℕ, List, [], Some, None, is_some, string_bytes};
 
 use crate::outside::{FileRead, FileWrite, Files, Sink, SinkAnswer};
-use crate::plan::FaultPlan;
 use crate::stored::{StoredFile, first_of, put, read_from};
+use key_store::FaultPlan;
 use std::alloc::{AllocError, Global};
 
 /// Files in memory, of which no call fails but for want of memory.
@@ -63,7 +63,8 @@ pub struct MemoryFiles {
 }
 
 impl MemoryFiles {
-    ghost use Rattle.dissent.specs.Memory.{held_of, memory_held, files_plan, planned_calls, fault_count};
+    ghost use Rattle.dissent.specs.Memory.{held_of, memory_held, files_plan};
+    ghost use Rattle.key_store.specs.Memory.{planned_calls, fault_count};
 
     /// These files; the calls with these numbers, from 1, fail.
     pub fn new(store: SteadyFiles, failing: Vec<u64>) -> Self
@@ -79,7 +80,8 @@ impl MemoryFiles {
 }
 
 impl Files for MemoryFiles {
-    ghost use Rattle.dissent.specs.Memory.{memory_held, files_plan, fault_count};
+    ghost use Rattle.dissent.specs.Memory.{memory_held, files_plan};
+    ghost use Rattle.key_store.specs.Memory.{fault_count};
 
     ghost faults = { λ files. fault_count (files_plan files) };
 
@@ -151,7 +153,8 @@ pub struct MemorySink {
 }
 
 impl MemorySink {
-    ghost use Rattle.dissent.specs.Memory.{memory_written, sink_plan, planned_calls, fault_count};
+    ghost use Rattle.dissent.specs.Memory.{memory_written, sink_plan};
+    ghost use Rattle.key_store.specs.Memory.{planned_calls, fault_count};
 
     /// An empty sink; the calls with these numbers, from 1, fail.
     pub fn new(alloc: Global, failing: Vec<u64>) -> Self
@@ -174,7 +177,8 @@ impl MemorySink {
 }
 
 impl Sink for MemorySink {
-    ghost use Rattle.dissent.specs.Memory.{memory_written, sink_plan, fault_count};
+    ghost use Rattle.dissent.specs.Memory.{memory_written, sink_plan};
+    ghost use Rattle.key_store.specs.Memory.{fault_count};
 
     ghost faults = { λ sink. fault_count (sink_plan sink) };
 

@@ -1,6 +1,7 @@
 //! The commands that use files alone, and the one that makes a key file.
 ghost use Rattle.std.specs.Prelude.{◌≡◌, ◌≢◌, ◌⊎◌, ◌≤◌, None, Some, IfOk, IfErr, IfSome, IsSomeAnd, length, string_bytes};
-ghost use Rattle.dissent.specs.Outside.{Rose, Shows, GainsFirstOf};
+ghost use Rattle.key_store.specs.Disk.{Rose};
+ghost use Rattle.dissent.specs.Outside.{Shows, GainsFirstOf};
 ghost use Rattle.dissent.specs.Command.{requested, texts, named};
 ghost use Rattle.dissent.specs.Outcome.{Yields, YieldsOr, Answers, AnswersRequest, RequestMisses, within, judge_outcome, show_outcome, keygen_outcome, made_parts, key_line, accepted_line, or_bad_roster, or_refused};
 ghost use Rattle.dissent.specs.Delivery.{Delivers, DeliversText, answer_bytes, status_of, text_of};

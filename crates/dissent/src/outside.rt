@@ -1,7 +1,8 @@
 //! The outside as the program sees it: files by name, and a sink for what it prints. What a clause says of
 //! content it says of outside objects that tell it; an adapter over the real thing tells nothing.
 ghost use Rattle.std.specs.Prelude.{◌≡◌, ◌⊎◌, ℕ, ◌≤◌, ◌<◌, List, length, Option, None, Some, IfSome, IsSomeAnd, string_bytes};
-ghost use Rattle.dissent.specs.Outside.{Rose, IsMissing, Shows, IfBytes, HoldsNow, OthersStay, Gains, GainsFirstOf};
+ghost use Rattle.key_store.specs.Disk.{Rose};
+ghost use Rattle.dissent.specs.Outside.{IsMissing, Shows, IfBytes, HoldsNow, OthersStay, Gains, GainsFirstOf};
 
 /// What a read of a file answers.
 #[derive(Debug, Drop)]

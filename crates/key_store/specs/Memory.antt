@@ -1,5 +1,6 @@
 -- Disks in memory.
-use Rattle.std.specs.Prelude.{ℕ, ◌+◌, ◌-◌, ◌^◌, min, List, vec_items}
+use Rattle.std.specs.Prelude.{ℕ, ◌+◌, ◌-◌, ◌^◌, ◌==◌, min, Bool, List, vec_items}
+use Rattle.std.specs.List.{list_any}
 use Rattle.key_store.specs.declared.plan.FaultPlan.{FaultPlan}
 use Rattle.key_store.specs.declared.memory_disk.SteadyDisk.{SteadyDisk}
 use Rattle.key_store.specs.declared.memory_disk.MemoryDisk.{MemoryDisk}
@@ -17,6 +18,10 @@ call_count plan = plan.calls
 
 abbrev pub fault_count : FaultPlan → ℕ
 fault_count plan = plan.faults
+
+-- whether the next call is one that fails
+abbrev pub fails_next : FaultPlan → Bool
+fails_next plan = list_any (λ call. call == counted plan.calls) (planned_calls plan)
 
 -- the file of a disk that never fails, and how often it had no room
 abbrev pub steady_file : SteadyDisk → List ℕ

@@ -13,6 +13,7 @@ mod store;
 
 pub use disk::{Disk, DiskAnswer, DiskRead};
 pub use memory_disk::{MemoryDisk, SteadyDisk};
+pub use plan::FaultPlan;
 pub use refusals::StoreRefusal;
 pub use store::{KeyFile, create};
 

@@ -1,5 +1,6 @@
 //! Disks in memory, with one file of at most 128 bytes. A write past these is a fault.
-ghost use Rattle.std.specs.Prelude.{◌≡◌, ◌≤◌, ℕ, List, [], length, Some, IfOk};
+ghost use Rattle.std.specs.Prelude.{◌≡◌, ◌≤◌, ℕ, List, [], length, Some, IfOk, if◌then◌else◌};
+ghost use Rattle.key_store.specs.Disk.{Rose};
 
 use crate::disk::{Disk, DiskAnswer, DiskRead};
 use crate::plan::FaultPlan;
@@ -118,7 +119,7 @@ impl MemoryDisk {
 }
 
 impl Disk for MemoryDisk {
-    ghost use Rattle.key_store.specs.Memory.{disk_plan, fault_count, memory_file};
+    ghost use Rattle.key_store.specs.Memory.{disk_plan, fails_next, fault_count, memory_file};
 
     ghost faults = { λ disk. fault_count (disk_plan disk) };
 
@@ -153,7 +154,12 @@ impl Disk for MemoryDisk {
         DiskAnswer::Done
     }
 
-    fn sync(&mut self) -> DiskAnswer {
+    fn sync(&mut self) -> DiskAnswer
+        ensures planned { result ≡ (if fails_next (disk_plan self.old) then DiskAnswer.Failed else DiskAnswer.Done) }
+        ensures kept { memory_file self.new ≡ memory_file self.old }
+        ensures failed { result ≡ DiskAnswer.Failed → Rose (fault_count (disk_plan self.old)) (fault_count (disk_plan self.new)) }
+        ensures no_fall { fault_count (disk_plan self.old) ≤ fault_count (disk_plan self.new) }
+    {
         if self.plan.call() {
             self.plan.fault();
             return DiskAnswer::Failed;

@@ -1,7 +1,7 @@
-//! Which calls of a disk in memory fail.
+//! Which calls of an object in memory fail.
 ghost use Rattle.std.specs.Prelude.{◌≡◌, ◌≤◌, ◌==◌};
 ghost use Rattle.std.specs.List.{list_any};
-ghost use Rattle.key_store.specs.Memory.{call_count, counted, fault_count, planned_calls};
+ghost use Rattle.key_store.specs.Memory.{call_count, counted, fails_next, fault_count, planned_calls};
 
 /// Which calls fail, by their numbers from 1, and how many calls and faults there were.
 #[derive(Debug, Drop)]
@@ -27,7 +27,7 @@ impl FaultPlan {
 
     /// Counts a call, and says whether it is one that fails.
     pub fn call(&mut self) -> bool
-        ensures planned { result ≡ list_any (λ call. call == counted (call_count self.old)) (planned_calls self.old) }
+        ensures planned { result ≡ fails_next self.old }
         ensures calls { call_count self.new ≡ counted (call_count self.old) }
         ensures same { planned_calls self.new ≡ planned_calls self.old }
         ensures faults { fault_count self.new ≡ fault_count self.old }
