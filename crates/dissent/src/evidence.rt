@@ -1,9 +1,10 @@
-//! Evidence made from keys: two votes of member 3 in one slot, and the transcript that lists them.
+//! Evidence: two votes of member 3 in one slot, made from keys, with the transcript that lists them; and the evidence that is stored.
 
 ghost use Rattle.std.specs.Prelude.{◌≡◌, ◌<◌, length};
 ghost use Rattle.dissent.specs.Roster.{IsRosterForm};
 
 use super::*;
+use crate::stored_evidence::{roster_digits, transcript_digits};
 use crate::tests::{FRESH, words_of};
 use key_store::SteadyDisk;
 use lms_tree::{LmsSecret, MadeHeight, OtsType};
@@ -137,7 +138,7 @@ fn refused(
     Ok(())
 }
 
-// Two votes convict, one vote signed twice does not, and no cut does.
+// Two votes convict, and one vote signed twice does not.
 fn votes_are_judged(
     rt: &impl Abort,
     alloc: Global,
@@ -166,7 +167,6 @@ fn votes_are_judged(
     assert!(rt;
         matches!(&listed, Ok(t) if t.accused == 3 && t.round == 1 && t.posts.items().len() == 2)
     );
-    no_cut_convicts(rt, alloc, roster, &bytes);
     let again = first.post(alloc, 3, 2)?;
     refused(rt, alloc, roster, (&yes, &again), (8, 2, 0))
 }
@@ -253,6 +253,28 @@ fn evidence_is_judged(rt: HostRuntime) -> Result<(), Fail> {
             votes_are_judged(&rt, alloc, &roster, &group)?;
             a_vote_is_taken(&rt, alloc, &roster, &group)?;
             posts_are_refused(&rt, alloc, &roster, &group)?;
+        }
+        Err(_) => assert!(rt; false, "no roster"),
+    }
+    Ok(())
+}
+
+// The stored evidence convicts, and no cut of it does.
+#[test]
+fn stored_evidence_convicts_whole(rt: HostRuntime) -> Result<(), Fail> {
+    let alloc = rt.alloc();
+    let Ok(roster) = hex::decode(alloc, roster_digits()) else {
+        return Err(Fail::from("no roster"));
+    };
+    let Ok(transcript) = hex::decode(alloc, transcript_digits()) else {
+        return Err(Fail::from("no transcript"));
+    };
+    assert_eq!(rt; transcript.len(), 4885);
+    match decode(alloc, &roster) {
+        Ok(roster) => {
+            let accepted = judge(alloc, &roster, &transcript);
+            assert!(rt; matches!(accepted, Ok(Accepted { accused: 3, .. })));
+            no_cut_convicts(&rt, alloc, &roster, &transcript);
         }
         Err(_) => assert!(rt; false, "no roster"),
     }

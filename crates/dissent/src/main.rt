@@ -18,6 +18,8 @@ mod show;
 mod status;
 mod stored;
 #[cfg(test)]
+mod stored_evidence;
+#[cfg(test)]
 mod tests;
 mod transcript;
 mod words;
