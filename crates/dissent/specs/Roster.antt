@@ -5,7 +5,7 @@ use Rattle.std.specs.List.{range_with_len, concat, list_any, slice_get}
 use Rattle.std.specs.Result.{result_ok}
 use Rattle.phase_message.specs.First.{first_some, first_below}
 use Rattle.wire_core.specs.declared.tag.Tag.TheVariants.{Roster as RosterTag}
-use Rattle.wire_core.specs.Hash.{Hash}
+use Rattle.wire_core.specs.Hash.{hash_of}
 use Rattle.lms_tree.specs.declared.keys.LmsPublic.{LmsPublic}
 use Rattle.lms_tree.specs.declared.keys.KeyRefusal.{KeyRefusal}
 use Rattle.lms_tree.specs.declared.keys.KeyRefusal.TheVariants.{LmsKind, OtsKind}
@@ -25,7 +25,7 @@ roster_spelling r = roster_magic ++ (r.version ∷ length r.keys ∷ concat r.ke
 
 -- a group's id: the hash of its roster's bytes
 abbrev pub roster_id : Roster → List ℕ
-roster_id r = Hash RosterTag (roster_spelling r ∷ [])
+roster_id r = hash_of RosterTag (roster_spelling r ∷ [])
 
 -- 56 bytes that an LMS public key is read from
 pub record IsKey (key : List ℕ) : Type 0 where

@@ -3,36 +3,36 @@ use Rattle.std.specs.Prelude.{◌≡◌, ℕ, List, [], ◌∷◌, ◌++◌, len
 use Rattle.std.specs.Option.{option_and_then, option_map}
 use Rattle.std.specs.Str.{bytes_eq}
 use Rattle.wire_core.specs.declared.tag.Tag.TheVariants.{LayerStream, LayerTag}
-use Rattle.wire_core.specs.Hash.{Hash}
-use Rattle.pad_stream.specs.Stream.{Stream}
+use Rattle.wire_core.specs.Hash.{hash_of}
+use Rattle.pad_stream.specs.Stream.{stream_of}
 use Rattle.pad_stream.specs.ExclusiveOr.{exclusive_or}
-use Rattle.ring_encrypt.specs.Capsule.{Key, Sealed}
+use Rattle.ring_encrypt.specs.Capsule.{key_of_seed, capsule_of}
 use Rattle.ring_encrypt.specs.Opening.{IsMessage, opened}
 
 -- a body under the mask that is drawn from m, or out from under it
 abbrev pub masked : List ℕ → List ℕ → List ℕ
-masked m body = exclusive_or body (Stream (Hash LayerStream (m ∷ [])) (length body))
+masked m body = exclusive_or body (stream_of (hash_of LayerStream (m ∷ [])) (length body))
 
 -- the layer of m and a body under a key: the capsule of m, the check value, the masked body
-unfoldable pub Layered : List ℕ → List ℕ → List ℕ → List ℕ
-Layered key m body = Sealed key m ++ Hash LayerTag (m ∷ masked m body ∷ []) ++ masked m body
+unfoldable pub layer_of : List ℕ → List ℕ → List ℕ → List ℕ
+layer_of key m body = capsule_of key m ++ hash_of LayerTag (m ∷ masked m body ∷ []) ++ masked m body
 
 -- under the key of a seed, these bytes are the layer of m and a body
 pub record Opens (seed layer m body : List ℕ) : Type 0 where
   pub message : IsMessage m
-  pub is : layer ≡ Layered (Key seed) m body
+  pub is : layer ≡ layer_of (key_of_seed seed) m body
 
 -- What a seed finds in bytes: what its key's capsule opens to and the body out from under that mask, if the layer of these is these very bytes
 unfoldable pub peeled : List ℕ → List ℕ → Option (List ℕ × List ℕ)
 peeled seed layer =
     option_and_then (λ m.
     let body = masked m (drop 2272 layer) in
-    if bytes_eq layer (Layered (Key seed) m body) then Some (m, body) else None) (opened seed (take 2240 layer))
+    if bytes_eq layer (layer_of (key_of_seed seed) m body) then Some (m, body) else None) (opened seed (take 2240 layer))
 
 -- layer upon layer, the first key outermost
-unfoldable pub Wrapped : List (List ℕ) → List (List ℕ) → List ℕ → List ℕ
-Wrapped (key ∷ keys) (m ∷ ms) blob = Layered key m (Wrapped keys ms blob)
-Wrapped _ _ blob = blob
+unfoldable pub wrapping_of : List (List ℕ) → List (List ℕ) → List ℕ → List ℕ
+wrapping_of (key ∷ keys) (m ∷ ms) blob = layer_of key m (wrapping_of keys ms blob)
+wrapping_of _ _ blob = blob
 
 -- Peeling by one seed after the other: what each layer carries sealed, and what is left
 unfoldable pub opened_through : List (List ℕ) → List ℕ → Option (List (List ℕ) × List ℕ)

@@ -2,7 +2,7 @@
 
 ghost use Rattle.std.specs.Prelude.{◌≡◌, ◌<◌, ◌^◌, ◌∷◌, [], length, IfOk};
 ghost use Rattle.wire_core.specs.declared.tag.Tag.TheVariants.{LayerStream, LayerTag};
-ghost use Rattle.wire_core.specs.Hash.{Hash};
+ghost use Rattle.wire_core.specs.Hash.{hash_of};
 ghost use Rattle.layer_cipher.specs.Layer.{masked};
 
 use pad_stream::{stream, xor_into};
@@ -22,7 +22,7 @@ pub(crate) fn mask(alloc: Global, m: &[u8; 32], body: &[u8]) -> Result<Vec<u8>, 
 /// The check value of m and a masked body.
 pub(crate) fn check_value(m: &[u8; 32], masked: &[u8]) -> [u8; 32]
     requires { length masked.now < 2 ^ 32 }
-    ensures { result ≡ Hash LayerTag (m.now ∷ masked.now ∷ []) }
+    ensures { result ≡ hash_of LayerTag (m.now ∷ masked.now ∷ []) }
 {
     let mut register = Register::new(Tag::LayerTag);
     register.piece(m);
@@ -32,7 +32,7 @@ pub(crate) fn check_value(m: &[u8; 32], masked: &[u8]) -> [u8; 32]
 
 // What the mask is drawn from.
 fn mask_key(m: &[u8; 32]) -> [u8; 32]
-    ensures { result ≡ Hash LayerStream (m.now ∷ []) }
+    ensures { result ≡ hash_of LayerStream (m.now ∷ []) }
 {
     let mut register = Register::new(Tag::LayerStream);
     register.piece(m);

@@ -1,7 +1,7 @@
 //! Sealing a body in a layer, and in many.
 
 ghost use Rattle.std.specs.Prelude.{◌≡◌, ◌<◌, ◌+◌, ◌*◌, ◌^◌, length, vec_len, IfOk};
-ghost use Rattle.layer_cipher.specs.Layer.{Layered, Wrapped};
+ghost use Rattle.layer_cipher.specs.Layer.{layer_of, wrapping_of};
 
 use crate::mask::{check_value, mask};
 use ring_encrypt::{PublicKey, seal_seed};
@@ -20,7 +20,7 @@ pub fn seal(
     body: &[u8],
 ) -> Result<Vec<u8>, AllocError>
     requires { length body.now < 2 ^ 32 }
-    ensures { IfOk result (λ layer. layer.items ≡ Layered key.now m.now body.now) }
+    ensures { IfOk result (λ layer. layer.items ≡ layer_of key.now m.now body.now) }
 {
     let masked = mask(alloc, m, body)?;
     let mut layer = Vec::with_capacity(alloc, body.len() + LAYER_BYTES)?;
@@ -40,7 +40,7 @@ pub fn wrap(
 ) -> Result<Vec<u8>, AllocError>
     requires as_many { vec_len keys.now ≡ vec_len seeds.now }
     requires length { length blob.now + 2272 * vec_len keys.now < 2 ^ 32 }
-    ensures { IfOk result (λ layers. layers.items ≡ Wrapped keys.now.items seeds.now.items blob.now) }
+    ensures { IfOk result (λ layers. layers.items ≡ wrapping_of keys.now.items seeds.now.items blob.now) }
 {
     let mut layers = Vec::from_slice(alloc, blob)?;
     let mut k = keys.len();

@@ -3,7 +3,7 @@
 use Rattle.std.specs.Prelude.{◌==◌, ℕ, zero, suc, ◌+◌, ◌-◌, ◌*◌, ◌/◌, ◌%◌, ◌^◌, ◌<◌, List, [], ◌∷◌, ◌++◌, take, if◌then◌else◌}
 use Rattle.sha2.specs.Sha256.{sha256}
 use Rattle.wire_core.specs.declared.tag.Tag.TheVariants.{LmsIdentifier, LmsSeed}
-use Rattle.wire_core.specs.Hash.{Hash}
+use Rattle.wire_core.specs.Hash.{hash_of}
 use Rattle.lm_ots.specs.declared.types.OtsType.{OtsType}
 use Rattle.lm_ots.specs.OneTime.{u32str}
 use Rattle.lm_ots.specs.Signing.{KeyParts, ots_public, ots_signature}
@@ -23,8 +23,8 @@ abbrev pub parts_of_master : LmsType → OtsType → List ℕ → SecretParts
 parts_of_master lms_type ots_type master = record {
   lms_type = lms_type;
   ots_type = ots_type;
-  identifier = take 16 (Hash LmsIdentifier (master ∷ []));
-  seed = Hash LmsSeed (master ∷ []);
+  identifier = take 16 (hash_of LmsIdentifier (master ∷ []));
+  seed = hash_of LmsSeed (master ∷ []);
 }
 
 -- the number of leaves

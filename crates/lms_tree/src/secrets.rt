@@ -1,7 +1,7 @@
 //! Secrets of trees: each gives its leaves away once, in runs.
 
 ghost use Rattle.std.specs.Prelude.{◌≡◌, ◌+◌, ◌<◌, ◌≤◌, ◌^◌, ◌∷◌, [], IfOk, IfErr, Err, take};
-ghost use Rattle.wire_core.specs.Hash.{Hash};
+ghost use Rattle.wire_core.specs.Hash.{hash_of};
 ghost use Rattle.wire_core.specs.declared.tag.Tag.TheVariants.{LmsIdentifier, LmsSeed};
 ghost use Rattle.lms_tree.specs.declared.secrets.ReserveRefusal.TheVariants.{Exhausted, Memory};
 ghost use Rattle.lms_tree.specs.Secret.{leaves, own_public, parts_of_master};
@@ -166,8 +166,8 @@ impl LmsSecret {
 
 /// The identifier I and the SEED of a master: the first 16 bytes of one hash of it, and another hash.
 pub fn parts_of_master(master: &[u8; 32]) -> ([u8; 16], [u8; 32])
-    ensures identifier { result.0 ≡ take 16 (Hash LmsIdentifier (master.now ∷ [])) }
-    ensures seed { result.1 ≡ Hash LmsSeed (master.now ∷ []) }
+    ensures identifier { result.0 ≡ take 16 (hash_of LmsIdentifier (master.now ∷ [])) }
+    ensures seed { result.1 ≡ hash_of LmsSeed (master.now ∷ []) }
 {
     let mut identifier = [0; 16];
     identifier.copy_from_slice(&hash_of(Tag::LmsIdentifier, master)[..16]);
@@ -176,7 +176,7 @@ pub fn parts_of_master(master: &[u8; 32]) -> ([u8; 16], [u8; 32])
 
 // The hash of a master under a tag.
 fn hash_of(tag: Tag, master: &[u8; 32]) -> [u8; 32]
-    ensures { result ≡ Hash tag (master.now ∷ []) }
+    ensures { result ≡ hash_of tag (master.now ∷ []) }
 {
     let mut register = Register::new(tag);
     register.piece(master);

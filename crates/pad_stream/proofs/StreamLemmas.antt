@@ -8,8 +8,8 @@ use Rattle.sha2.specs.Sha256.{sha256}
 use Rattle.rand_core.specs.Steps.{word_bytes, fill_via_u32}
 use Rattle.rand_chacha.specs.ChaCha.{ChaCha, next_word, of_seed, key_of}
 use Rattle.wire_core.specs.declared.tag.Tag.TheVariants.{PadStream, PadHash}
-use Rattle.wire_core.specs.Hash.{magic, tag_number, hashed, Hash}
-use Rattle.pad_stream.specs.Stream.{word_of, byte_of, bytes_from, Stream, Pad}
+use Rattle.wire_core.specs.Hash.{magic, tag_number, hashed, hash_of}
+use Rattle.pad_stream.specs.Stream.{word_of, byte_of, bytes_from, stream_of, pad_of}
 
 pub length-bytes_from : (key : List ℕ) (place count : ℕ) → length (bytes_from key place count) ≡ count
 unfolding bytes_from
@@ -83,19 +83,19 @@ filled_at key place count from made set small short is-made is-from is-set =
     rw (is-set, is-made, is-from) (filled key place count small short)
 
 -- no bytes yet
-pub Stream-none : (key : List ℕ) (count : ℕ) → count ≡ 0 → Stream key count ≡ []
-Stream-none key count none = rw none (bytes_from-none key 0)
+pub stream_of-none : (key : List ℕ) (count : ℕ) → count ≡ 0 → stream_of key count ≡ []
+stream_of-none key count none = rw none (bytes_from-none key 0)
 
 -- bytes that follow those so far
-pub Stream-more : (key front part : List ℕ) (place count more all : ℕ) → 4 * place ≡ count → count + more ≡ all
-    → part ≡ bytes_from key (4 * place) more → (front ++ Stream key count) ++ part ≡ front ++ Stream key all
-Stream-more key front part place count more all at sum drawn =
+pub stream_of-more : (key front part : List ℕ) (place count more all : ℕ) → 4 * place ≡ count → count + more ≡ all
+    → part ≡ bytes_from key (4 * place) more → (front ++ stream_of key count) ++ part ≡ front ++ stream_of key all
+stream_of-more key front part place count more all at sum drawn =
     let whole : bytes_from key 0 (count + more) ≡ bytes_from key 0 count ++ bytes_from key (4 * place) more = bytes_from-add key 0 count (4 * place) more (omega arith) in
     rw (← sum, whole, drawn, append_assoc) refl
 
 -- a part of the bytes
-pub between-Stream : (key : List ℕ) (from count all : ℕ) → from + count ≤ all → take count (drop from (Stream key all)) ≡ bytes_from key from count
-between-Stream key from count all within =
+pub between-stream_of : (key : List ℕ) (from count all : ℕ) → from + count ≤ all → take count (drop from (stream_of key all)) ≡ bytes_from key from count
+between-stream_of key from count all within =
     let rest : all ≡ from + (all - from) = omega arith in
     let whole : bytes_from key 0 (from + (all - from)) ≡ bytes_from key 0 from ++ bytes_from key from (all - from) = bytes_from-add key 0 from from (all - from) (omega arith) in
     let front : drop from (bytes_from key 0 from ++ bytes_from key from (all - from)) ≡ bytes_from key from (all - from) = drop_at (bytes_from key 0 from) (bytes_from key from (all - from)) from (length-bytes_from key 0 from) in
@@ -108,17 +108,17 @@ take-add xs from count within =
     rw (front, take-append-drop from xs) at whole
 
 -- a part of drawn bytes is drawn
-pub part-drawn : (key sent : List ℕ) (place from to : ℕ) → 4 * place ≡ from → from ≤ to → to ≤ length sent → sent ≡ Stream key (length sent)
+pub part-drawn : (key sent : List ℕ) (place from to : ℕ) → 4 * place ≡ from → from ≤ to → to ≤ length sent → sent ≡ stream_of key (length sent)
     → let part = take (to - from) (drop from sent) in part ≡ bytes_from key (4 * place) (length part)
 part-drawn key sent place from to at order within drawn =
     let long : length (take (to - from) (drop from sent)) ≡ to - from = length-take-le (to - from) (drop from sent) (omega (arith, length-drop from sent)) in
-    let part : take (to - from) (drop from (Stream key (length sent))) ≡ bytes_from key from (to - from) = between-Stream key from (to - from) (length sent) (omega arith) in
+    let part : take (to - from) (drop from (stream_of key (length sent))) ≡ bytes_from key from (to - from) = between-stream_of key from (to - from) (length sent) (omega arith) in
     rw (long, at, ← part) (ap (λ (xs : List ℕ). take (to - from) (drop from xs)) drawn)
 
 -- drawn bytes with a drawn part after them are drawn
-pub part-after-drawn : (key sent : List ℕ) (place from to : ℕ) → 4 * place ≡ from → from ≤ to → to ≤ length sent → take from sent ≡ Stream key from
+pub part-after-drawn : (key sent : List ℕ) (place from to : ℕ) → 4 * place ≡ from → from ≤ to → to ≤ length sent → take from sent ≡ stream_of key from
     → (let part = take (to - from) (drop from sent) in part ≡ bytes_from key (4 * place) (length part))
-    → take to sent ≡ Stream key to
+    → take to sent ≡ stream_of key to
 part-after-drawn key sent place from to at order within before drawn =
     let long : length (take (to - from) (drop from sent)) ≡ to - from = length-take-le (to - from) (drop from sent) (omega (arith, length-drop from sent)) in
     let part : take (to - from) (drop from sent) ≡ bytes_from key from (to - from) = rw (long, at) at drawn in
@@ -128,8 +128,8 @@ part-after-drawn key sent place from to at order within before drawn =
     rw (← sum, split, whole, before, part) refl
 
 -- what is hashed for the hash of a pad
-pub sha256-pad : (seed key length_bytes : List ℕ) (number count : ℕ) → number ≡ tag_number PadHash → length_bytes ≡ to_be_bytes w32 count → key ≡ Hash PadStream (seed ∷ [])
-    → sha256 ((magic ++ number ∷ length_bytes) ++ Stream key count) ≡ Hash PadHash (Pad seed count ∷ [])
-unfolding Hash hashed
+pub sha256-pad : (seed key length_bytes : List ℕ) (number count : ℕ) → number ≡ tag_number PadHash → length_bytes ≡ to_be_bytes w32 count → key ≡ hash_of PadStream (seed ∷ [])
+    → sha256 ((magic ++ number ∷ length_bytes) ++ stream_of key count) ≡ hash_of PadHash (pad_of seed count ∷ [])
+unfolding hash_of hashed
 sha256-pad seed key length_bytes number count is-number are-bytes is-key =
-    rw (is-number, are-bytes, is-key, length-bytes_from (Hash PadStream (seed ∷ [])) 0 count, append-nil (Stream (Hash PadStream (seed ∷ [])) count)) refl
+    rw (is-number, are-bytes, is-key, length-bytes_from (hash_of PadStream (seed ∷ [])) 0 count, append-nil (stream_of (hash_of PadStream (seed ∷ [])) count)) refl

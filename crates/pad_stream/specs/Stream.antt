@@ -4,7 +4,7 @@ use Rattle.std.specs.List.{range_with_len}
 use Rattle.std.specs.Int.{w32, to_le_bytes}
 use Rattle.rand_chacha.specs.ChaCha.{word_at, key_of}
 use Rattle.wire_core.specs.declared.tag.Tag.TheVariants.{PadStream}
-use Rattle.wire_core.specs.Hash.{Hash}
+use Rattle.wire_core.specs.Hash.{hash_of}
 
 -- the word at a place of what ChaCha20 gives for the key, in its stream number 0
 abbrev pub word_of : List ℕ → ℕ → ℕ
@@ -19,13 +19,13 @@ unfoldable pub bytes_from : List ℕ → ℕ → ℕ → List ℕ
 bytes_from key place count = map (byte_of key) (range_with_len place count)
 
 -- the first bytes that are drawn from the key
-abbrev pub Stream : List ℕ → ℕ → List ℕ
-Stream key count = bytes_from key 0 count
+abbrev pub stream_of : List ℕ → ℕ → List ℕ
+stream_of key count = bytes_from key 0 count
 
 -- the pad of a seed: the bytes that are drawn from the seed's hash
-abbrev pub Pad : List ℕ → ℕ → List ℕ
-Pad seed count = Stream (Hash PadStream (seed ∷ [])) count
+abbrev pub pad_of : List ℕ → ℕ → List ℕ
+pad_of seed count = stream_of (hash_of PadStream (seed ∷ [])) count
 
 -- so many bytes are drawn as are asked for
 abbrev pub StreamIsAsLong : Type 0
-StreamIsAsLong = (key : List ℕ) (count : ℕ) → length (Stream key count) ≡ count
+StreamIsAsLong = (key : List ℕ) (count : ℕ) → length (stream_of key count) ≡ count

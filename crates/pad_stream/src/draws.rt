@@ -1,7 +1,7 @@
 //! Bytes that are drawn from a key.
 
 ghost use Rattle.std.specs.Prelude.{◌≡◌, ◌*◌, length, IfOk};
-ghost use Rattle.pad_stream.specs.Stream.{Stream, bytes_from, StreamIsAsLong};
+ghost use Rattle.pad_stream.specs.Stream.{stream_of, bytes_from, StreamIsAsLong};
 
 use rand_chacha::ChaCha20Rng;
 use rand_core::{Rng, SeedableRng};
@@ -10,7 +10,7 @@ use std::alloc::{AllocError, Global};
 /// The first `length` bytes that are drawn from a key: the words of ChaCha20 (RFC 8439, with a
 /// counter of 64 bits) for this key and a nonce of zeros, each as four bytes, low byte first.
 pub fn stream(alloc: Global, key: &[u8; 32], length: u32) -> Result<Vec<u8>, AllocError>
-    ensures { IfOk result (λ bytes. bytes.items ≡ Stream key.now length) }
+    ensures { IfOk result (λ bytes. bytes.items ≡ stream_of key.now length) }
 {
     let mut bytes = vec![in alloc; 0; length as usize]?;
     draw(key, 0, &mut bytes);

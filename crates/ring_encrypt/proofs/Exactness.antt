@@ -6,7 +6,7 @@ use Rattle.std.proofs.lemmas.Slice.Eq.{bytes_eq-Decides}
 use Rattle.std.proofs.lemmas.List.{get_or_past}
 use Rattle.std.proofs.lemmas.List.FromFn.{length-map-range_with_len, get_or-map-range_with_len}
 use Rattle.std.proofs.lemmas.Bool.{cases_lt}
-use Rattle.ring_encrypt.specs.Capsule.{Key, Sealed}
+use Rattle.ring_encrypt.specs.Capsule.{key_of_seed, capsule_of}
 use Rattle.ring_encrypt.specs.Opening.{IsMessage, number_of_bits, opened_bit, message_of, decoded, opened, OpensExactly, CapsuleDetermines, KeyOpens}
 use Rattle.ring_encrypt.proofs.BitLemmas.{bits-below}
 use Rattle.ring_encrypt.proofs.OpeningLemmas.{opened_bit_small, sealed_is_decoded}
@@ -43,12 +43,12 @@ unfolding opened
 opens_exactly seed capsule m = (
   λ e.
       let read = decoded seed capsule in
-      let c = chosen (bytes_eq capsule (Sealed (Key seed) read)) read m e in
-      let same : capsule ≡ Sealed (Key seed) read = (bytes_eq-Decides capsule (Sealed (Key seed) read)).0 c.0 in
-      (subst (λ (x : List ℕ). IsMessage x) c.1 (decoded_is_message seed capsule), same ∙ ap (λ (x : List ℕ). Sealed (Key seed) x) c.1),
+      let c = chosen (bytes_eq capsule (capsule_of (key_of_seed seed) read)) read m e in
+      let same : capsule ≡ capsule_of (key_of_seed seed) read = (bytes_eq-Decides capsule (capsule_of (key_of_seed seed) read)).0 c.0 in
+      (subst (λ (x : List ℕ). IsMessage x) c.1 (decoded_is_message seed capsule), same ∙ ap (λ (x : List ℕ). capsule_of (key_of_seed seed) x) c.1),
   λ h.
       let read : decoded seed capsule ≡ m = rw h.1 (sealed_is_decoded seed m h.0) in
-      let test : bytes_eq capsule (Sealed (Key seed) m) ≡ true = (bytes_eq-Decides capsule (Sealed (Key seed) m)).1 h.1 in
+      let test : bytes_eq capsule (capsule_of (key_of_seed seed) m) ≡ true = (bytes_eq-Decides capsule (capsule_of (key_of_seed seed) m)).1 h.1 in
       rw (read, test) refl,
 )
 
@@ -66,10 +66,10 @@ none_from None h = refl
 none_from (Some x) h = absurd (h x refl)
 
 -- what opens under one seed opens under another of the same key
-opens_there : (seed seed' capsule m : List ℕ) → Key seed ≡ Key seed' → opened seed capsule ≡ Some m → opened seed' capsule ≡ Some m
+opens_there : (seed seed' capsule m : List ℕ) → key_of_seed seed ≡ key_of_seed seed' → opened seed capsule ≡ Some m → opened seed' capsule ≡ Some m
 opens_there seed seed' capsule m same e =
     let h = (opens_exactly seed capsule m).0 e in
-    (opens_exactly seed' capsule m).1 (h.0, h.1 ∙ ap (λ (key : List ℕ). Sealed key m) same)
+    (opens_exactly seed' capsule m).1 (h.0, h.1 ∙ ap (λ (key : List ℕ). capsule_of key m) same)
 
 pub key_opens : KeyOpens
 key_opens seed seed' capsule same =
@@ -79,17 +79,17 @@ key_opens seed seed' capsule same =
 
 -- ---- what the code finds
 -- nothing opens where no message has this capsule
-pub opens_nothing : (seed capsule : List ℕ) → ((m : List ℕ) → capsule ≢ Sealed (Key seed) m) → opened seed capsule ≡ None
+pub opens_nothing : (seed capsule : List ℕ) → ((m : List ℕ) → capsule ≢ capsule_of (key_of_seed seed) m) → opened seed capsule ≡ None
 opens_nothing seed capsule none =
     none_from (opened seed capsule) (λ m e. none m ((opens_exactly seed capsule m).0 e).1)
 
 -- the test by sealing again
-pub opened_by_test : (seed capsule m again : List ℕ) → m ≡ decoded seed capsule → again ≡ Sealed (Key seed) m → opened seed capsule ≡ cond (bytes_eq capsule again) (Some m) None
+pub opened_by_test : (seed capsule m again : List ℕ) → m ≡ decoded seed capsule → again ≡ capsule_of (key_of_seed seed) m → opened seed capsule ≡ cond (bytes_eq capsule again) (Some m) None
 unfolding opened
 opened_by_test seed capsule m again is-m is-again = rw (is-again, is-m) refl
 
 -- both sides of what `open_seed` promises
 pub opened_to : (seed capsule : List ℕ) (r : Option (List ℕ)) → r ≡ opened seed capsule
-    → IfSome r (λ m. IsMessage m × (capsule ≡ Sealed (Key seed) m)) × IfNone r ((m : List ℕ) → IsMessage m → capsule ≢ Sealed (Key seed) m)
+    → IfSome r (λ m. IsMessage m × (capsule ≡ capsule_of (key_of_seed seed) m)) × IfNone r ((m : List ℕ) → IsMessage m → capsule ≢ capsule_of (key_of_seed seed) m)
 opened_to seed capsule (Some m) e = ((opens_exactly seed capsule m).0 (sym e), tt)
 opened_to seed capsule None e = (tt, λ m is same. let there = (opens_exactly seed capsule m).1 (is, same) in let here = e in cc)

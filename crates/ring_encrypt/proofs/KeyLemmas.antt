@@ -4,17 +4,17 @@ use Rattle.std.proofs.lemmas.List.{take_all, drop_all, length-drop, take_at, dro
 use Rattle.ring_poly.specs.declared.packing.CoefficientTooLarge.{CoefficientTooLarge}
 use Rattle.ring_poly.specs.Packing.{packed, unpacked, read_packed, unless_too_large, first_too_large}
 use Rattle.ring_poly.specs.Residue.{residue}
-use Rattle.ring_poly.specs.Product.{IsPolynomial, Product}
+use Rattle.ring_poly.specs.Product.{IsPolynomial, product_of}
 use Rattle.ring_poly.proofs.Packings.{packed_is_read_back}
-use Rattle.ring_poly.proofs.Products.{length-Sum}
+use Rattle.ring_poly.proofs.Products.{length-sum_of}
 use Rattle.wire_core.specs.declared.tag.Tag.TheVariants.{RingPublic}
-use Rattle.wire_core.specs.Hash.{Hash}
+use Rattle.wire_core.specs.Hash.{hash_of}
 use Rattle.wire_core.proofs.ByteLists.{hash_bytes}
 use Rattle.ring_encrypt.specs.Draws.{uniform}
-use Rattle.ring_encrypt.specs.Capsule.{Key, secret_of, error_of, masked_secret}
+use Rattle.ring_encrypt.specs.Capsule.{key_of_seed, secret_of, error_of, masked_secret}
 use Rattle.ring_encrypt.specs.Opening.{KeyIsPublicKey}
 use Rattle.ring_encrypt.specs.PublicKey.{IsPublicKey}
-use Rattle.ring_encrypt.proofs.OpeningLemmas.{read_gives, Sum-reduced}
+use Rattle.ring_encrypt.proofs.OpeningLemmas.{read_gives, sum_of-reduced}
 
 -- the rest of the bytes, as the code takes it
 back_of : (bytes : List ℕ) (n : ℕ) → length bytes ≤ n + 32 → take n (drop 32 bytes) ≡ drop 32 bytes
@@ -55,12 +55,12 @@ key_of_parts rho b long polynomial =
     }
 
 pub key_is_public_key : KeyIsPublicKey
-unfolding Key
+unfolding key_of_seed
 key_is_public_key seed =
-    let product = Product (uniform (Hash RingPublic (seed ∷ []))) (secret_of seed) in
+    let product = product_of (uniform (hash_of RingPublic (seed ∷ []))) (secret_of seed) in
     let error = map residue (error_of seed) in
-    key_of_parts (Hash RingPublic (seed ∷ [])) (masked_secret seed) (hash_bytes RingPublic (seed ∷ [])).0
-    (record { length = length-Sum product error; reduced = Sum-reduced product error })
+    key_of_parts (hash_of RingPublic (seed ∷ [])) (masked_secret seed) (hash_bytes RingPublic (seed ∷ [])).0
+    (record { length = length-sum_of product error; reduced = sum_of-reduced product error })
 
 -- ---- two byte strings that are written one after the other
 pub joined : (front back bytes : List ℕ) (k : ℕ) → length front + length back ≡ length bytes → length bytes ≤ length front + k

@@ -10,19 +10,19 @@ use Rattle.std.proofs.lemmas.List.Elements.{All-from_get_or}
 use Rattle.std.proofs.lemmas.List.FromFn.{fill_by_all, length-map-range_with_len, get_or-map-range_with_len}
 use Rattle.std.proofs.Math.Nat.{mod-eq_of_lt}
 use Rattle.ring_poly.specs.Residue.{residue}
-use Rattle.ring_poly.specs.Product.{IsTernary, Product, Sum, coefficient, product_at}
+use Rattle.ring_poly.specs.Product.{IsTernary, product_of, sum_of, coefficient, product_at}
 use Rattle.ring_poly.specs.Packing.{packed, unpacked, read_packed, unless_too_large, first_too_large}
 use Rattle.ring_poly.proofs.Residues.{residue_below, residue_masked, residue_near_zero, residue_near_half}
 use Rattle.ring_poly.proofs.Integers.{abs-add, abs-sub, add-zero_right}
 use Rattle.ring_poly.specs.declared.packing.CoefficientTooLarge.{CoefficientTooLarge}
 use Rattle.ring_poly.proofs.Packings.{packed_is_read_back}
-use Rattle.ring_poly.proofs.Products.{length-Sum, get_or-Sum}
+use Rattle.ring_poly.proofs.Products.{length-sum_of, get_or-sum_of}
 use Rattle.ring_poly.proofs.ProductLaws.{product_is_small, mask_cancels}
 use Rattle.wire_core.specs.declared.tag.Tag.TheVariants.{RingPublic, RingSecret, RingCoins}
-use Rattle.wire_core.specs.Hash.{Hash}
+use Rattle.wire_core.specs.Hash.{hash_of}
 use Rattle.wire_core.proofs.ByteLists.{hash_bytes}
 use Rattle.ring_encrypt.specs.Draws.{uniform, ternary}
-use Rattle.ring_encrypt.specs.Capsule.{secret_of, error_of, masked_secret, Key, message_bit, carried, sealed_with, Sealed}
+use Rattle.ring_encrypt.specs.Capsule.{secret_of, error_of, masked_secret, key_of_seed, message_bit, carried, sealed_with, capsule_of}
 use Rattle.ring_encrypt.specs.Opening.{IsMessage, number_of_bits, bit_of_coefficient, opened_bit, message_of, decoded, SealedIsDecoded, SealedIsAsLong}
 use Rattle.ring_encrypt.proofs.BitLemmas.{bits-of, bits-same}
 use Rattle.ring_encrypt.proofs.Trits.{ternary_is_ternary, length-uniform}
@@ -63,8 +63,8 @@ bit_read x y bit e z hidden small binary =
     rw (apart, left, whole) (bit_of_noise (z +ℤ e) bit small binary)
 
 -- ---- the parts of a key and of a capsule
-pub Sum-reduced : (f g : List ℕ) → All (λ c. c < 12289) (Sum f g)
-Sum-reduced f g = All-from_get_or (λ c. c < 12289) (Sum f g) 0 (λ k h. let below : k < 1024 = omega (arith, length-Sum f g) in rw (get_or-Sum f g k below) (residue_below (pos (slice_index f k) +ℤ pos (slice_index g k))))
+pub sum_of-reduced : (f g : List ℕ) → All (λ c. c < 12289) (sum_of f g)
+sum_of-reduced f g = All-from_get_or (λ c. c < 12289) (sum_of f g) 0 (λ k h. let below : k < 1024 = omega (arith, length-sum_of f g) in rw (get_or-sum_of f g k below) (residue_below (pos (slice_index f k) +ℤ pos (slice_index g k))))
 
 length-carried : (product : List ℕ) (error : List ℤ) (m : List ℕ) → length (carried product error m) ≡ 256
 unfolding carried
@@ -113,28 +113,28 @@ read_gives bytes f e = read_cases (unpacked bytes) f (first_too_large 0 (unpacke
 
 -- what a capsule's parts are: a r + d, and what carries the message
 pub u_of : List ℕ → List ℕ → List ℕ
-u_of coins a = Sum (Product a (ternary coins 0)) (map residue (ternary coins 64))
+u_of coins a = sum_of (product_of a (ternary coins 0)) (map residue (ternary coins 64))
 
 pub v_of : List ℕ → List ℕ → List ℕ → List ℕ
-v_of coins b m = carried (Product b (ternary coins 0)) (ternary coins 128) m
+v_of coins b m = carried (product_of b (ternary coins 0)) (ternary coins 128) m
 
 pub sealed_parts : (coins a b m : List ℕ) → Parts (sealed_with coins a b m) (u_of coins a) (v_of coins b m)
 unfolding sealed_with u_of v_of
 sealed_parts coins a b m =
     parts_of (u_of coins a) (v_of coins b m)
-    (length-Sum (Product a (ternary coins 0)) (map residue (ternary coins 64)))
-    (Sum-reduced (Product a (ternary coins 0)) (map residue (ternary coins 64)))
-    (length-carried (Product b (ternary coins 0)) (ternary coins 128) m)
-    (carried-reduced (Product b (ternary coins 0)) (ternary coins 128) m)
+    (length-sum_of (product_of a (ternary coins 0)) (map residue (ternary coins 64)))
+    (sum_of-reduced (product_of a (ternary coins 0)) (map residue (ternary coins 64)))
+    (length-carried (product_of b (ternary coins 0)) (ternary coins 128) m)
+    (carried-reduced (product_of b (ternary coins 0)) (ternary coins 128) m)
 
 -- the key of a seed, taken apart
-key_front : (seed : List ℕ) → take 32 (Key seed) ≡ Hash RingPublic (seed ∷ [])
-unfolding Key
-key_front seed = take_at (Hash RingPublic (seed ∷ [])) (packed (masked_secret seed)) 32 (hash_bytes RingPublic (seed ∷ [])).0
+key_front : (seed : List ℕ) → take 32 (key_of_seed seed) ≡ hash_of RingPublic (seed ∷ [])
+unfolding key_of_seed
+key_front seed = take_at (hash_of RingPublic (seed ∷ [])) (packed (masked_secret seed)) 32 (hash_bytes RingPublic (seed ∷ [])).0
 
-key_back : (seed : List ℕ) → drop 32 (Key seed) ≡ packed (masked_secret seed)
-unfolding Key
-key_back seed = drop_at (Hash RingPublic (seed ∷ [])) (packed (masked_secret seed)) 32 (hash_bytes RingPublic (seed ∷ [])).0
+key_back : (seed : List ℕ) → drop 32 (key_of_seed seed) ≡ packed (masked_secret seed)
+unfolding key_of_seed
+key_back seed = drop_at (hash_of RingPublic (seed ∷ [])) (packed (masked_secret seed)) 32 (hash_bytes RingPublic (seed ∷ [])).0
 
 -- ---- the noise
 -- e r + e' - d s, for five drawn polynomials of -1, 0 and 1
@@ -149,11 +149,11 @@ noise_small e r d s e' c te tr td ts te' h =
 
 -- a bit of what was sealed with any coins
 bit_opened : (coins a m : List ℕ) (s e : List ℤ) (c : ℕ) → length a ≡ 1024 → IsTernary s → IsTernary e → c < 256
-    → let b = Sum (Product a s) (map residue e) in
-    opened_bit (v_of coins b m) (Product (u_of coins a) s) c ≡ message_bit m c
+    → let b = sum_of (product_of a s) (map residue e) in
+    opened_bit (v_of coins b m) (product_of (u_of coins a) s) c ≡ message_bit m c
 unfolding v_of u_of
 bit_opened coins a m s e c long ts te h =
-    let b = Sum (Product a s) (map residue e) in
+    let b = sum_of (product_of a s) (map residue e) in
     let r = ternary coins 0 in
     let d = ternary coins 64 in
     let e' = ternary coins 128 in
@@ -161,11 +161,11 @@ bit_opened coins a m s e c long ts te h =
     let td = ternary_is_ternary coins 64 in
     let te' = ternary_is_ternary coins 128 in
     let below : c < 1024 = omega arith in
-    let hidden : residue (pos (slice_index (Product b r) c) -ℤ pos (slice_index (Product (u_of coins a) s) c)) ≡ residue (product_at e r c -ℤ product_at d s c)
+    let hidden : residue (pos (slice_index (product_of b r) c) -ℤ pos (slice_index (product_of (u_of coins a) s) c)) ≡ residue (product_at e r c -ℤ product_at d s c)
     = mask_cancels a s r e d c long ts.length tr.length te.length td.length below in
     let small = noise_small e r d s e' c te tr td ts te' below in
-    let at : slice_index (v_of coins b m) c ≡ residue (pos (slice_index (Product b r) c) +ℤ coefficient e' c +ℤ pos (6144 * message_bit m c)) = get_or-carried (Product b r) e' m c h in
-    rw at (bit_read (slice_index (Product b r) c) (slice_index (Product (u_of coins a) s) c) (message_bit m c) (coefficient e' c) (product_at e r c -ℤ product_at d s c) hidden small (bit_at-lt (slice_index m (c / 8)) (c % 8)))
+    let at : slice_index (v_of coins b m) c ≡ residue (pos (slice_index (product_of b r) c) +ℤ coefficient e' c +ℤ pos (6144 * message_bit m c)) = get_or-carried (product_of b r) e' m c h in
+    rw at (bit_read (slice_index (product_of b r) c) (slice_index (product_of (u_of coins a) s) c) (message_bit m c) (coefficient e' c) (product_at e r c -ℤ product_at d s c) hidden small (bit_at-lt (slice_index m (c / 8)) (c % 8)))
 
 byte_from_bits : (m v us : List ℕ) → IsMessage m → ((c : ℕ) → c < 256 → opened_bit v us c ≡ message_bit m c) → (j : ℕ) → j < 32
     → number_of_bits (λ i. opened_bit v us (8 * j + i)) 8 ≡ get_or m j 0
@@ -188,28 +188,28 @@ message_from_bits m v us is bits =
 
 -- what is sealed under the key of a seed is read there
 pub sealed_is_decoded : SealedIsDecoded
-unfolding decoded Sealed
+unfolding decoded capsule_of
 sealed_is_decoded seed m is =
-    let key = Key seed in
-    let rho = Hash RingPublic (seed ∷ []) in
-    let coins = Hash RingCoins (key ∷ m ∷ []) in
+    let key = key_of_seed seed in
+    let rho = hash_of RingPublic (seed ∷ []) in
+    let coins = hash_of RingCoins (key ∷ m ∷ []) in
     let a = uniform rho in
     let b = masked_secret seed in
     let s = secret_of seed in
-    let read = packed_is_read_back 256 b (length-Sum (Product a s) (map residue (error_of seed))) (Sum-reduced (Product a s) (map residue (error_of seed))) in
+    let read = packed_is_read_back 256 b (length-sum_of (product_of a s) (map residue (error_of seed))) (sum_of-reduced (product_of a s) (map residue (error_of seed))) in
     let front : take 32 key ≡ rho = key_front seed in
     let back : unpacked (drop 32 key) ≡ b = rw (key_back seed) (read_gives (packed b) b read.1).0 in
     let parts = sealed_parts coins a b m in
     let u = read_gives (take 1792 (sealed_with coins a b m)) (u_of coins a) parts.first in
     let v = read_gives (drop 1792 (sealed_with coins a b m)) (v_of coins b m) parts.second in
-    rw (front, back, u.0, v.0) (message_from_bits m (v_of coins b m) (Product (u_of coins a) s) is (λ c h.
-    bit_opened coins a m s (error_of seed) c (length-uniform rho) (ternary_is_ternary (Hash RingSecret (seed ∷ [])) 0) (ternary_is_ternary (Hash RingSecret (seed ∷ [])) 64) h))
+    rw (front, back, u.0, v.0) (message_from_bits m (v_of coins b m) (product_of (u_of coins a) s) is (λ c h.
+    bit_opened coins a m s (error_of seed) c (length-uniform rho) (ternary_is_ternary (hash_of RingSecret (seed ∷ [])) 0) (ternary_is_ternary (hash_of RingSecret (seed ∷ [])) 64) h))
 
 -- a capsule's parts have no coefficient that is too large
-pub sealed_reads : (capsule key m : List ℕ) → capsule ≡ Sealed key m → ((x : CoefficientTooLarge) → read_packed (take 1792 capsule) ≡ Err x → ⊥) × ((x : CoefficientTooLarge) → read_packed (drop 1792 capsule) ≡ Err x → ⊥)
-unfolding Sealed
+pub sealed_reads : (capsule key m : List ℕ) → capsule ≡ capsule_of key m → ((x : CoefficientTooLarge) → read_packed (take 1792 capsule) ≡ Err x → ⊥) × ((x : CoefficientTooLarge) → read_packed (drop 1792 capsule) ≡ Err x → ⊥)
+unfolding capsule_of
 sealed_reads capsule key m e =
-    let coins = Hash RingCoins (key ∷ m ∷ []) in
+    let coins = hash_of RingCoins (key ∷ m ∷ []) in
     let parts = sealed_parts coins (uniform (take 32 key)) (unpacked (drop 32 key)) m in
     let first = parts.first in
     let second = parts.second in
@@ -217,13 +217,13 @@ sealed_reads capsule key m e =
 
 -- what the code reads is what is decoded
 pub reads_decoded : (seed capsule front back u v us m : List ℕ) → front ≡ take 1792 capsule → back ≡ drop 1792 capsule → read_packed front ≡ Ok u → read_packed back ≡ Ok v
-    → us ≡ Product u (secret_of seed) → m ≡ message_of v us → m ≡ decoded seed capsule
+    → us ≡ product_of u (secret_of seed) → m ≡ message_of v us → m ≡ decoded seed capsule
 unfolding decoded
 reads_decoded seed capsule front back u v us m is-front is-back first second product message =
     let is-u : unpacked (take 1792 capsule) ≡ u = (read_gives (take 1792 capsule) u (rw is-front at first)).0 in
     let is-v : unpacked (drop 1792 capsule) ≡ v = (read_gives (drop 1792 capsule) v (rw is-back at second)).0 in
     rw (message, product, is-u, is-v) refl
 
-pub length-Sealed : SealedIsAsLong
-unfolding Sealed
-length-Sealed key m = (sealed_parts (Hash RingCoins (key ∷ m ∷ [])) (uniform (take 32 key)) (unpacked (drop 32 key)) m).length
+pub length-capsule_of : SealedIsAsLong
+unfolding capsule_of
+length-capsule_of key m = (sealed_parts (hash_of RingCoins (key ∷ m ∷ [])) (uniform (take 32 key)) (unpacked (drop 32 key)) m).length

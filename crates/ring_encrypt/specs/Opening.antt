@@ -4,10 +4,10 @@ use Rattle.std.specs.List.{range_with_len}
 use Rattle.std.specs.Str.{bytes_eq}
 use Rattle.wire_core.specs.Bytes.{IsBytes}
 use Rattle.ring_poly.specs.Residue.{residue}
-use Rattle.ring_poly.specs.Product.{Product}
+use Rattle.ring_poly.specs.Product.{product_of}
 use Rattle.ring_poly.specs.Packing.{unpacked}
 use Rattle.ring_encrypt.specs.PublicKey.{IsPublicKey}
-use Rattle.ring_encrypt.specs.Capsule.{secret_of, Key, Sealed}
+use Rattle.ring_encrypt.specs.Capsule.{secret_of, key_of_seed, capsule_of}
 
 -- 32 bytes
 pub record IsMessage (m : List ℕ) : Type 0 where
@@ -33,36 +33,36 @@ message_of v us = map (λ j. number_of_bits (λ i. opened_bit v us (8 * j + i)) 
 -- what the seed reads in a capsule, without a test
 unfoldable pub decoded : List ℕ → List ℕ → List ℕ
 decoded seed capsule =
-    message_of (unpacked (drop 1792 capsule)) (Product (unpacked (take 1792 capsule)) (secret_of seed))
+    message_of (unpacked (drop 1792 capsule)) (product_of (unpacked (take 1792 capsule)) (secret_of seed))
 
 -- What a seed opens a capsule to: what it reads there, if that sealed under its key is this very capsule
 unfoldable pub opened : List ℕ → List ℕ → Option (List ℕ)
 opened seed capsule =
     let m = decoded seed capsule in
-    if bytes_eq capsule (Sealed (Key seed) m) then Some m else None
+    if bytes_eq capsule (capsule_of (key_of_seed seed) m) then Some m else None
 
 -- a seed opens exactly what is sealed under its key
 abbrev pub OpensExactly : Type 0
 OpensExactly = (seed capsule m : List ℕ) →
-    (opened seed capsule ≡ Some m) ↔ (IsMessage m × (capsule ≡ Sealed (Key seed) m))
+    (opened seed capsule ≡ Some m) ↔ (IsMessage m × (capsule ≡ capsule_of (key_of_seed seed) m))
 
 -- what is sealed under the key of a seed is read there, for every seed and message
 abbrev pub SealedIsDecoded : Type 0
-SealedIsDecoded = (seed m : List ℕ) → IsMessage m → decoded seed (Sealed (Key seed) m) ≡ m
+SealedIsDecoded = (seed m : List ℕ) → IsMessage m → decoded seed (capsule_of (key_of_seed seed) m) ≡ m
 
 -- a capsule under the key of a seed has one message
 abbrev pub CapsuleDetermines : Type 0
 CapsuleDetermines = (seed m m' : List ℕ) → IsMessage m → IsMessage m' →
-    Sealed (Key seed) m ≡ Sealed (Key seed) m' → m ≡ m'
+    capsule_of (key_of_seed seed) m ≡ capsule_of (key_of_seed seed) m' → m ≡ m'
 
 -- seeds of one key open alike
 abbrev pub KeyOpens : Type 0
-KeyOpens = (seed seed' capsule : List ℕ) → Key seed ≡ Key seed' → opened seed capsule ≡ opened seed' capsule
+KeyOpens = (seed seed' capsule : List ℕ) → key_of_seed seed ≡ key_of_seed seed' → opened seed capsule ≡ opened seed' capsule
 
 -- the key of a seed is a public key
 abbrev pub KeyIsPublicKey : Type 0
-KeyIsPublicKey = (seed : List ℕ) → IsPublicKey (Key seed)
+KeyIsPublicKey = (seed : List ℕ) → IsPublicKey (key_of_seed seed)
 
 -- a capsule has 2,240 bytes
 abbrev pub SealedIsAsLong : Type 0
-SealedIsAsLong = (key m : List ℕ) → length (Sealed key m) ≡ 2240
+SealedIsAsLong = (key m : List ℕ) → length (capsule_of key m) ≡ 2240

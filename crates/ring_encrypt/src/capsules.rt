@@ -2,10 +2,10 @@
 
 ghost use Rattle.std.specs.Prelude.{◌≡◌, ◌<◌, ◌≤◌, ◌*◌, ◌∷◌, [], length, All, map, slice_index, pos, ◌+ℤ◌};
 ghost use Rattle.wire_core.specs.declared.tag.Tag.TheVariants.{RingCoins};
-ghost use Rattle.wire_core.specs.Hash.{Hash};
+ghost use Rattle.wire_core.specs.Hash.{hash_of};
 ghost use Rattle.ring_poly.specs.Residue.{residue};
 ghost use Rattle.ring_poly.specs.Product.{IsTrit};
-ghost use Rattle.ring_encrypt.specs.Capsule.{Sealed, sealed_with, carried, message_bit};
+ghost use Rattle.ring_encrypt.specs.Capsule.{capsule_of, sealed_with, carried, message_bit};
 
 use crate::bytes::join;
 use crate::draws::{draw_ternary, draw_uniform};
@@ -56,7 +56,7 @@ pub fn read_capsule(b: &[u8]) -> Capsule
 /// Seals 32 bytes under a key, honest or not. All that is drawn comes from the key and the bytes,
 /// so equal bytes under equal keys have equal capsules.
 pub fn seal_seed(key: &PublicKey, m: &[u8; 32]) -> Capsule
-    ensures { result ≡ Sealed key.now m.now }
+    ensures { result ≡ capsule_of key.now m.now }
 {
     let coins = coins_of(key, m);
     seal_with(&coins, &draw_uniform(&key.rho()), &key.polynomial(), m)
@@ -64,7 +64,7 @@ pub fn seal_seed(key: &PublicKey, m: &[u8; 32]) -> Capsule
 
 // What all of a capsule's randomness is drawn from.
 fn coins_of(key: &PublicKey, m: &[u8; 32]) -> [u8; 32]
-    ensures { result ≡ Hash RingCoins (key.now ∷ m.now ∷ []) }
+    ensures { result ≡ hash_of RingCoins (key.now ∷ m.now ∷ []) }
 {
     let mut register = Register::new(Tag::RingCoins);
     register.piece(key.bytes());

@@ -1,8 +1,8 @@
 //! Seeds of keys, and opening by them.
 
 ghost use Rattle.std.specs.Prelude.{◌≡◌, ◌↔◌, ◌∷◌, [], ◌≢◌, IsTrue, IfSome, IfNone, ℕ, List};
-ghost use Rattle.wire_core.specs.Hash.{Hash};
-ghost use Rattle.ring_encrypt.specs.Capsule.{Key, Sealed};
+ghost use Rattle.wire_core.specs.Hash.{hash_of};
+ghost use Rattle.ring_encrypt.specs.Capsule.{key_of_seed, capsule_of};
 ghost use Rattle.ring_encrypt.specs.Opening.{opened, decoded, IsMessage};
 
 use crate::capsules::{Capsule, seal_seed};
@@ -23,13 +23,13 @@ pub struct KeySeed {
 
 impl Model for KeySeed {
     ghost use Rattle.std.specs.Prelude.{List, ℕ, ◌≡◌};
-    ghost use Rattle.ring_encrypt.specs.Capsule.{Key, secret_of};
+    ghost use Rattle.ring_encrypt.specs.Capsule.{key_of_seed, secret_of};
 
     ghost Value = { List ℕ };
 
     ghost view = { λ key. key.seed };
 
-    ghost invariant = { λ key. (key.public ≡ Key key.seed) × (key.secret ≡ secret_of key.seed) };
+    ghost invariant = { λ key. (key.public ≡ key_of_seed key.seed) × (key.secret ≡ secret_of key.seed) };
 }
 
 impl KeySeed {
@@ -52,7 +52,7 @@ impl KeySeed {
 
     /// The public key of the seed.
     pub fn public(&self) -> PublicKey
-        ensures { result ≡ Key self.now }
+        ensures { result ≡ key_of_seed self.now }
     {
         self.public
     }
@@ -75,7 +75,7 @@ impl KeySeed {
     // so that it is the capsule of nothing.
     fn read(&self, c: &Capsule) -> Option<[u8; 32]>
         ensures value { IfSome result (λ m. m ≡ decoded self.now c.now) }
-        ensures refused { IfNone result ((key m : List ℕ) → c.now ≢ Sealed key m) }
+        ensures refused { IfNone result ((key m : List ℕ) → c.now ≢ capsule_of key m) }
     {
         let bytes = c.bytes();
         let Ok(u) = unpack(&bytes[..1792]) else {
@@ -111,7 +111,7 @@ impl KeySeed {
 
 /// The public key of a seed.
 pub fn public_of(seed: &[u8; 32]) -> PublicKey
-    ensures { result ≡ Key seed.now }
+    ensures { result ≡ key_of_seed seed.now }
 {
     let key = KeySeed::new(*seed);
     let public = key.public();
@@ -121,7 +121,7 @@ pub fn public_of(seed: &[u8; 32]) -> PublicKey
 
 /// Whether a key is that of a seed.
 pub fn is_key_of(seed: &[u8; 32], key: &PublicKey) -> bool
-    ensures { IsTrue result ↔ (key.now ≡ Key seed.now) }
+    ensures { IsTrue result ↔ (key.now ≡ key_of_seed seed.now) }
 {
     public_of(seed).bytes() == key.bytes()
 }
@@ -130,8 +130,8 @@ pub fn is_key_of(seed: &[u8; 32], key: &PublicKey) -> bool
 /// and `None` exactly where it is that of no 32 bytes.
 pub fn open_seed(seed: &[u8; 32], c: &Capsule) -> Option<[u8; 32]>
     ensures value { result ≡ opened seed.now c.now }
-    ensures opens { IfSome result (λ m. IsMessage m × (c.now ≡ Sealed (Key seed.now) m)) }
-    ensures refuses { IfNone result ((m : List ℕ) → IsMessage m → c.now ≢ Sealed (Key seed.now) m) }
+    ensures opens { IfSome result (λ m. IsMessage m × (c.now ≡ capsule_of (key_of_seed seed.now) m)) }
+    ensures refuses { IfNone result ((m : List ℕ) → IsMessage m → c.now ≢ capsule_of (key_of_seed seed.now) m) }
 {
     let key = KeySeed::new(*seed);
     let m = key.open_with(c);
@@ -141,7 +141,7 @@ pub fn open_seed(seed: &[u8; 32], c: &Capsule) -> Option<[u8; 32]>
 
 // The hash of a seed under a tag.
 fn hash_of(tag: Tag, seed: &[u8; 32]) -> [u8; 32]
-    ensures { result ≡ Hash tag (seed.now ∷ []) }
+    ensures { result ≡ hash_of tag (seed.now ∷ []) }
 {
     let mut register = Register::new(tag);
     register.piece(seed);

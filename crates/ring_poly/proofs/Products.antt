@@ -6,7 +6,7 @@ use Rattle.std.proofs.lemmas.Bool.{cases_lt}
 use Rattle.std.proofs.lemmas.Nat.{mul-le}
 use Rattle.std.proofs.Common.{⊎_elim}
 use Rattle.ring_poly.specs.Residue.{residue}
-use Rattle.ring_poly.specs.Product.{by_place, coefficient, convolution, product_at, turned, Product, Sum, Difference}
+use Rattle.ring_poly.specs.Product.{by_place, coefficient, convolution, product_at, turned, product_of, sum_of, difference_of}
 use Rattle.ring_poly.proofs.Integers.{add-mul, abs-neg}
 use Rattle.ring_poly.proofs.Residues.{Congruent, congruent-sub, congruent-mul}
 use Rattle.ring_poly.proofs.Places.{length-by_place, get_or-by_place}
@@ -24,29 +24,29 @@ get_or-residues [] k = refl
 get_or-residues (x ∷ xs) zero = refl
 get_or-residues (x ∷ xs) (suc k) = get_or-residues xs k
 
-pub length-Product : (f : List ℕ) (g : List ℤ) → length (Product f g) ≡ 1024
-unfolding Product
-length-Product f g = length-by_place (λ k. residue (product_at (map pos f) g k))
+pub length-product_of : (f : List ℕ) (g : List ℤ) → length (product_of f g) ≡ 1024
+unfolding product_of
+length-product_of f g = length-by_place (λ k. residue (product_at (map pos f) g k))
 
-pub get_or-Product : (f : List ℕ) (g : List ℤ) (k : ℕ) → k < 1024 → get_or (Product f g) k 0 ≡ residue (product_at (map pos f) g k)
-unfolding Product
-get_or-Product f g k h = get_or-by_place (λ k. residue (product_at (map pos f) g k)) k 0 h
+pub get_or-product_of : (f : List ℕ) (g : List ℤ) (k : ℕ) → k < 1024 → get_or (product_of f g) k 0 ≡ residue (product_at (map pos f) g k)
+unfolding product_of
+get_or-product_of f g k h = get_or-by_place (λ k. residue (product_at (map pos f) g k)) k 0 h
 
-pub length-Sum : (f g : List ℕ) → length (Sum f g) ≡ 1024
-unfolding Sum
-length-Sum f g = length-by_place (λ k. residue (pos (get_or f k 0) +ℤ pos (get_or g k 0)))
+pub length-sum_of : (f g : List ℕ) → length (sum_of f g) ≡ 1024
+unfolding sum_of
+length-sum_of f g = length-by_place (λ k. residue (pos (get_or f k 0) +ℤ pos (get_or g k 0)))
 
-pub get_or-Sum : (f g : List ℕ) (k : ℕ) → k < 1024 → get_or (Sum f g) k 0 ≡ residue (pos (get_or f k 0) +ℤ pos (get_or g k 0))
-unfolding Sum
-get_or-Sum f g k h = get_or-by_place (λ k. residue (pos (get_or f k 0) +ℤ pos (get_or g k 0))) k 0 h
+pub get_or-sum_of : (f g : List ℕ) (k : ℕ) → k < 1024 → get_or (sum_of f g) k 0 ≡ residue (pos (get_or f k 0) +ℤ pos (get_or g k 0))
+unfolding sum_of
+get_or-sum_of f g k h = get_or-by_place (λ k. residue (pos (get_or f k 0) +ℤ pos (get_or g k 0))) k 0 h
 
-pub length-Difference : (f g : List ℕ) → length (Difference f g) ≡ 1024
-unfolding Difference
-length-Difference f g = length-by_place (λ k. residue (pos (get_or f k 0) -ℤ pos (get_or g k 0)))
+pub length-difference_of : (f g : List ℕ) → length (difference_of f g) ≡ 1024
+unfolding difference_of
+length-difference_of f g = length-by_place (λ k. residue (pos (get_or f k 0) -ℤ pos (get_or g k 0)))
 
-pub get_or-Difference : (f g : List ℕ) (k : ℕ) → k < 1024 → get_or (Difference f g) k 0 ≡ residue (pos (get_or f k 0) -ℤ pos (get_or g k 0))
-unfolding Difference
-get_or-Difference f g k h = get_or-by_place (λ k. residue (pos (get_or f k 0) -ℤ pos (get_or g k 0))) k 0 h
+pub get_or-difference_of : (f g : List ℕ) (k : ℕ) → k < 1024 → get_or (difference_of f g) k 0 ≡ residue (pos (get_or f k 0) -ℤ pos (get_or g k 0))
+unfolding difference_of
+get_or-difference_of f g k h = get_or-by_place (λ k. residue (pos (get_or f k 0) -ℤ pos (get_or g k 0))) k 0 h
 
 -- ---- products over the integers
 -- h has at each place the sum of f and g

@@ -3,18 +3,18 @@ use Rattle.std.specs.Prelude.{◌≡◌, ℕ, ◌*◌, ◌<◌, ◌≤◌, List,
 use Rattle.ring_poly.specs.Residue.{residue}
 use Rattle.ring_poly.specs.Packing.{packed, unpacked, read_packed}
 use Rattle.ring_poly.specs.declared.packing.CoefficientTooLarge.{CoefficientTooLarge}
-use Rattle.ring_poly.specs.Product.{IsTernary, product_at, Product, Sum, signed_sum}
+use Rattle.ring_poly.specs.Product.{IsTernary, product_at, product_of, sum_of, signed_sum}
 
 -- the product of a sum is the sum of the products
 abbrev pub ProductAddsInFirst : Type 0
-ProductAddsInFirst = (f g : List ℕ) (t : List ℤ) → length f ≡ 1024 → length g ≡ 1024 → Product (Sum f g) t ≡ Sum (Product f t) (Product g t)
+ProductAddsInFirst = (f g : List ℕ) (t : List ℤ) → length f ≡ 1024 → length g ≡ 1024 → product_of (sum_of f g) t ≡ sum_of (product_of f t) (product_of g t)
 
 abbrev pub ProductAddsInSecond : Type 0
-ProductAddsInSecond = (f : List ℕ) (s t : List ℤ) → length s ≡ 1024 → length t ≡ 1024 → Product f (signed_sum s t) ≡ Sum (Product f s) (Product f t)
+ProductAddsInSecond = (f : List ℕ) (s t : List ℤ) → length s ≡ 1024 → length t ≡ 1024 → product_of f (signed_sum s t) ≡ sum_of (product_of f s) (product_of f t)
 
 -- the order of two factors is free
 abbrev pub FactorsCommute : Type 0
-FactorsCommute = (f : List ℕ) (s t : List ℤ) → length f ≡ 1024 → length s ≡ 1024 → length t ≡ 1024 → Product (Product f s) t ≡ Product (Product f t) s
+FactorsCommute = (f : List ℕ) (s t : List ℤ) → length f ≡ 1024 → length s ≡ 1024 → length t ≡ 1024 → product_of (product_of f s) t ≡ product_of (product_of f t) s
 
 -- Coefficients of at most m in size, times a ternary polynomial, are at most 1024 m in size.
 abbrev pub ProductIsSmall : Type 0
@@ -23,9 +23,9 @@ ProductIsSmall = (f t : List ℤ) (m k : ℕ) → length f ≡ 1024 → All (λ 
 -- For b = a s + e and u = a r + d, what is left of b r - u s is e r - d s: the products with a cancel.
 abbrev pub MaskCancels : Type 0
 MaskCancels = (a : List ℕ) (s r e d : List ℤ) (k : ℕ) → length a ≡ 1024 → length s ≡ 1024 → length r ≡ 1024 → length e ≡ 1024 → length d ≡ 1024 → k < 1024 →
-    let b = Sum (Product a s) (map residue e) in
-    let u = Sum (Product a r) (map residue d) in
-    residue (pos (slice_index (Product b r) k) -ℤ pos (slice_index (Product u s) k)) ≡ residue (product_at e r k -ℤ product_at d s k)
+    let b = sum_of (product_of a s) (map residue e) in
+    let u = sum_of (product_of a r) (map residue d) in
+    residue (pos (slice_index (product_of b r) k) -ℤ pos (slice_index (product_of u s) k)) ≡ residue (product_at e r k -ℤ product_at d s k)
 
 -- n groups of coefficients are packed into n groups of seven bytes, which are read as those coefficients
 abbrev pub PackedIsReadBack : Type 0

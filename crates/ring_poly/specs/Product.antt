@@ -44,15 +44,15 @@ abbrev pub turned : List ℤ → ℕ → ℕ → ℤ
 turned f i k = if nat_le i k then coefficient f (k - i) else neg_ℤ (coefficient f (k + 1024 - i))
 
 -- the product modulo 12289
-unfoldable pub Product : List ℕ → List ℤ → List ℕ
-Product f g = by_place (λ k. residue (product_at (map pos f) g k))
+unfoldable pub product_of : List ℕ → List ℤ → List ℕ
+product_of f g = by_place (λ k. residue (product_at (map pos f) g k))
 
 -- the sum and the difference modulo 12289, place by place
-unfoldable pub Sum : List ℕ → List ℕ → List ℕ
-Sum f g = by_place (λ k. residue (pos (slice_index f k) +ℤ pos (slice_index g k)))
+unfoldable pub sum_of : List ℕ → List ℕ → List ℕ
+sum_of f g = by_place (λ k. residue (pos (slice_index f k) +ℤ pos (slice_index g k)))
 
-unfoldable pub Difference : List ℕ → List ℕ → List ℕ
-Difference f g = by_place (λ k. residue (pos (slice_index f k) -ℤ pos (slice_index g k)))
+unfoldable pub difference_of : List ℕ → List ℕ → List ℕ
+difference_of f g = by_place (λ k. residue (pos (slice_index f k) -ℤ pos (slice_index g k)))
 
 -- the sum of two polynomials over the integers
 unfoldable pub signed_sum : List ℤ → List ℤ → List ℤ

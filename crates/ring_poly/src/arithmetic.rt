@@ -3,14 +3,14 @@
 ghost use Rattle.std.specs.Prelude.{◌≡◌, ◌+◌, ◌^◌, ◌<◌, ◌≤◌, ℕ, length, map, slice_index, slice_index_or, All, EachIndex, unsigned_abs, pos, ◌+ℤ◌};
 ghost use Rattle.std.proofs.Math.IntN.{◌*ℤ◌};
 ghost use Rattle.ring_poly.specs.Residue.{residue};
-ghost use Rattle.ring_poly.specs.Product.{IsPolynomial, IsTernary, IsTrit, Product, Sum, Difference, coefficient, product_at, turned};
+ghost use Rattle.ring_poly.specs.Product.{IsPolynomial, IsTernary, IsTrit, product_of, sum_of, difference_of, coefficient, product_at, turned};
 
 use crate::MODULUS;
 use crate::polynomials::{Poly, Ternary, residue_of};
 
 /// The sum of two polynomials, place by place modulo 12289.
 pub fn add(a: &Poly, b: &Poly) -> Poly
-    ensures value { result ≡ Sum a.now b.now }
+    ensures value { result ≡ sum_of a.now b.now }
     ensures polynomial { IsPolynomial result }
 {
     let a = a.coefficients();
@@ -24,7 +24,7 @@ pub fn add(a: &Poly, b: &Poly) -> Poly
 
 /// The difference of two polynomials, place by place modulo 12289.
 pub fn sub(a: &Poly, b: &Poly) -> Poly
-    ensures value { result ≡ Difference a.now b.now }
+    ensures value { result ≡ difference_of a.now b.now }
     ensures polynomial { IsPolynomial result }
 {
     let a = a.coefficients();
@@ -39,7 +39,7 @@ pub fn sub(a: &Poly, b: &Poly) -> Poly
 /// The product of two polynomials modulo 12289, where x^1024 = -1: place k is the sum of `a[j] * b[i]` over i + j = k,
 /// less that over i + j = k + 1024.
 pub fn mul(a: &Poly, b: &Ternary) -> Poly
-    ensures value { result ≡ Product a.now b.now }
+    ensures value { result ≡ product_of a.now b.now }
     ensures polynomial { IsPolynomial result }
 {
     reduced(&product_sums(a.coefficients(), b.coefficients()))

@@ -6,7 +6,7 @@ use Rattle.sha2.specs.Sha256.{sha256, digest_bytes}
 use Rattle.sha2.proofs.Facts256.{length-sha256}
 use Rattle.wire_core.specs.declared.tag.Tag.{Tag}
 use Rattle.wire_core.specs.Bytes.{IsBytes}
-use Rattle.wire_core.specs.Hash.{Hash, hashed}
+use Rattle.wire_core.specs.Hash.{hash_of, hashed}
 
 pub IsBytes-nil : IsBytes []
 IsBytes-nil i = omega arith
@@ -57,6 +57,6 @@ unfolding sha256
 IsBytes-sha256 m = digest-bytes _ 8
 
 -- a hash is 32 bytes
-pub hash_bytes : (tag : Tag) (pieces : List (List ℕ)) → (length (Hash tag pieces) ≡ 32) × IsBytes (Hash tag pieces)
-unfolding Hash
+pub hash_bytes : (tag : Tag) (pieces : List (List ℕ)) → (length (hash_of tag pieces) ≡ 32) × IsBytes (hash_of tag pieces)
+unfolding hash_of
 hash_bytes tag pieces = (length-sha256 (hashed tag pieces), IsBytes-sha256 (hashed tag pieces))

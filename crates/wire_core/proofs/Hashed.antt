@@ -8,7 +8,7 @@ use Rattle.std.proofs.lemmas.Grind.{flat_map-append}
 use Rattle.std.proofs.lemmas.Nat.{from_be_bytes-to_be_bytes_4}
 use Rattle.wire_core.specs.declared.tag.Tag.{Tag}
 use Rattle.wire_core.specs.declared.tag.Tag.TheVariants.{View, Roster, RingPublic, RingSecret, RingCoins, LayerStream, LayerTag, LayerSeed, Message, PadStream, PadHash, Derive, LmsIdentifier, LmsSeed, ScriptKey, ScriptFresh, MakeSeed, MakeMessage}
-use Rattle.wire_core.specs.Hash.{magic, tag_number, piece, hashed, Hash, ArePieces, Collides, NoCollision}
+use Rattle.wire_core.specs.Hash.{magic, tag_number, piece, hashed, hash_of, ArePieces, Collides, NoCollision}
 
 -- one more piece is appended to what is hashed
 pub hashed-push : (tag : Tag) (pieces : List (List ℕ)) (b : List ℕ) → hashed tag (pieces ++ b ∷ []) ≡ hashed tag pieces ++ piece b
@@ -94,8 +94,8 @@ hashed_determines tag tag' pieces pieces' s t e =
     (tag_number-determines tag tag' numbers, pieces-determined pieces pieces' s t bytes)
 
 -- equal hashes of two strings of a list without collisions have equal tags and pieces
-pub same_hash : (strings : List (List ℕ)) (tag tag' : Tag) (pieces pieces' : List (List ℕ)) → NoCollision strings → Contains strings (hashed tag pieces) → Contains strings (hashed tag' pieces') → ArePieces pieces → ArePieces pieces' → Hash tag pieces ≡ Hash tag' pieces' → (tag ≡ tag') × (pieces ≡ pieces')
-unfolding Hash
+pub same_hash : (strings : List (List ℕ)) (tag tag' : Tag) (pieces pieces' : List (List ℕ)) → NoCollision strings → Contains strings (hashed tag pieces) → Contains strings (hashed tag' pieces') → ArePieces pieces → ArePieces pieces' → hash_of tag pieces ≡ hash_of tag' pieces' → (tag ≡ tag') × (pieces ≡ pieces')
+unfolding hash_of
 same_hash strings tag tag' pieces pieces' none there there' s t e =
     hashed_determines tag tag' pieces pieces' s t (none (hashed tag pieces) (hashed tag' pieces') there there' e)
 
@@ -111,8 +111,8 @@ same_or_not (a ∷ s) (b ∷ t) =
     ]
 
 -- equal hashes have equal tags and pieces, or are those of two strings that collide
-pub collide_or_same : (tag tag' : Tag) (pieces pieces' : List (List ℕ)) → ArePieces pieces → ArePieces pieces' → Hash tag pieces ≡ Hash tag' pieces' → ((tag ≡ tag') × (pieces ≡ pieces')) ⊎ Collides (hashed tag pieces) (hashed tag' pieces')
-unfolding Hash
+pub collide_or_same : (tag tag' : Tag) (pieces pieces' : List (List ℕ)) → ArePieces pieces → ArePieces pieces' → hash_of tag pieces ≡ hash_of tag' pieces' → ((tag ≡ tag') × (pieces ≡ pieces')) ⊎ Collides (hashed tag pieces) (hashed tag' pieces')
+unfolding hash_of
 collide_or_same tag tag' pieces pieces' s t e =
     elim (same_or_not (hashed tag pieces) (hashed tag' pieces')) [
       | inl same ↦ inl (hashed_determines tag tag' pieces pieces' s t same)

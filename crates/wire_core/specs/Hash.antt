@@ -45,14 +45,14 @@ unfoldable pub hashed : Tag → List (List ℕ) → List ℕ
 hashed tag pieces = magic ++ tag_number tag ∷ flat_map piece pieces
 
 -- the hash of a tag and its pieces: 32 bytes
-unfoldable pub Hash : Tag → List (List ℕ) → List ℕ
-Hash tag pieces = sha256 (hashed tag pieces)
+unfoldable pub hash_of : Tag → List (List ℕ) → List ℕ
+hash_of tag pieces = sha256 (hashed tag pieces)
 
 -- a member's secret of a round, from its fresh bytes: the label says which secret, and the index
 -- is 0 but for the pad seeds, where it is a member's number
 abbrev pub derived : List ℕ → ℕ → ℕ → ℕ → List ℕ
 derived fresh round label index =
-    Hash Derive (fresh ∷ to_be_bytes w64 round ∷ (label ∷ []) ∷ (index ∷ []) ∷ [])
+    hash_of Derive (fresh ∷ to_be_bytes w64 round ∷ (label ∷ []) ∷ (index ∷ []) ∷ [])
 
 -- two different strings with one SHA-256
 abbrev pub Collides : List ℕ → List ℕ → Type 0

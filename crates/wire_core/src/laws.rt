@@ -5,7 +5,7 @@ ghost use Rattle.std.specs.Prelude.{◌≡◌, ◌<◌, ◌+◌, ◌^◌, ◌⊎
 ghost use Rattle.std.specs.Int.{w8, w16, w32, w64, to_be_bytes};
 ghost use Rattle.wire_core.specs.declared.tag.Tag.{Tag};
 ghost use Rattle.wire_core.specs.Bytes.{IsBytes};
-ghost use Rattle.wire_core.specs.Hash.{ArePieces, Collides, Hash, NoCollision, hashed};
+ghost use Rattle.wire_core.specs.Hash.{ArePieces, Collides, hash_of, NoCollision, hashed};
 ghost use Rattle.wire_core.specs.Reading.{Reading, Takes, bytes_at, number_at, reading_at};
 
 /// What is appended is read again, whatever follows it.
@@ -50,7 +50,7 @@ pub fn same_hash()
         NoCollision strings →
         Contains strings (hashed tag pieces) → Contains strings (hashed tag' pieces') →
         ArePieces pieces → ArePieces pieces' →
-        Hash tag pieces ≡ Hash tag' pieces' → (tag ≡ tag') × (pieces ≡ pieces') }
+        hash_of tag pieces ≡ hash_of tag' pieces' → (tag ≡ tag') × (pieces ≡ pieces') }
 {}
 
 /// Equal hashes have equal tags and pieces, or they are those of two different strings with one
@@ -58,7 +58,7 @@ pub fn same_hash()
 pub fn collide_or_same()
     ensures { (tag tag' : Tag) (pieces pieces' : List (List ℕ)) →
         ArePieces pieces → ArePieces pieces' →
-        Hash tag pieces ≡ Hash tag' pieces' →
+        hash_of tag pieces ≡ hash_of tag' pieces' →
         ((tag ≡ tag') × (pieces ≡ pieces')) ⊎ Collides (hashed tag pieces) (hashed tag' pieces') }
 {}
 
@@ -72,5 +72,5 @@ pub fn no_collision_part()
 /// A hash is 32 bytes.
 pub fn hash_bytes()
     ensures { (tag : Tag) (pieces : List (List ℕ)) →
-        (length (Hash tag pieces) ≡ 32) × IsBytes (Hash tag pieces) }
+        (length (hash_of tag pieces) ≡ 32) × IsBytes (hash_of tag pieces) }
 {}

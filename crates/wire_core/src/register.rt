@@ -2,7 +2,7 @@
 
 ghost use Rattle.std.specs.Prelude.{◌≡◌, ◌<◌, ◌^◌, ◌++◌, ◌∷◌, ℕ, List, [], length};
 ghost use Rattle.wire_core.specs.declared.tag.Tag.{Tag};
-ghost use Rattle.wire_core.specs.Hash.{Hash};
+ghost use Rattle.wire_core.specs.Hash.{hash_of};
 ghost use Rattle.wire_core.specs.Register.{Holds};
 
 use crate::tag::Tag;
@@ -40,7 +40,7 @@ impl Register {
 
     /// The hash of the tag and the pieces in the order in which they came.
     pub fn end(self) -> [u8; 32]
-        ensures { (tag : Tag) (pieces : List (List ℕ)) → Holds self tag pieces → result ≡ Hash tag pieces }
+        ensures { (tag : Tag) (pieces : List (List ℕ)) → Holds self tag pieces → result ≡ hash_of tag pieces }
     {
         self.hasher.finalize()
     }

@@ -1,6 +1,6 @@
 use Rattle.std.proofs.Common.{◌≡◌, ℕ, List, [], ◌∷◌, take, drop, sym, ap, ◌∙◌, Some, None}
 use Rattle.wire_core.specs.declared.tag.Tag.TheVariants.{LayerTag}
-use Rattle.wire_core.specs.Hash.{Hash}
+use Rattle.wire_core.specs.Hash.{hash_of}
 use Rattle.ring_encrypt.specs.Opening.{opened}
 use Rattle.layer_cipher.specs.Layer.{masked, Opens}
 use Rattle.layer_cipher.proofs.LayerLemmas.{returns_no_layer, returns_layer, short_opens_nothing, closed_opens_nothing, other_opens_nothing, layer_found, bytes_differ, bytes_same, hidden_of}
@@ -22,7 +22,7 @@ other c m body =
     let some : opened c.args.seed.now (take 2240 layer) ≡ Some c.in-Some.m = sym (rw capsule at c.open_with.ensures) ∙ c.in-Some.is in
     let hidden : c.split_at-2.result.1.now ≡ drop 2272 layer = hidden_of layer c.split_at.result.1.now c.split_at-2.result.1.now c.split_at.ensures.back c.split_at-2.ensures.back in
     let there : c.split_at-2.result.0.now ≡ take 32 (drop 2240 layer) = c.split_at-2.ensures.front ∙ ap (λ (x : List ℕ). take 32 x) c.split_at.ensures.back in
-    let value : c.check_value.result ≡ Hash LayerTag (c.in-Some.m ∷ drop 2272 layer ∷ []) = rw hidden at c.check_value.ensures in
+    let value : c.check_value.result ≡ hash_of LayerTag (c.in-Some.m ∷ drop 2272 layer ∷ []) = rw hidden at c.check_value.ensures in
     other_opens_nothing c.args.seed.now layer m c.in-Some.m body c.check_value.result some value
     (λ same. bytes_differ c.as_slice.result.now c.split_at-2.result.0.now c.ne.result c.ne.ensures c.if-ne.true (c.as_slice.ensures ∙ same ∙ sym there))
 
@@ -34,7 +34,7 @@ found c =
     let some : opened c.args.seed.now (take 2240 layer) ≡ Some c.in-Some.m = sym (rw capsule at c.open_with.ensures) ∙ c.in-Some.is in
     let hidden : c.split_at-2.result.1.now ≡ drop 2272 layer = hidden_of layer c.split_at.result.1.now c.split_at-2.result.1.now c.split_at.ensures.back c.split_at-2.ensures.back in
     let there : c.split_at-2.result.0.now ≡ take 32 (drop 2240 layer) = c.split_at-2.ensures.front ∙ ap (λ (x : List ℕ). take 32 x) c.split_at.ensures.back in
-    let value : c.check_value.result ≡ Hash LayerTag (c.in-Some.m ∷ drop 2272 layer ∷ []) = rw hidden at c.check_value.ensures in
+    let value : c.check_value.result ≡ hash_of LayerTag (c.in-Some.m ∷ drop 2272 layer ∷ []) = rw hidden at c.check_value.ensures in
     let same : c.as_slice.result.now ≡ c.split_at-2.result.0.now = bytes_same c.as_slice.result.now c.split_at-2.result.0.now c.ne.result c.ne.ensures c.if-ne.false in
     let body : c.in_ok-body.body.items ≡ masked c.in-Some.m (drop 2272 layer) = rw hidden at c.in_ok-body.ensures in
     layer_found c.args.seed.now layer c.in-Some.m c.of.result c.check_value.result c.if-ct-lt-LAYER_BYTES.false some value (sym c.as_slice.ensures ∙ same ∙ there) (c.of.ensures ∙ body)

@@ -1,4 +1,4 @@
-use Rattle.ring_encrypt.proofs.OpeningLemmas.{sealed_is_decoded, length-Sealed}
+use Rattle.ring_encrypt.proofs.OpeningLemmas.{sealed_is_decoded, length-capsule_of}
 use Rattle.ring_encrypt.proofs.KeyLemmas.{key_is_public_key}
 use Rattle.ring_encrypt.proofs.Exactness.{opens_exactly, capsule_determines, key_opens}
 use Rattle.ring_encrypt.proofs.laws.opening_laws.Goals as goal
@@ -19,4 +19,4 @@ pub returns-clause-public_key : goal.returns-clause-public_key
 returns-clause-public_key c = key_is_public_key
 
 pub returns-clause-as_long : goal.returns-clause-as_long
-returns-clause-as_long c = length-Sealed
+returns-clause-as_long c = length-capsule_of

@@ -1,6 +1,6 @@
 use Rattle.std.proofs.Common.{◌≡◌, ℕ, ◌<◌, ◌≢◌, length, get_or, arith, pos, refl, ◌∙◌, ◌+ℤ◌, get_or-set_other, get_or-set_same, below_more, rules}
 use Rattle.ring_poly.specs.Residue.{residue}
-use Rattle.ring_poly.specs.Product.{Sum}
+use Rattle.ring_poly.specs.Product.{sum_of}
 use Rattle.std.proofs.lemmas.List.Elements.{All-from_get_or}
 use Rattle.ring_poly.proofs.Places.{by_place_is}
 use Rattle.ring_poly.proofs.arithmetic.add.Goals as goal
@@ -20,7 +20,7 @@ pub of-requires : goal.of-requires
 of-requires c = All-from_get_or (λ x. x < 12289) c.loop-place.sum 0 (λ k h. rw (c.loop-place.invariant.done k (omega arith)) (omega arith))
 
 pub returns-clause-value : goal.returns-clause-value
-unfolding Sum
+unfolding sum_of
 returns-clause-value c =
     let a = c.args.a.now in
     let b = c.args.b.now in

@@ -1,11 +1,11 @@
 use Rattle.std.proofs.Common.{◌≡◌, ℕ, ◌<◌, length, get_or, map, arith, pos, ap, ◌∙◌, rules}
 use Rattle.ring_poly.specs.Residue.{residue}
-use Rattle.ring_poly.specs.Product.{product_at, Product}
+use Rattle.ring_poly.specs.Product.{product_at, product_of}
 use Rattle.ring_poly.proofs.Places.{by_place_is}
 use Rattle.ring_poly.proofs.arithmetic.mul.Goals as goal
 
 pub returns-clause-value : goal.returns-clause-value
-unfolding Product
+unfolding product_of
 returns-clause-value c =
     let a = c.args.a.now in
     let b = c.args.b.now in

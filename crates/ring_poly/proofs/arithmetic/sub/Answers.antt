@@ -1,6 +1,6 @@
 use Rattle.std.proofs.Common.{◌≡◌, ℕ, ◌<◌, ◌≢◌, length, get_or, arith, pos, refl, ◌∙◌, ◌-ℤ◌, get_or-set_other, get_or-set_same, below_more, rules}
 use Rattle.ring_poly.specs.Residue.{residue}
-use Rattle.ring_poly.specs.Product.{Difference}
+use Rattle.ring_poly.specs.Product.{difference_of}
 use Rattle.std.proofs.lemmas.List.Elements.{All-from_get_or}
 use Rattle.ring_poly.proofs.Places.{by_place_is}
 use Rattle.ring_poly.proofs.Residues.{residue-sub_reduced}
@@ -21,7 +21,7 @@ pub of-requires : goal.of-requires
 of-requires c = All-from_get_or (λ x. x < 12289) c.loop-place.difference 0 (λ k h. rw (c.loop-place.invariant.done k (omega arith)) (omega arith))
 
 pub returns-clause-value : goal.returns-clause-value
-unfolding Difference
+unfolding difference_of
 returns-clause-value c =
     let a = c.args.a.now in
     let b = c.args.b.now in

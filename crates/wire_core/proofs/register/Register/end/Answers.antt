@@ -1,7 +1,7 @@
-use Rattle.wire_core.specs.Hash.{Hash, hashed}
+use Rattle.wire_core.specs.Hash.{hash_of, hashed}
 use Rattle.wire_core.specs.Register.{Holds}
 use Rattle.wire_core.proofs.register.Register.end.Goals as goal
 
 pub returns : goal.returns
-unfolding Hash Holds
+unfolding hash_of Holds
 returns c tag pieces holds = c.finalize.ensures (hashed tag pieces) holds
