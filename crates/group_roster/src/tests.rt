@@ -1,0 +1,63 @@
+use crate::{RosterRefusal, decode};
+use std::alloc::Global;
+use std::test::Fail;
+use wire_core::{Mem, put_bytes, put_u32};
+
+// Each rule of a roster that a few bytes break, with its offset.
+#[test]
+fn rules_of_rosters(rt: HostRuntime) {
+    let cases = [
+        (b"".as_slice(), 0, 1),
+        (b"DSRX\x01\x02".as_slice(), 3, 1),
+        (b"DSRO".as_slice(), 4, 2),
+        (b"DSRO\x02\x02".as_slice(), 4, 2),
+        (b"DSRO\x01".as_slice(), 5, 3),
+        (b"DSRO\x01\x01".as_slice(), 5, 3),
+        (b"DSRO\x01\x09".as_slice(), 5, 3),
+        (b"DSRO\x01\x02".as_slice(), 6, 4),
+    ];
+    for (bytes, want_at, want_rule) in cases {
+        match decode(rt.alloc(), bytes) {
+            Err(RosterRefusal::Bad { at, rule }) => {
+                assert!(rt; at == want_at && rule == want_rule, "at {at} rule {rule}");
+            }
+            _ => assert!(rt; false, "taken"),
+        }
+    }
+}
+
+// A roster of two keys, each of two types and 48 equal bytes, and bytes that follow.
+fn two_keys(alloc: Global, keys: [[u8; 3]; 2], tail: &[u8]) -> Mem<Vec<u8>> {
+    let mut bytes = Vec::new(alloc);
+    put_bytes(&mut bytes, b"DSRO\x01\x02")?;
+    for [lms_type, ots_type, fill] in keys {
+        put_u32(&mut bytes, u32::from(lms_type))?;
+        put_u32(&mut bytes, u32::from(ots_type))?;
+        put_bytes(&mut bytes, &[fill; 48])?;
+    }
+    put_bytes(&mut bytes, tail)?;
+    Ok(bytes)
+}
+
+#[test]
+fn keys_of_rosters_are_refused(rt: HostRuntime) -> Result<(), Fail> {
+    let alloc = rt.alloc();
+    let cases = [
+        ([[4, 3, 1], [5, 3, 2]], b"".as_slice(), (6, 6)),
+        ([[5, 3, 1], [10, 3, 2]], b"".as_slice(), (62, 6)),
+        ([[5, 0, 1], [5, 3, 2]], b"".as_slice(), (10, 7)),
+        ([[5, 3, 1], [9, 5, 2]], b"".as_slice(), (66, 7)),
+        ([[5, 3, 1], [5, 3, 1]], b"".as_slice(), (62, 8)),
+        ([[5, 3, 1], [5, 3, 2]], b"!".as_slice(), (118, 5)),
+    ];
+    for (keys, tail, want) in cases {
+        let bytes = two_keys(alloc, keys, tail)?;
+        match decode(alloc, &bytes) {
+            Err(RosterRefusal::Bad { at, rule }) => assert!(rt; at == want.0 && rule == want.1),
+            _ => assert!(rt; false, "taken"),
+        }
+    }
+    let bytes = two_keys(alloc, [[5, 3, 1], [9, 4, 2]], b"")?;
+    assert!(rt; decode(alloc, &bytes).is_ok());
+    Ok(())
+}
