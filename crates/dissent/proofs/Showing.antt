@@ -10,6 +10,7 @@ use Rattle.phase_message.specs.Offence.{Offence, content_read}
 use Rattle.phase_message.proofs.Whole.{content-header}
 use Rattle.dissent.specs.declared.roster.Roster.{Roster}
 use Rattle.dissent.specs.declared.post.PostRefusal.TheVariants.{Memory, Body as BodyFault}
+use Rattle.dissent.specs.Roster.{shape_of_roster}
 use Rattle.dissent.specs.Post.{Signed, framed, admit, Admitted, checked}
 use Rattle.dissent.specs.Show.{IsPostFile}
 use Rattle.dissent.proofs.Admits.{admits_exactly}
@@ -20,13 +21,13 @@ abbrev header_ok : Header → Result Header Short
 header_ok header = Ok header
 
 checked-found : (roster : Roster) (round : ℕ) (post : Signed) (content : Content) → IsBytes post.signature → checked roster round post ≡ Ok content
-    → Admitted roster round post content.header × (content_read (length roster.keys) post.content ≡ Ok content)
+    → Admitted roster round post content.header × (content_read (shape_of_roster roster) post.content ≡ Ok content)
 unfolding checked
 checked-found roster round post content bytes e =
-    let a = bind_ok (admit roster round post) (λ header. fault_as (λ (o : Offence). BodyFault o.at o.rule) (content_read (length roster.keys) post.content)) content e in
-    let reads = fault_as_ok (λ (o : Offence). BodyFault o.at o.rule) (content_read (length roster.keys) post.content) content a.2 in
+    let a = bind_ok (admit roster round post) (λ header. fault_as (λ (o : Offence). BodyFault o.at o.rule) (content_read (shape_of_roster roster) post.content)) content e in
+    let reads = fault_as_ok (λ (o : Offence). BodyFault o.at o.rule) (content_read (shape_of_roster roster) post.content) content a.2 in
     let admitted = (admits_exactly roster round post a.0 bytes).0 a.1 in
-    let both : header_ok a.0 ≡ header_ok content.header = sym admitted.reads ∙ content-header (length roster.keys) post.content content reads in
+    let both : header_ok a.0 ≡ header_ok content.header = sym admitted.reads ∙ content-header (shape_of_roster roster) post.content content reads in
     let same : a.0 ≡ content.header = cc in
     (subst (λ (h : Header). Admitted roster round post h) same admitted, reads)
 

@@ -9,7 +9,7 @@ use Rattle.phase_message.specs.declared.header.Header.{Header}
 use Rattle.phase_message.specs.First.{first_some}
 use Rattle.phase_message.specs.Header.{header_of}
 use Rattle.phase_message.specs.Offence.{content_read}
-use Rattle.phase_message.specs.Stages.{group_of, is_member, is_slot}
+use Rattle.phase_message.specs.Stages.{is_member, is_slot}
 use Rattle.lms_tree.specs.declared.keys.LmsPublic.{LmsPublic}
 use Rattle.lms_tree.specs.declared.verifier.LmsRefusal.{LmsRefusal}
 use Rattle.lms_tree.specs.Tree.{LmsValid, lms_check}
@@ -19,7 +19,7 @@ use Rattle.dissent.specs.declared.post.PostRefusal.TheVariants.{Frame, Version, 
 use Rattle.dissent.specs.declared.post.ReadRefusal.{ReadRefusal}
 use Rattle.dissent.specs.declared.post.ReadRefusal.TheVariants.{Frame as ReadFrame, Memory as ReadMemory}
 use Rattle.dissent.specs.Places.{word_at, fault_unless, value_unless}
-use Rattle.dissent.specs.Roster.{roster_id, key_of}
+use Rattle.dissent.specs.Roster.{roster_id, key_of, shape_of_roster}
 
 -- ---- frames
 
@@ -96,7 +96,7 @@ header_refusal roster round post header = first_some (
     ∷ fault_unless (bytes_eq header.group (roster_id roster)) (Group header.group)
     ∷ fault_unless (header.round == round) (Round header.round)
     ∷ fault_unless (is_member (length roster.keys) header.sender) (Sender header.sender)
-    ∷ fault_unless (is_slot (group_of (length roster.keys)) header.stage header.sender) (Stage header.stage)
+    ∷ fault_unless (is_slot (shape_of_roster roster) header.stage header.sender) (Stage header.stage)
     ∷ signature_refusal header.sender (key_of roster header.sender) post
     ∷ [])
 
@@ -127,7 +127,7 @@ pub record Admitted (roster : Roster) (round : ℕ) (post : Signed) (header : He
   pub group : header.group ≡ roster_id roster
   pub this_round : header.round ≡ round
   pub member : IsTrue (is_member (length roster.keys) header.sender)
-  pub slot : IsTrue (is_slot (group_of (length roster.keys)) header.stage header.sender)
+  pub slot : IsTrue (is_slot (shape_of_roster roster) header.stage header.sender)
   pub signed : (key : LmsPublic) × (key_of roster header.sender ≡ Some key)
       × LmsValid key post.content post.signature
 
@@ -141,7 +141,7 @@ AdmitsExactly = (roster : Roster) (round : ℕ) (post : Signed) (header : Header
 unfoldable pub checked : Roster → ℕ → Signed → Result Content PostRefusal
 checked roster round post = do
   header ← admit roster round post
-  fault_as (λ offence. Body offence.at offence.rule) (content_read (length roster.keys) post.content)
+  fault_as (λ offence. Body offence.at offence.rule) (content_read (shape_of_roster roster) post.content)
 
 -- ---- what the code holds
 

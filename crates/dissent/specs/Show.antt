@@ -10,6 +10,7 @@ use Rattle.dissent.specs.declared.roster.Roster.{Roster}
 use Rattle.dissent.specs.declared.post.PostRefusal.{PostRefusal}
 use Rattle.dissent.specs.declared.post.PostRefusal.TheVariants.{Frame, Memory}
 use Rattle.dissent.specs.declared.judge.FailedCheck.{FailedCheck}
+use Rattle.dissent.specs.Roster.{shape_of_roster}
 use Rattle.dissent.specs.Post.{Signed, post_spelling, framed, Admitted, checked, refusal_number, refusal_place}
 use Rattle.dissent.specs.Status.{line_of}
 
@@ -34,7 +35,7 @@ pub record IsPostFile (roster : Roster) (round : ℕ) (bytes : List ℕ) (conten
   pub post : Signed
   pub spelled : bytes ≡ post_spelling post
   pub admitted : Admitted roster round post content.header
-  pub reads : content_read (length roster.keys) post.content ≡ Ok content
+  pub reads : content_read (shape_of_roster roster) post.content ≡ Ok content
 
 -- ---- what is printed
 

@@ -3,7 +3,8 @@ use Rattle.std.proofs.Common.{◌≡◌, ℕ, zero, suc, ◌+◌, List, [], ◌�
 use Rattle.std.specs.List.{slice_get, sum_by}
 use Rattle.std.proofs.lemmas.List.Sums.{sum_by-cons}
 use Rattle.phase_message.specs.declared.stage.StageKind.{StageKind}
-use Rattle.phase_message.specs.Stages.{Shape, kind_of_stage, stages}
+use Rattle.phase_message.specs.Shape.{Shape}
+use Rattle.phase_message.specs.Stages.{kind_of_stage, stages}
 use Rattle.phase_message.specs.Slots.{senders_of, slots_before}
 
 sum_next : {A : Type 0} (f : A → ℕ) (xs : List A) (s : ℕ) (x : A) → slice_get xs s ≡ Some x → sum_by f (take (suc s) xs) ≡ sum_by f (take s xs) + f x

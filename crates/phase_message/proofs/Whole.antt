@@ -15,7 +15,8 @@ use Rattle.phase_message.specs.declared.form.BodyForm.TheVariants.{Keys as OfKey
 use Rattle.phase_message.specs.declared.content.Body.{Body}
 use Rattle.phase_message.specs.declared.content.Body.TheVariants.{Keys, Submit, Shuffled, Abort, Go, Reveal, Dispute, Pads, Check, Confirm, Differ}
 use Rattle.phase_message.specs.declared.content.Content.{Content}
-use Rattle.phase_message.specs.Stages.{Shape, group_of, is_slot, kind_of_stage}
+use Rattle.phase_message.specs.Shape.{Shape}
+use Rattle.phase_message.specs.Stages.{is_slot, kind_of_stage}
 use Rattle.phase_message.specs.Slots.{slots_before}
 use Rattle.phase_message.specs.Header.{header_at, header_of}
 use Rattle.phase_message.specs.Body.{only, either, form_in, form_of, body_form, level}
@@ -159,39 +160,39 @@ not-false false e = absurd cc
 given : {A : Type 0} (x y : A × Reading) → (let told : A × Reading → Result (A × Reading) Offence = λ z. Ok z in told x ≡ told y) → x ≡ y
 given x y e = cc
 
-abbrev IsHead : ℕ → Reading → (Header × BodyForm) × Reading → Type 0
-IsHead n r x = Takes (header_text x.0.0 ++ (form_number x.0.1 ∷ [])) r x.1 × IsHeader n x.0.0 × (body_form (group_of n) x.0.0.stage (form_number x.0.1) ≡ Some x.0.1)
+abbrev IsHead : Shape → Reading → (Header × BodyForm) × Reading → Type 0
+IsHead shape r x = Takes (header_text x.0.0 ++ (form_number x.0.1 ∷ [])) r x.1 × IsHeader shape x.0.0 × (body_form shape x.0.0.stage (form_number x.0.1) ≡ Some x.0.1)
 
-head-takes : (n : ℕ) (r : Reading) (x : (Header × BodyForm) × Reading) → IsBytes r.rest → head_at n r ≡ Ok x → IsHead n r x
+head-takes : (shape : Shape) (r : Reading) (x : (Header × BodyForm) × Reading) → IsBytes r.rest → head_at shape r ≡ Ok x → IsHead shape r x
 unfolding head_at
-head-takes n r x bytes e =
-    let h = bind_ok (fault_as cut (header_at r)) (λ header. unless (not (header.0.version == 1)) (offence 8 0) header.1 >>= λ version. unless (not (is_slot (group_of n) header.0.stage header.0.sender)) (offence 9 41) header.1 >>= λ slot. fault_as cut (number_at w8 header.1) >>= λ kind. or_refuse (body_form (group_of n) header.0.stage kind.0) (offence 1 75) >>= λ form. Ok ((header.0, form), kind.1)) x e in
-    let v = bind_ok (unless (not (h.0.0.version == 1)) (offence 8 0) h.0.1) (λ version. unless (not (is_slot (group_of n) h.0.0.stage h.0.0.sender)) (offence 9 41) h.0.1 >>= λ slot. fault_as cut (number_at w8 h.0.1) >>= λ kind. or_refuse (body_form (group_of n) h.0.0.stage kind.0) (offence 1 75) >>= λ form. Ok ((h.0.0, form), kind.1)) x h.2 in
-    let s = bind_ok (unless (not (is_slot (group_of n) h.0.0.stage h.0.0.sender)) (offence 9 41) h.0.1) (λ slot. fault_as cut (number_at w8 h.0.1) >>= λ kind. or_refuse (body_form (group_of n) h.0.0.stage kind.0) (offence 1 75) >>= λ form. Ok ((h.0.0, form), kind.1)) x v.2 in
-    let k = bind_ok (fault_as cut (number_at w8 h.0.1)) (λ kind. or_refuse (body_form (group_of n) h.0.0.stage kind.0) (offence 1 75) >>= λ form. Ok ((h.0.0, form), kind.1)) x s.2 in
-    let f = bind_ok (or_refuse (body_form (group_of n) h.0.0.stage k.0.0) (offence 1 75)) (λ form. Ok ((h.0.0, form), k.0.1)) x k.2 in
-    let version = not-false _ (guard_ok (not (h.0.0.version == 1)) (offence 8 0) h.0.1 v.0 v.1).0 in
-    let slot = not-false _ (guard_ok (not (is_slot (group_of n) h.0.0.stage h.0.0.sender)) (offence 9 41) h.0.1 s.0 s.1).0 in
-    subst (IsHead n r) (given ((h.0.0, f.0), k.0.1) x f.2)
-    (parts n r h.0 k.0 f.0 bytes (fault_as_ok cut (header_at r) h.0 h.1) (fault_as_ok cut (number_at w8 h.0.1) k.0 k.1) version slot (refused-some _ _ f.0 f.1))
+head-takes shape r x bytes e =
+    let h = bind_ok (fault_as cut (header_at r)) (λ header. unless (not (header.0.version == shape.version)) (offence 8 0) header.1 >>= λ version. unless (not (is_slot shape header.0.stage header.0.sender)) (offence 9 41) header.1 >>= λ slot. fault_as cut (number_at w8 header.1) >>= λ kind. or_refuse (body_form shape header.0.stage kind.0) (offence 1 75) >>= λ form. Ok ((header.0, form), kind.1)) x e in
+    let v = bind_ok (unless (not (h.0.0.version == shape.version)) (offence 8 0) h.0.1) (λ version. unless (not (is_slot shape h.0.0.stage h.0.0.sender)) (offence 9 41) h.0.1 >>= λ slot. fault_as cut (number_at w8 h.0.1) >>= λ kind. or_refuse (body_form shape h.0.0.stage kind.0) (offence 1 75) >>= λ form. Ok ((h.0.0, form), kind.1)) x h.2 in
+    let s = bind_ok (unless (not (is_slot shape h.0.0.stage h.0.0.sender)) (offence 9 41) h.0.1) (λ slot. fault_as cut (number_at w8 h.0.1) >>= λ kind. or_refuse (body_form shape h.0.0.stage kind.0) (offence 1 75) >>= λ form. Ok ((h.0.0, form), kind.1)) x v.2 in
+    let k = bind_ok (fault_as cut (number_at w8 h.0.1)) (λ kind. or_refuse (body_form shape h.0.0.stage kind.0) (offence 1 75) >>= λ form. Ok ((h.0.0, form), kind.1)) x s.2 in
+    let f = bind_ok (or_refuse (body_form shape h.0.0.stage k.0.0) (offence 1 75)) (λ form. Ok ((h.0.0, form), k.0.1)) x k.2 in
+    let version = not-false _ (guard_ok (not (h.0.0.version == shape.version)) (offence 8 0) h.0.1 v.0 v.1).0 in
+    let slot = not-false _ (guard_ok (not (is_slot shape h.0.0.stage h.0.0.sender)) (offence 9 41) h.0.1 s.0 s.1).0 in
+    subst (IsHead shape r) (given ((h.0.0, f.0), k.0.1) x f.2)
+    (parts shape r h.0 k.0 f.0 bytes (fault_as_ok cut (header_at r) h.0 h.1) (fault_as_ok cut (number_at w8 h.0.1) k.0 k.1) version slot (refused-some _ _ f.0 f.1))
   where
-    parts : (n : ℕ) (r : Reading) (h : Header × Reading) (k : ℕ × Reading) (form : BodyForm) → IsBytes r.rest → header_at r ≡ Ok h → number_at w8 h.1 ≡ Ok k → (h.0.version == 1) ≡ true → is_slot (group_of n) h.0.stage h.0.sender ≡ true → body_form (group_of n) h.0.stage k.0 ≡ Some form → IsHead n r ((h.0, form), k.1)
-    parts n r h k form bytes eh ek version slot has =
+    parts : (shape : Shape) (r : Reading) (h : Header × Reading) (k : ℕ × Reading) (form : BodyForm) → IsBytes r.rest → header_at r ≡ Ok h → number_at w8 h.1 ≡ Ok k → (h.0.version == shape.version) ≡ true → is_slot shape h.0.stage h.0.sender ≡ true → body_form shape h.0.stage k.0 ≡ Some form → IsHead shape r ((h.0, form), k.1)
+    parts shape r h k form bytes eh ek version slot has =
         let header = header-takes r h bytes eh in
         let left : IsBytes h.1.rest = (Takes-bytes (header_text h.0) r h.1 header.0 bytes).1 in
         let kind = number_at-takes_1 h.1 k left ek in
-        let number = body_form-number (group_of n) h.0.stage k.0 form has in
+        let number = body_form-number shape h.0.stage k.0 form has in
         let spelled = Takes-append (header_text h.0) (k.0 ∷ []) r h.1 k.1 header.0 kind.0 in (
           subst (λ (m : ℕ). Takes (header_text h.0 ++ (m ∷ [])) r k.1) number spelled,
-          record { version_is = eqb-true h.0.version 1 version; group_long = header.1.0; round_small = header.1.1; slot_is = slot; view_long = header.1.2 },
-          subst (λ (m : ℕ). body_form (group_of n) h.0.stage m ≡ Some form) number has,
+          record { version_is = eqb-true h.0.version shape.version version; group_long = header.1.0; round_small = header.1.1; slot_is = slot; view_long = header.1.2 },
+          subst (λ (m : ℕ). body_form shape h.0.stage m ≡ Some form) number has,
         )
 
-head-again : (n : ℕ) (h : Header) (kind : ℕ) (form : BodyForm) (place : ℕ) (rest : List ℕ) → IsHeader n h → body_form (group_of n) h.stage kind ≡ Some form → head_at n (reading_at place (header_text h ++ (kind ∷ rest))) ≡ Ok ((h, form), reading_at (place + length (header_text h) + 1) rest)
+head-again : (shape : Shape) (h : Header) (kind : ℕ) (form : BodyForm) (place : ℕ) (rest : List ℕ) → IsHeader shape h → body_form shape h.stage kind ≡ Some form → head_at shape (reading_at place (header_text h ++ (kind ∷ rest))) ≡ Ok ((h, form), reading_at (place + length (header_text h) + 1) rest)
 unfolding head_at
-head-again n h kind form place rest is has =
+head-again shape h kind form place rest is has =
     let header = header-again h place (kind ∷ rest) (is.group_long, is.round_small, is.view_long) in
-    let version : (h.version == 1) ≡ true = eq-eqb h.version 1 is.version_is in
+    let version : (h.version == shape.version) ≡ true = eq-eqb h.version shape.version is.version_is in
     let number = number_at-again_1 kind (place + length (header_text h)) rest in
     rw (header, version, is.slot_is, number, has) refl
 
@@ -201,19 +202,19 @@ nothing_left : (rest : List ℕ) → nat_lt 0 (length rest) ≡ false → rest �
 nothing_left [] e = refl
 nothing_left (b ∷ rest) e = let le = ltb-false 0 (length (b ∷ rest)) e in absurd (omega arith)
 
-pub content-is_spelled : (n : ℕ) (bytes : List ℕ) (c : Content) → IsBytes bytes → content_read n bytes ≡ Ok c → (bytes ≡ content_text c) × OfGrammar n c
+pub content-is_spelled : (shape : Shape) (bytes : List ℕ) (c : Content) → IsBytes bytes → content_read shape bytes ≡ Ok c → (bytes ≡ content_text c) × OfGrammar shape c
 unfolding content_read
-content-is_spelled n bytes c are e =
-    let w = bind_ok (unless (nat_lt (length bytes) 76) (offence 7 (length bytes)) (reading_of bytes)) (λ whole. head_at n (reading_of bytes) >>= λ head. body_at head.0.1 head.1 >>= λ body. unless (nat_lt 0 (length body.1.rest)) (offence 3 body.1.place) (record { header = head.0.0; body = body.0 })) c e in
-    let h = bind_ok (head_at n (reading_of bytes)) (λ head. body_at head.0.1 head.1 >>= λ body. unless (nat_lt 0 (length body.1.rest)) (offence 3 body.1.place) (record { header = head.0.0; body = body.0 })) c w.2 in
+content-is_spelled shape bytes c are e =
+    let w = bind_ok (unless (nat_lt (length bytes) 76) (offence 7 (length bytes)) (reading_of bytes)) (λ whole. head_at shape (reading_of bytes) >>= λ head. body_at head.0.1 head.1 >>= λ body. unless (nat_lt 0 (length body.1.rest)) (offence 3 body.1.place) (record { header = head.0.0; body = body.0 })) c e in
+    let h = bind_ok (head_at shape (reading_of bytes)) (λ head. body_at head.0.1 head.1 >>= λ body. unless (nat_lt 0 (length body.1.rest)) (offence 3 body.1.place) (record { header = head.0.0; body = body.0 })) c w.2 in
     let b = bind_ok (body_at h.0.0.1 h.0.1) (λ body. unless (nat_lt 0 (length body.1.rest)) (offence 3 body.1.place) (record { header = h.0.0.0; body = body.0 })) c h.2 in
     let ended = guard_ok (nat_lt 0 (length b.0.1.rest)) (offence 3 b.0.1.place) (record { header = h.0.0.0; body = b.0.0 }) c b.2 in
-    subst (λ (c : Content). (bytes ≡ content_text c) × OfGrammar n c) ended.1
-    (parts n bytes h.0 b.0 are h.1 b.1 (nothing_left b.0.1.rest ended.0))
+    subst (λ (c : Content). (bytes ≡ content_text c) × OfGrammar shape c) ended.1
+    (parts shape bytes h.0 b.0 are h.1 b.1 (nothing_left b.0.1.rest ended.0))
   where
-    parts : (n : ℕ) (bytes : List ℕ) (h : (Header × BodyForm) × Reading) (b : Body × Reading) → IsBytes bytes → head_at n (reading_of bytes) ≡ Ok h → body_at h.0.1 h.1 ≡ Ok b → b.1.rest ≡ [] → (bytes ≡ content_text (record { header = h.0.0; body = b.0 })) × OfGrammar n (record { header = h.0.0; body = b.0 })
-    parts n bytes h b are eh eb ended =
-        let head = head-takes n (reading_of bytes) h are eh in
+    parts : (shape : Shape) (bytes : List ℕ) (h : (Header × BodyForm) × Reading) (b : Body × Reading) → IsBytes bytes → head_at shape (reading_of bytes) ≡ Ok h → body_at h.0.1 h.1 ≡ Ok b → b.1.rest ≡ [] → (bytes ≡ content_text (record { header = h.0.0; body = b.0 })) × OfGrammar shape (record { header = h.0.0; body = b.0 })
+    parts shape bytes h b are eh eb ended =
+        let head = head-takes shape (reading_of bytes) h are eh in
         let front : List ℕ = header_text h.0.0 ++ (form_number h.0.1 ∷ []) in
         let left : IsBytes h.1.rest = (Takes-bytes front (reading_of bytes) h.1 head.0 are).1 in
         let body = body-takes h.0.1 h.1 b left eb in
@@ -221,39 +222,39 @@ content-is_spelled n bytes c are e =
         let whole = Takes-append front (body_text b.0) (reading_of bytes) h.1 b.1 head.0 body.0 in
         let text : bytes ≡ front ++ body_text b.0 = whole.text_is ∙ ap (λ (t : List ℕ). (front ++ body_text b.0) ++ t) ended ∙ append-nil (front ++ body_text b.0) in (
           text ∙ append_assoc (header_text h.0.0) (form_number h.0.1 ∷ []) (body_text b.0) ∙ ap (λ (m : ℕ). header_text h.0.0 ++ (m ∷ body_text b.0)) (sym number),
-          (head.1, (h.0.1, subst (λ (m : ℕ). body_form (group_of n) h.0.0.stage m ≡ Some h.0.1) (sym number) head.2, body.1)),
+          (head.1, (h.0.1, subst (λ (m : ℕ). body_form shape h.0.0.stage m ≡ Some h.0.1) (sym number) head.2, body.1)),
         )
 
-header_long : (n : ℕ) (h : Header) → IsHeader n h → length (header_text h) ≡ 75
-header_long n h is =
+header_long : (shape : Shape) (h : Header) → IsHeader shape h → length (header_text h) ≡ 75
+header_long shape h is =
     let round : List ℕ = to_be_bytes w64 h.round in
     let last : List ℕ = h.stage ∷ (h.sender ∷ h.view) in
     let group = is.group_long in
     let view = is.view_long in
     omega (arith, length-append h.group (round ++ last), length-append round last)
 
-pub content-is_read : (n : ℕ) (c : Content) → OfGrammar n c → content_read n (content_text c) ≡ Ok c
+pub content-is_read : (shape : Shape) (c : Content) → OfGrammar shape c → content_read shape (content_text c) ≡ Ok c
 unfolding content_read
-content-is_read n c is =
+content-is_read shape c is =
     let text : List ℕ = body_text c.body in
-    let long : 76 ≤ length (content_text c) = omega (arith, length-append (header_text c.header) (kind_number c.body ∷ text), header_long n c.header is.0) in
+    let long : 76 ≤ length (content_text c) = omega (arith, length-append (header_text c.header) (kind_number c.body ∷ text), header_long shape c.header is.0) in
     let whole : nat_lt (length (content_text c)) 76 ≡ false = le-ltb (length (content_text c)) 76 long in
     let place : ℕ = 0 + length (header_text c.header) + 1 in
-    let head = head-again n c.header (kind_number c.body) is.1.0 0 text is.0 is.1.1 in
+    let head = head-again shape c.header (kind_number c.body) is.1.0 0 text is.0 is.1.1 in
     let all : text ++ [] ≡ text = append-nil text in
     let body : body_at is.1.0 (reading_at place text) ≡ Ok (c.body, reading_at (place + length text) []) = subst (λ (t : List ℕ). body_at is.1.0 (reading_at place t) ≡ Ok (c.body, reading_at (place + length text) [])) all (body-again is.1.0 c.body place [] is.1.2) in
     rw (whole, head, body) refl
 
 -- ---- the header alone
 
-head-header : (n : ℕ) (r : Reading) (x : (Header × BodyForm) × Reading) → head_at n r ≡ Ok x → (y : Header × Reading) × (header_at r ≡ Ok y) × (y.0 ≡ x.0.0)
+head-header : (shape : Shape) (r : Reading) (x : (Header × BodyForm) × Reading) → head_at shape r ≡ Ok x → (y : Header × Reading) × (header_at r ≡ Ok y) × (y.0 ≡ x.0.0)
 unfolding head_at
-head-header n r x e =
-    let h = bind_ok (fault_as cut (header_at r)) (λ header. unless (not (header.0.version == 1)) (offence 8 0) header.1 >>= λ version. unless (not (is_slot (group_of n) header.0.stage header.0.sender)) (offence 9 41) header.1 >>= λ slot. fault_as cut (number_at w8 header.1) >>= λ kind. or_refuse (body_form (group_of n) header.0.stage kind.0) (offence 1 75) >>= λ form. Ok ((header.0, form), kind.1)) x e in
-    let v = bind_ok (unless (not (h.0.0.version == 1)) (offence 8 0) h.0.1) (λ version. unless (not (is_slot (group_of n) h.0.0.stage h.0.0.sender)) (offence 9 41) h.0.1 >>= λ slot. fault_as cut (number_at w8 h.0.1) >>= λ kind. or_refuse (body_form (group_of n) h.0.0.stage kind.0) (offence 1 75) >>= λ form. Ok ((h.0.0, form), kind.1)) x h.2 in
-    let s = bind_ok (unless (not (is_slot (group_of n) h.0.0.stage h.0.0.sender)) (offence 9 41) h.0.1) (λ slot. fault_as cut (number_at w8 h.0.1) >>= λ kind. or_refuse (body_form (group_of n) h.0.0.stage kind.0) (offence 1 75) >>= λ form. Ok ((h.0.0, form), kind.1)) x v.2 in
-    let k = bind_ok (fault_as cut (number_at w8 h.0.1)) (λ kind. or_refuse (body_form (group_of n) h.0.0.stage kind.0) (offence 1 75) >>= λ form. Ok ((h.0.0, form), kind.1)) x s.2 in
-    let f = bind_ok (or_refuse (body_form (group_of n) h.0.0.stage k.0.0) (offence 1 75)) (λ form. Ok ((h.0.0, form), k.0.1)) x k.2 in
+head-header shape r x e =
+    let h = bind_ok (fault_as cut (header_at r)) (λ header. unless (not (header.0.version == shape.version)) (offence 8 0) header.1 >>= λ version. unless (not (is_slot shape header.0.stage header.0.sender)) (offence 9 41) header.1 >>= λ slot. fault_as cut (number_at w8 header.1) >>= λ kind. or_refuse (body_form shape header.0.stage kind.0) (offence 1 75) >>= λ form. Ok ((header.0, form), kind.1)) x e in
+    let v = bind_ok (unless (not (h.0.0.version == shape.version)) (offence 8 0) h.0.1) (λ version. unless (not (is_slot shape h.0.0.stage h.0.0.sender)) (offence 9 41) h.0.1 >>= λ slot. fault_as cut (number_at w8 h.0.1) >>= λ kind. or_refuse (body_form shape h.0.0.stage kind.0) (offence 1 75) >>= λ form. Ok ((h.0.0, form), kind.1)) x h.2 in
+    let s = bind_ok (unless (not (is_slot shape h.0.0.stage h.0.0.sender)) (offence 9 41) h.0.1) (λ slot. fault_as cut (number_at w8 h.0.1) >>= λ kind. or_refuse (body_form shape h.0.0.stage kind.0) (offence 1 75) >>= λ form. Ok ((h.0.0, form), kind.1)) x v.2 in
+    let k = bind_ok (fault_as cut (number_at w8 h.0.1)) (λ kind. or_refuse (body_form shape h.0.0.stage kind.0) (offence 1 75) >>= λ form. Ok ((h.0.0, form), kind.1)) x s.2 in
+    let f = bind_ok (or_refuse (body_form shape h.0.0.stage k.0.0) (offence 1 75)) (λ form. Ok ((h.0.0, form), k.0.1)) x k.2 in
     let same = given ((h.0.0, f.0), k.0.1) x f.2 in
     (h.0, fault_as_ok cut (header_at r) h.0 h.1, ap (λ (x : (Header × BodyForm) × Reading). x.0.0) same)
 
@@ -262,18 +263,18 @@ header_ok bytes y h e same =
     let told : Header → Result Header Short = λ h. Ok h in
     rw e (ap told same)
 
-pub content-header : (n : ℕ) (bytes : List ℕ) (c : Content) → content_read n bytes ≡ Ok c → header_of bytes ≡ Ok c.header
+pub content-header : (shape : Shape) (bytes : List ℕ) (c : Content) → content_read shape bytes ≡ Ok c → header_of bytes ≡ Ok c.header
 unfolding content_read
-content-header n bytes c e =
-    let w = bind_ok (unless (nat_lt (length bytes) 76) (offence 7 (length bytes)) (reading_of bytes)) (λ whole. head_at n (reading_of bytes) >>= λ head. body_at head.0.1 head.1 >>= λ body. unless (nat_lt 0 (length body.1.rest)) (offence 3 body.1.place) (record { header = head.0.0; body = body.0 })) c e in
-    let h = bind_ok (head_at n (reading_of bytes)) (λ head. body_at head.0.1 head.1 >>= λ body. unless (nat_lt 0 (length body.1.rest)) (offence 3 body.1.place) (record { header = head.0.0; body = body.0 })) c w.2 in
+content-header shape bytes c e =
+    let w = bind_ok (unless (nat_lt (length bytes) 76) (offence 7 (length bytes)) (reading_of bytes)) (λ whole. head_at shape (reading_of bytes) >>= λ head. body_at head.0.1 head.1 >>= λ body. unless (nat_lt 0 (length body.1.rest)) (offence 3 body.1.place) (record { header = head.0.0; body = body.0 })) c e in
+    let h = bind_ok (head_at shape (reading_of bytes)) (λ head. body_at head.0.1 head.1 >>= λ body. unless (nat_lt 0 (length body.1.rest)) (offence 3 body.1.place) (record { header = head.0.0; body = body.0 })) c w.2 in
     let b = bind_ok (body_at h.0.0.1 h.0.1) (λ body. unless (nat_lt 0 (length body.1.rest)) (offence 3 body.1.place) (record { header = h.0.0.0; body = body.0 })) c h.2 in
     let ended = guard_ok (nat_lt 0 (length b.0.1.rest)) (offence 3 b.0.1.place) (record { header = h.0.0.0; body = b.0.0 }) c b.2 in
-    let y = head-header n (reading_of bytes) h.0 h.1 in
+    let y = head-header shape (reading_of bytes) h.0 h.1 in
     header_ok bytes y.0 c.header y.1 (y.2 ∙ ap (λ (c : Content). c.header) ended.1)
 
 -- what a decoder answers is of the grammar, and spelled so
-pub is_found : (n : ℕ) (bytes : List ℕ) (r : Result Content DecodeRefusal) → IsBytes bytes → Gives fault (λ x. x) r (content_read n bytes)
-    → IfOk r (λ c. OfGrammar n c × (bytes ≡ content_text c))
-is_found n bytes (Ok c) are given = let s = content-is_spelled n bytes c are given in (s.1, s.0)
-is_found n bytes (Err refusal) are given = tt
+pub is_found : (shape : Shape) (bytes : List ℕ) (r : Result Content DecodeRefusal) → IsBytes bytes → Gives fault (λ x. x) r (content_read shape bytes)
+    → IfOk r (λ c. OfGrammar shape c × (bytes ≡ content_text c))
+is_found shape bytes (Ok c) are given = let s = content-is_spelled shape bytes c are given in (s.1, s.0)
+is_found shape bytes (Err refusal) are given = tt

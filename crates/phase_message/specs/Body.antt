@@ -4,7 +4,8 @@ use Rattle.phase_message.specs.declared.stage.StageKind.{StageKind}
 use Rattle.phase_message.specs.declared.stage.StageKind.TheVariants.{Keys as AtKeys, Submit as AtSubmit, Shuffle as AtShuffle, Go as AtGo, Final as AtFinal, Pad as AtPad, Check as AtCheck, Confirm as AtConfirm}
 use Rattle.phase_message.specs.declared.form.BodyForm.{BodyForm}
 use Rattle.phase_message.specs.declared.form.BodyForm.TheVariants.{Keys, Submit, Shuffled, Abort, Go, Reveal, Dispute, Pads, Check, Confirm, Differ}
-use Rattle.phase_message.specs.Stages.{Shape, kind_of_stage}
+use Rattle.phase_message.specs.Shape.{Shape}
+use Rattle.phase_message.specs.Stages.{kind_of_stage}
 use Rattle.phase_message.specs.Slots.{slots_before}
 
 -- How many bytes an entry of a shuffle has after k of its n turns: a descriptor (shuffle A, number 1) or an

@@ -11,7 +11,8 @@ use Rattle.phase_message.specs.declared.form.BodyForm.TheVariants.{Keys as OfKey
 use Rattle.phase_message.specs.declared.content.Body.{Body}
 use Rattle.phase_message.specs.declared.content.Body.TheVariants.{Keys, Submit, Shuffled, Abort, Go, Reveal, Dispute, Pads, Check, Confirm, Differ}
 use Rattle.phase_message.specs.declared.content.Content.{Content}
-use Rattle.phase_message.specs.Stages.{group_of, is_slot}
+use Rattle.phase_message.specs.Shape.{Shape}
+use Rattle.phase_message.specs.Stages.{is_slot}
 use Rattle.phase_message.specs.Body.{body_form}
 
 -- ---- spelling
@@ -89,21 +90,21 @@ Fits (OfConfirm count) (Confirm votes) = AreItems Post count votes
 Fits (OfDiffer count) (Differ posts) = AreItems Post count posts
 Fits _ _ = ⊥
 
--- version 1, a slot of the group, and numbers and hashes of their widths
-pub record IsHeader (n : ℕ) (h : Header) : Type 0 where
-  pub version_is : h.version ≡ 1
+-- the version of the shape, a slot of the round, and numbers and hashes of their widths
+pub record IsHeader (shape : Shape) (h : Header) : Type 0 where
+  pub version_is : h.version ≡ shape.version
   pub group_long : length h.group ≡ 32
   pub round_small : h.round < 2 ^ 64
-  pub slot_is : is_slot (group_of n) h.stage h.sender ≡ true
+  pub slot_is : is_slot shape h.stage h.sender ≡ true
   pub view_long : length h.view ≡ 32
 
 -- the stage has the body's kind, and the body holds what the kind holds there
-abbrev pub IsBody : ℕ → ℕ → Body → Type 0
-IsBody n stage body = (form : BodyForm) × (body_form (group_of n) stage (kind_number body) ≡ Some form) × Fits form body
+abbrev pub IsBody : Shape → ℕ → Body → Type 0
+IsBody shape stage body = (form : BodyForm) × (body_form shape stage (kind_number body) ≡ Some form) × Fits form body
 
--- a content that a member of a group of n may say
-abbrev pub OfGrammar : ℕ → Content → Type 0
-OfGrammar n c = IsHeader n c.header × IsBody n c.header.stage c.body
+-- a content that a member may say in a round of a shape
+abbrev pub OfGrammar : Shape → Content → Type 0
+OfGrammar shape c = IsHeader shape c.header × IsBody shape c.header.stage c.body
 
 -- a post's and a pad's length stands in four bytes
 abbrev pub ItemsAreShort : Body → Type 0

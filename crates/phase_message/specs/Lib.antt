@@ -1,4 +1,5 @@
 pub mod First
+pub mod Shape
 pub mod Stages
 pub mod Header
 pub mod Slots

@@ -1,7 +1,7 @@
 -- Reading a content from left to right: what it says, or the first offence, which is a rule with a place.
 --
 --   rule 7  fewer than 76 bytes                        at the number of bytes
---   rule 8  the version is not 1                       at 0
+--   rule 8  the version is not the shape's             at 0
 --   rule 9  stage and sender are no slot               at 41, the stage
 --   rule 1  the stage has no such kind                 at 75, the kind
 --   rule 2  a field of the body ends after the content at the field
@@ -24,7 +24,8 @@ use Rattle.phase_message.specs.declared.content.Body.TheVariants.{Keys, Submit, 
 use Rattle.phase_message.specs.declared.content.Content.{Content}
 use Rattle.phase_message.specs.declared.content.DecodeRefusal.{DecodeRefusal}
 use Rattle.phase_message.specs.declared.content.DecodeRefusal.TheVariants.{Malformed, Memory}
-use Rattle.phase_message.specs.Stages.{group_of, is_slot}
+use Rattle.phase_message.specs.Shape.{Shape}
+use Rattle.phase_message.specs.Stages.{is_slot}
 use Rattle.phase_message.specs.Header.{header_at}
 use Rattle.phase_message.specs.Body.{body_form}
 
@@ -120,19 +121,19 @@ or_refuse None refusal = Err refusal
 or_refuse (Some x) refusal = Ok x
 
 -- the header and the kind, with what a body of the kind holds at the stage
-unfoldable pub head_at : ℕ → Reading → Result ((Header × BodyForm) × Reading) Offence
-head_at n before = do
+unfoldable pub head_at : Shape → Reading → Result ((Header × BodyForm) × Reading) Offence
+head_at shape before = do
   header ← fault_as cut (header_at before)
-  version ← unless (not (header.0.version == 1)) (offence 8 0) header.1
-  slot ← unless (not (is_slot (group_of n) header.0.stage header.0.sender)) (offence 9 41) header.1
+  version ← unless (not (header.0.version == shape.version)) (offence 8 0) header.1
+  slot ← unless (not (is_slot shape header.0.stage header.0.sender)) (offence 9 41) header.1
   kind ← fault_as cut (number_at w8 header.1)
-  form ← or_refuse (body_form (group_of n) header.0.stage kind.0) (offence 1 75)
+  form ← or_refuse (body_form shape header.0.stage kind.0) (offence 1 75)
   Ok ((header.0, form), kind.1)
 
--- a content of a group of n members, or its first offence
-unfoldable pub content_read : ℕ → List ℕ → Result Content Offence
-content_read n bytes = do
+-- a content of a round of a shape, or its first offence
+unfoldable pub content_read : Shape → List ℕ → Result Content Offence
+content_read shape bytes = do
   whole ← unless (nat_lt (length bytes) 76) (offence 7 (length bytes)) (reading_of bytes)
-  head ← head_at n (reading_of bytes)
+  head ← head_at shape (reading_of bytes)
   body ← body_at head.0.1 head.1
   unless (nat_lt 0 (length body.1.rest)) (offence 3 body.1.place) (record { header = head.0.0; body = body.0 })

@@ -4,7 +4,8 @@ use Rattle.std.specs.Prelude.{ℕ, ◌+◌, ◌-◌, take, Option, Some}
 use Rattle.std.specs.List.{sum_by}
 use Rattle.phase_message.specs.declared.stage.StageKind.{StageKind}
 use Rattle.phase_message.specs.declared.stage.StageKind.TheVariants.{Shuffle}
-use Rattle.phase_message.specs.Stages.{Shape, stages, kind_of_stage}
+use Rattle.phase_message.specs.Shape.{Shape}
+use Rattle.phase_message.specs.Stages.{stages, kind_of_stage}
 
 -- how many members speak in a stage of a kind: one at its turn of a shuffle, else all
 abbrev pub senders_of : Shape → StageKind → ℕ

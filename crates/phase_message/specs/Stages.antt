@@ -1,24 +1,20 @@
 -- The stages of a round, and who speaks in each.
 use Rattle.std.specs.Prelude.{ℕ, List, [], ◌∷◌, ◌++◌, map, Bool, false, nat_eq, nat_le, ◌&&◌, Option, Some, None}
 use Rattle.std.specs.List.{slice_get, range_with_len}
+use Rattle.phase_message.specs.declared.shape.Shape.{Shape as GivenShape}
 use Rattle.phase_message.specs.declared.stage.StageKind.{StageKind}
 use Rattle.phase_message.specs.declared.stage.StageKind.TheVariants.{Keys, Submit, Shuffle, Go, Final, Pad, Check, Confirm}
+use Rattle.phase_message.specs.Shape.{Shape}
 
--- what the stages of a round depend on: its version, and how many members the group has
-pub record Shape : Type 0 where
-  pub version : ℕ
-  pub members : ℕ
-
--- a group of n members in version 1
-abbrev pub group_of : ℕ → Shape
-group_of n = record { version = 1; members = n }
+-- the two numbers of a shape that a call is given
+abbrev pub shape_of : GivenShape → Shape
+shape_of given = record { version = given.version; members = given.members }
 
 -- the turns of a shuffle: of member 1, 2, .., to the last
 abbrev pub turns : ℕ → ℕ → List StageKind
 turns shuffle n = map (λ k. Shuffle shuffle k) (range_with_len 1 n)
 
--- The stages in their order, from number 0 on. Shuffle A is number 1 and shuffle B number 2. Version 1
--- is the only one so far.
+-- The stages in their order, from number 0 on. Shuffle A is number 1 and shuffle B number 2.
 abbrev pub stages : Shape → List StageKind
 stages shape =
     (Keys ∷ Submit 1 ∷ []) ++ (turns 1 shape.members

@@ -4,11 +4,13 @@ ghost use Rattle.std.specs.Prelude.{◌≡◌, ◌<◌, ◌≤◌, ◌^◌, leng
 ghost use Rattle.wire_core.specs.Reading.{Gives, ReadsOr};
 ghost use Rattle.phase_message.specs.declared.content.DecodeRefusal.TheVariants.{Malformed, Memory};
 ghost use Rattle.phase_message.specs.Grammar.{OfGrammar, content_text};
+ghost use Rattle.phase_message.specs.Stages.{shape_of};
 ghost use Rattle.phase_message.specs.Offence.{body_at, content_read, fault, head_at};
 
 use crate::field::{flag, item, items, key};
 use crate::form::{BodyForm, ItemForm, form_at};
 use crate::header::{Header, fields, hash};
+use crate::shape::Shape;
 use crate::stage::{Slot, is_slot};
 use std::alloc::{AllocError, AllocFailed, Global};
 use wire_core::{Cursor, List, Short};
@@ -110,11 +112,11 @@ impl From<Short> for DecodeRefusal {
     }
 }
 
-/// The content that bytes spell in a group of n members. `Malformed` names the first rule that they
+/// The content that bytes spell in a round of a shape. `Malformed` names the first rule that they
 /// break, read from left to right, and the offset:
 ///
 /// - 7: there are fewer than 76 bytes; at the number of bytes
-/// - 8: the version is not 1; at 0
+/// - 8: the version is not the shape's; at 0
 /// - 9: stage and sender are no slot of the group; at 41
 /// - 1: the stage has no body of this kind; at 75
 /// - 2: a field of the body ends after the content; at the field
@@ -122,31 +124,27 @@ impl From<Short> for DecodeRefusal {
 /// - 5: a flag is neither 0 nor 1; at the flag
 /// - 6: a pad has more than 65,536 bytes; at its length
 /// - 3: bytes follow the body; at the first of them
-pub fn decode(alloc: Global, n: u8, bytes: &[u8]) -> Result<Content, DecodeRefusal>
-    requires two { 2 ≤ n }
-    requires eight { n ≤ 8 }
+pub fn decode(alloc: Global, shape: Shape, bytes: &[u8]) -> Result<Content, DecodeRefusal>
     requires short { length bytes.now < 2 ^ 32 }
     // What is read is of the grammar, and the bytes are its one spelling.
-    ensures found { IfOk result (λ c. OfGrammar n c × (bytes.now ≡ content_text c)) }
+    ensures found { IfOk result (λ c. OfGrammar (shape_of shape) c × (bytes.now ≡ content_text c)) }
     // Which offence it is.
-    ensures exact { Gives fault (λ x. x) result (content_read n bytes.now) }
+    ensures exact { Gives fault (λ x. x) result (content_read (shape_of shape) bytes.now) }
 {
-    read_content(alloc, n, bytes)
+    read_content(alloc, shape, bytes)
 }
 
 #[tactic(auto, unfolding(crate::specs::Offence::content_read))]
-fn read_content(alloc: Global, n: u8, bytes: &[u8]) -> Result<Content, DecodeRefusal>
-    requires two { 2 ≤ n }
-    requires eight { n ≤ 8 }
+fn read_content(alloc: Global, shape: Shape, bytes: &[u8]) -> Result<Content, DecodeRefusal>
     requires short { length bytes.now < 2 ^ 32 }
-    ensures { Gives fault (λ x. x) result (content_read n bytes.now) }
+    ensures { Gives fault (λ x. x) result (content_read (shape_of shape) bytes.now) }
 {
     let mut cursor = Cursor::new(bytes);
     if cursor.left() < 76 {
         let at = cursor.left();
         return Err(DecodeRefusal::Malformed { at, rule: 7 });
     }
-    let (header, form) = read_head(n, &mut cursor)?;
+    let (header, form) = read_head(shape, &mut cursor)?;
     let body = read_body(alloc, &mut cursor, form)?;
     if cursor.left() > 0 {
         let at = cursor.place();
@@ -157,24 +155,22 @@ fn read_content(alloc: Global, n: u8, bytes: &[u8]) -> Result<Content, DecodeRef
 
 // The header, the kind, and what a body of the kind holds.
 #[tactic(auto, unfolding(crate::specs::Offence::head_at))]
-fn read_head(n: u8, cursor: &mut Cursor) -> Result<(Header, BodyForm), DecodeRefusal>
-    requires two { 2 ≤ n }
-    requires eight { n ≤ 8 }
-    ensures { ReadsOr fault (λ x. x) result cursor.new (head_at n cursor.old) }
+fn read_head(shape: Shape, cursor: &mut Cursor) -> Result<(Header, BodyForm), DecodeRefusal>
+    ensures { ReadsOr fault (λ x. x) result cursor.new (head_at (shape_of shape) cursor.old) }
 {
     let header = fields(cursor)?;
-    if header.version != 1 {
+    if header.version != shape.version {
         return Err(DecodeRefusal::Malformed { at: 0, rule: 8 });
     }
     let slot = Slot {
         stage: header.stage,
         sender: header.sender,
     };
-    if !is_slot(n, slot) {
+    if !is_slot(shape, slot) {
         return Err(DecodeRefusal::Malformed { at: 41, rule: 9 });
     }
     let kind = cursor.u8()?;
-    match form_at(n, header.stage, kind) {
+    match form_at(shape, header.stage, kind) {
         None => Err(DecodeRefusal::Malformed { at: 75, rule: 1 }),
         Some(form) => Ok((header, form)),
     }

@@ -2,16 +2,18 @@
 
 ghost use Rattle.std.specs.Prelude.{◌≡◌, ◌<◌, ◌^◌, ◌++◌, length, OnOk, IfOk};
 ghost use Rattle.std.specs.List.{flat_map, AllByRecursion};
+ghost use Rattle.phase_message.specs.Stages.{shape_of};
 ghost use Rattle.phase_message.specs.Grammar.{ItemsAreShort, OfGrammar, body_text, content_text, flag_text, header_text, kind_number, prefixed};
 
 use crate::content::{Body, Content};
 use crate::header::Header;
+use crate::shape::Shape;
 use std::alloc::Global;
 use wire_core::{List, Mem, put_bytes, put_u8, put_u32, put_u64};
 
-/// The one spelling of a content that a group of n members may say. Only memory can be wanting.
-pub fn encode(alloc: Global, n: u8, content: &Content) -> Mem<Vec<u8>>
-    requires { OfGrammar n content.now }
+/// The one spelling of a content that a member may say in a round of a shape. It refuses only where it runs out of memory.
+pub fn encode(alloc: Global, shape: Shape, content: &Content) -> Mem<Vec<u8>>
+    requires { OfGrammar (shape_of shape) content.now }
     ensures { IfOk result (λ bytes. bytes.items ≡ content_text content.now) }
 {
     let mut out = Vec::new(alloc);

@@ -1,9 +1,10 @@
 //! What a body holds, by its stage and its kind.
 
 ghost use Rattle.std.specs.Prelude.{◌≡◌, ◌≤◌};
-ghost use Rattle.phase_message.specs.Stages.{group_of};
+ghost use Rattle.phase_message.specs.Stages.{shape_of};
 ghost use Rattle.phase_message.specs.Body.{body_form, form_in, length_rule, level};
 
+use crate::shape::Shape;
 use crate::slots::slots_before;
 use crate::stage::{StageKind, stage_kind};
 
@@ -33,28 +34,25 @@ pub(crate) enum BodyForm {
 
 // What a body holds at a stage under a kind's number: `None` where the stage has no such kind.
 #[tactic(auto, unfolding(crate::specs::Body::body_form))]
-pub(crate) fn form_at(n: u8, stage: u8, kind: u8) -> Option<BodyForm>
-    requires two { 2 ≤ n }
-    requires eight { n ≤ 8 }
-    ensures { result ≡ body_form (group_of n) stage kind }
+pub(crate) fn form_at(shape: Shape, stage: u8, kind: u8) -> Option<BodyForm>
+    ensures { result ≡ body_form (shape_of shape) stage kind }
 {
-    let stage_kind = stage_kind(n, stage)?;
-    form_of_kind(n, stage_kind, slots_before(n, stage), kind)
+    let stage_kind = stage_kind(shape, stage)?;
+    form_of_kind(shape, stage_kind, slots_before(shape, stage), kind)
 }
 
-fn form_of_kind(n: u8, stage: StageKind, before: u32, kind: u8) -> Option<BodyForm>
-    requires eight { n ≤ 8 }
-    ensures { result ≡ form_in (group_of n) before stage kind }
+fn form_of_kind(shape: Shape, stage: StageKind, before: u32, kind: u8) -> Option<BodyForm>
+    ensures { result ≡ form_in (shape_of shape) before stage kind }
 {
-    let count = u32::from(n);
+    let count = u32::from(shape.members);
     match stage {
         StageKind::Keys if kind == 1 => Some(BodyForm::Keys),
         StageKind::Submit { shuffle } if kind == 2 => Some(BodyForm::Submit {
-            length: entry_length(n, shuffle, 0),
+            length: entry_length(shape, shuffle, 0),
         }),
         StageKind::Shuffle { shuffle, k } if kind == 3 => Some(BodyForm::Shuffled {
             count,
-            length: entry_length(n, shuffle, k),
+            length: entry_length(shape, shuffle, k),
         }),
         StageKind::Shuffle { .. } if kind == 4 => Some(BodyForm::Abort),
         StageKind::Go { .. } if kind == 5 => Some(BodyForm::Go),
@@ -70,25 +68,22 @@ fn form_of_kind(n: u8, stage: StageKind, before: u32, kind: u8) -> Option<BodyFo
 
 /// How many bytes the body of every content of a stage has: 9,120 for keys, those of a wrapped item
 /// for a submission, 1 for a vote. 0 for the other stages, where the length varies.
-pub fn length_rule(n: u8, kind: StageKind) -> u32
-    requires two { 2 ≤ n }
-    requires eight { n ≤ 8 }
-    ensures { result ≡ length_rule (group_of n) kind }
+pub fn length_rule(shape: Shape, kind: StageKind) -> u32
+    ensures { result ≡ length_rule (shape_of shape) kind }
 {
     match kind {
         StageKind::Keys => 9120,
-        StageKind::Submit { shuffle } => entry_length(n, shuffle, 0),
+        StageKind::Submit { shuffle } => entry_length(shape, shuffle, 0),
         StageKind::Go { .. } | StageKind::Check => 1,
         _ => 0,
     }
 }
 
 // How many bytes an entry of a shuffle has once k of its layers are off.
-fn entry_length(n: u8, shuffle: u8, k: u8) -> u32
-    requires eight { n ≤ 8 }
-    ensures { result ≡ level n shuffle k }
+fn entry_length(shape: Shape, shuffle: u8, k: u8) -> u32
+    ensures { result ≡ level shape.members shuffle k }
 {
-    let members = u32::from(n);
+    let members = u32::from(shape.members);
     let item = if shuffle == 1 {
         36 + 2272 * members
     } else {

@@ -9,6 +9,7 @@ mod form;
 mod header;
 mod laws;
 mod post;
+mod shape;
 mod slots;
 mod stage;
 
@@ -18,6 +19,7 @@ pub use form::length_rule;
 pub use header::{Header, read_header};
 pub use laws::{contents_are_spelled, headers_agree, spelled_contents_are_read};
 pub use post::Post;
+pub use shape::Shape;
 pub use slots::{slot_number, slots_before};
 pub use stage::{Slot, StageKind, is_slot, stage_kind};
 

@@ -1,7 +1,9 @@
 //! The stages of a round, and who speaks in each.
 
 ghost use Rattle.std.specs.Prelude.{◌≡◌, ◌<◌, ◌≤◌, ◌+◌, ◌*◌, ◌↔◌, IsNone, IsSome};
-ghost use Rattle.phase_message.specs.Stages.{group_of, kind_of_stage, is_slot};
+ghost use Rattle.phase_message.specs.Stages.{shape_of, kind_of_stage, is_slot};
+
+use crate::shape::Shape;
 
 /// What a stage is for. Shuffle A is number 1 and shuffle B number 2.
 #[derive(Clone, Copy, Debug, PartialEq, Eq)]
@@ -33,15 +35,14 @@ pub struct Slot {
     pub sender: u8,
 }
 
-/// What a stage is in a group of n members: `None` exactly where the number is 2n + 10 or more.
-pub fn stage_kind(n: u8, stage: u8) -> Option<StageKind>
-    requires two { 2 ≤ n }
-    requires eight { n ≤ 8 }
-    ensures kind { result ≡ kind_of_stage (group_of n) stage }
-    ensures none { IsNone result ↔ (2 * n + 10 ≤ stage) }
+/// What a stage is in a round of N members: `None` exactly where the number is 2N + 10 or more.
+pub fn stage_kind(shape: Shape, stage: u8) -> Option<StageKind>
+    ensures kind { result ≡ kind_of_stage (shape_of shape) stage }
+    ensures none { IsNone result ↔ (2 * shape.members + 10 ≤ stage) }
 {
+    let n = shape.members;
     if stage < n + 7 {
-        return first_half(n, stage);
+        return first_half(shape, stage);
     }
     let from_b = stage - (n + 7);
     if from_b == 0 {
@@ -61,13 +62,12 @@ pub fn stage_kind(n: u8, stage: u8) -> Option<StageKind>
 }
 
 // The stages before those of shuffle B.
-fn first_half(n: u8, stage: u8) -> Option<StageKind>
-    requires two { 2 ≤ n }
-    requires eight { n ≤ 8 }
-    requires before_b { stage < n + 7 }
-    ensures kind { result ≡ kind_of_stage (group_of n) stage }
+fn first_half(shape: Shape, stage: u8) -> Option<StageKind>
+    requires before_b { stage < shape.members + 7 }
+    ensures kind { result ≡ kind_of_stage (shape_of shape) stage }
     ensures some { IsSome result }
 {
+    let n = shape.members;
     if stage == 0 {
         return Some(StageKind::Keys);
     }
@@ -90,16 +90,14 @@ fn first_half(n: u8, stage: u8) -> Option<StageKind>
     }
 }
 
-/// Whether a stage and a member are a slot of a group of n members: the round has the stage, and
-/// the member speaks in it. At its turn of a shuffle one member speaks, else all members 1 to n.
-pub fn is_slot(n: u8, slot: Slot) -> bool
-    requires two { 2 ≤ n }
-    requires eight { n ≤ 8 }
-    ensures { result ≡ is_slot (group_of n) slot.stage slot.sender }
+/// Whether a stage and a member are a slot of a round: the round has the stage, and the member
+/// speaks in it. At its turn of a shuffle one member speaks, else all members 1 to N.
+pub fn is_slot(shape: Shape, slot: Slot) -> bool
+    ensures { result ≡ is_slot (shape_of shape) slot.stage slot.sender }
 {
-    match stage_kind(n, slot.stage) {
+    match stage_kind(shape, slot.stage) {
         None => false,
         Some(StageKind::Shuffle { k, .. }) => slot.sender == k,
-        Some(_) => 1 <= slot.sender && slot.sender <= n,
+        Some(_) => 1 <= slot.sender && slot.sender <= shape.members,
     }
 }

@@ -5,6 +5,17 @@ use super::*;
 use std::alloc::Global;
 use std::test::Fail;
 
+// A round of three members, and one of eight.
+const THREE: Shape = Shape {
+    version: 1,
+    members: 3,
+};
+
+const EIGHT: Shape = Shape {
+    version: 1,
+    members: 8,
+};
+
 // The table of stages of a group of three.
 #[test]
 fn stages_of_three(rt: HostRuntime) {
@@ -26,7 +37,7 @@ fn stages_of_three(rt: HostRuntime) {
         (16, None),
     ];
     for (stage, kind) in want {
-        assert!(rt; stage_kind(3, stage) == kind, "at {stage}");
+        assert!(rt; stage_kind(THREE, stage) == kind, "at {stage}");
     }
 }
 
@@ -43,9 +54,9 @@ fn begun(stage: u8, sender: u8, kind: u8) -> [u8; 9196] {
 // What the first bytes of a content are read as in a group of three.
 fn read(alloc: Global, content: &[u8; 9196], length: usize) -> Result<Content, DecodeRefusal>
     requires { length ≤ 9196 }
-    ensures { IfOk result (OfGrammar 3) }
+    ensures { IfOk result (OfGrammar (record { version = 1; members = 3 })) }
 {
-    decode(alloc, 3, &content[..length])
+    decode(alloc, THREE, &content[..length])
 }
 
 // Whether bytes are the first of a content.
@@ -101,7 +112,7 @@ fn contents_are_read(rt: HostRuntime) -> Result<(), Fail> {
     let said = read(alloc, &go, 77)?;
     assert!(rt; said.header.sender == 2);
     assert!(rt; matches!(&said.body, Body::Go { yes: true }));
-    let written = encode(alloc, 3, &said)?;
+    let written = encode(alloc, THREE, &said)?;
     assert!(rt; is_front(&written, &go, 77));
     let mut pads = begun(7, 1, 8);
     pads[79] = 1;
@@ -117,19 +128,40 @@ fn contents_are_read(rt: HostRuntime) -> Result<(), Fail> {
     Ok(())
 }
 
+// The shapes of version 1, and the least and greatest numbers outside.
+#[test]
+fn shapes_are_of_version_1(rt: HostRuntime) {
+    let want = [
+        (1, 1, false),
+        (1, 2, true),
+        (1, 8, true),
+        (1, 9, false),
+        (0, 2, false),
+        (2, 8, false),
+    ];
+    for (version, members, given) in want {
+        let shape = Shape::new(version, members);
+        assert!(rt;
+            shape.is_some() == given,
+            "version {version}, {members} members"
+        );
+    }
+    assert!(rt; Shape::new(1, 3) == Some(THREE));
+}
+
 // The last slot of three members, and the lengths of keys, submissions and votes of eight.
 #[test]
 fn slots_and_lengths(rt: HostRuntime) {
-    assert!(rt; slots_before(3, 15) == 33);
+    assert!(rt; slots_before(THREE, 15) == 33);
     let last = Slot {
         stage: 15,
         sender: 3,
     };
-    assert!(rt; is_slot(3, last));
-    assert!(rt; slot_number(3, last) == 35);
-    assert!(rt; length_rule(8, StageKind::Keys) == 9120);
-    assert!(rt; length_rule(8, StageKind::Submit { shuffle: 1 }) == 54_564);
-    assert!(rt; length_rule(8, StageKind::Submit { shuffle: 2 }) == 36_386);
-    assert!(rt; length_rule(8, StageKind::Go { shuffle: 1 }) == 1);
-    assert!(rt; length_rule(8, StageKind::Pad) == 0);
+    assert!(rt; is_slot(THREE, last));
+    assert!(rt; slot_number(THREE, last) == 35);
+    assert!(rt; length_rule(EIGHT, StageKind::Keys) == 9120);
+    assert!(rt; length_rule(EIGHT, StageKind::Submit { shuffle: 1 }) == 54_564);
+    assert!(rt; length_rule(EIGHT, StageKind::Submit { shuffle: 2 }) == 36_386);
+    assert!(rt; length_rule(EIGHT, StageKind::Go { shuffle: 1 }) == 1);
+    assert!(rt; length_rule(EIGHT, StageKind::Pad) == 0);
 }
