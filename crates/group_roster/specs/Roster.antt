@@ -3,6 +3,7 @@ use Rattle.std.specs.Prelude.{◌≡◌, ◌≢◌, ◌↔◌, ℕ, zero, suc, �
 use Rattle.std.specs.Option.{option_map}
 use Rattle.std.specs.List.{range_with_len, concat, list_any, slice_get}
 use Rattle.std.specs.Result.{result_ok}
+use Rattle.phase_message.specs.Shape.{Shape}
 use Rattle.phase_message.specs.First.{first_some, first_below}
 use Rattle.wire_core.specs.declared.tag.Tag.TheVariants.{Roster as RosterTag}
 use Rattle.wire_core.specs.Hash.{hash_of}
@@ -22,6 +23,10 @@ roster_magic = 68 ∷ 83 ∷ 82 ∷ 79 ∷ []
 -- the bytes of a roster: the text, the version, the number of keys, and the keys
 abbrev pub roster_spelling : Roster → List ℕ
 roster_spelling r = roster_magic ++ (r.version ∷ length r.keys ∷ concat r.keys)
+
+-- what the stages of the group's rounds depend on
+abbrev pub shape_of_roster : Roster → Shape
+shape_of_roster r = record { version = r.version; members = length r.keys }
 
 -- a group's id: the hash of its roster's bytes
 abbrev pub roster_id : Roster → List ℕ

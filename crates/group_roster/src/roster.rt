@@ -3,11 +3,13 @@
 ghost use Rattle.std.specs.Prelude.{◌≡◌, ◌≢◌, ℕ, ◌≤◌, ◌<◌, ◌+◌, List as Items, Option, length, map, take, slice_index, None, Some, Ok, IfOk, IfSome, ◌*◌};
 ghost use Rattle.std.specs.List.{range_with_len};
 ghost use Rattle.wire_core.specs.Reading.{Gives};
+ghost use Rattle.phase_message.specs.Stages.{shape_of};
 ghost use Rattle.group_roster.specs.Places.{first_unlike, value_unless};
-ghost use Rattle.group_roster.specs.Roster.{IsRosterFile, IsRosterForm, roster_spelling, roster_read, roster_id, key_at, key_of, keys_at, head_offence, key_offence, keys_offence, offence_told, size_of};
+ghost use Rattle.group_roster.specs.Roster.{IsRosterFile, IsRosterForm, roster_spelling, roster_read, roster_id, key_at, key_of, keys_at, head_offence, key_offence, keys_offence, offence_told, shape_of_roster, size_of};
 
 use crate::places::first_unlike;
 use lms_tree::{KeyRefusal, LmsPublic};
+use phase_message::Shape;
 use std::alloc::{AllocError, AllocFailed, Global};
 use thiserror::Error;
 use wire_core::{List, Register, Tag};
@@ -62,6 +64,17 @@ impl Roster {
         ensures { result ≡ length self.now.keys }
     {
         self.keys.items().len() as u8
+    }
+
+    /// What the stages of the group's rounds depend on.
+    pub fn shape(&self) -> Shape
+        requires { IsRosterForm self.now }
+        ensures { shape_of result ≡ shape_of_roster self.now }
+    {
+        Shape {
+            version: self.version,
+            members: self.members(),
+        }
     }
 
     /// The key of a member's number.
