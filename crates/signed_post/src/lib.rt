@@ -1,0 +1,14 @@
+//! Posts: their frame, and the checks that stand before a look at the body.
+#![tactic(auto)]
+
+mod laws;
+mod post;
+#[cfg(test)]
+mod tests;
+
+pub use laws::{posts_are_admitted, posts_are_framed};
+pub use phase_message::Post;
+pub use post::{
+    LEAST_CONTENT, POST_LIMIT, Parts, PostRefusal, ReadRefusal, check, check_header, check_parts,
+    read, unframed,
+};
