@@ -9,7 +9,7 @@ use Rattle.wire_core.specs.Reading.{◌>>=◌, fault_as}
 use Rattle.wire_core.proofs.Readings.{bind_ok, fault_as_ok}
 use Rattle.phase_message.specs.declared.header.Header.{Header}
 use Rattle.phase_message.specs.Header.{header_of}
-use Rattle.phase_message.specs.Stages.{group_of, is_member, is_slot}
+use Rattle.phase_message.specs.Stages.{is_member, is_slot}
 use Rattle.phase_message.proofs.First.{first_some-none, first_some-none_parts}
 use Rattle.lms_tree.specs.declared.keys.LmsPublic.{LmsPublic}
 use Rattle.lms_tree.specs.declared.verifier.LmsRefusal.{LmsRefusal}
@@ -19,7 +19,7 @@ use Rattle.group_roster.specs.declared.roster.Roster.{Roster}
 use Rattle.signed_post.specs.declared.post.PostRefusal.{PostRefusal}
 use Rattle.signed_post.specs.declared.post.PostRefusal.TheVariants.{Frame, Version, Group, Round, Sender, Stage}
 use Rattle.group_roster.specs.Places.{fault_unless, value_unless}
-use Rattle.group_roster.specs.Roster.{roster_id, key_of}
+use Rattle.group_roster.specs.Roster.{roster_id, key_of, shape_of_roster}
 use Rattle.signed_post.specs.Frame.{Signed, FitsFrame, fits_frame, post_limit, least_content}
 use Rattle.signed_post.specs.Admission.{invalid, signature_refusal, header_refusal, admit_framed, Admitted, AdmitsExactly}
 use Rattle.group_roster.proofs.Faults.{fault_unless-true, value_unless-ok, fault_unless-holds, both}
@@ -53,7 +53,7 @@ admit-found roster round post header fits bytes e =
         let o2 = fault_unless (bytes_eq h.group (roster_id roster)) (Group h.group) in
         let o3 = fault_unless (h.round == round) (Round h.round) in
         let o4 = fault_unless (is_member n h.sender) (Sender h.sender) in
-        let o5 = fault_unless (is_slot (group_of n) h.stage h.sender) (Stage h.stage) in
+        let o5 = fault_unless (is_slot (shape_of_roster roster) h.stage h.sender) (Stage h.stage) in
         let o6 = signature_refusal h.sender (key_of roster h.sender) post in
         let p1 = first_some-none_parts o1 (o2 ∷ o3 ∷ o4 ∷ o5 ∷ o6 ∷ []) none in
         let p2 = first_some-none_parts o2 (o3 ∷ o4 ∷ o5 ∷ o6 ∷ []) p1.1 in
@@ -68,7 +68,7 @@ admit-found roster round post header fits bytes e =
           group = (bytes_eq-Decides h.group (roster_id roster)).0 (fault_unless-holds (bytes_eq h.group (roster_id roster)) (Group h.group) p2.0);
           this_round = eqb-true _ _ (fault_unless-holds (h.round == round) (Round h.round) p3.0);
           member = fault_unless-holds (is_member n h.sender) (Sender h.sender) p4.0;
-          slot = fault_unless-holds (is_slot (group_of n) h.stage h.sender) (Stage h.stage) p5.0;
+          slot = fault_unless-holds (is_slot (shape_of_roster roster) h.stage h.sender) (Stage h.stage) p5.0;
           signed = signed h.sender (key_of roster h.sender) post bytes p6.0;
         }
 
@@ -81,14 +81,14 @@ admit-again roster round post h a =
     let o2 = fault_unless (bytes_eq h.group (roster_id roster)) (Group h.group) in
     let o3 = fault_unless (h.round == round) (Round h.round) in
     let o4 = fault_unless (is_member n h.sender) (Sender h.sender) in
-    let o5 = fault_unless (is_slot (group_of n) h.stage h.sender) (Stage h.stage) in
+    let o5 = fault_unless (is_slot (shape_of_roster roster) h.stage h.sender) (Stage h.stage) in
     let o6 = signature_refusal h.sender (key_of roster h.sender) post in
     let none : header_refusal roster round post h ≡ None =
     first_some-none o1 (o2 ∷ o3 ∷ o4 ∷ o5 ∷ o6 ∷ []) (fault_unless-true (h.version == 1) (Version h.version) (eq-eqb _ _ a.version))
     ∙ first_some-none o2 (o3 ∷ o4 ∷ o5 ∷ o6 ∷ []) (fault_unless-true (bytes_eq h.group (roster_id roster)) (Group h.group) ((bytes_eq-Decides h.group (roster_id roster)).1 a.group))
     ∙ first_some-none o3 (o4 ∷ o5 ∷ o6 ∷ []) (fault_unless-true (h.round == round) (Round h.round) (eq-eqb _ _ a.this_round))
     ∙ first_some-none o4 (o5 ∷ o6 ∷ []) (fault_unless-true (is_member n h.sender) (Sender h.sender) a.member)
-    ∙ first_some-none o5 (o6 ∷ []) (fault_unless-true (is_slot (group_of n) h.stage h.sender) (Stage h.stage) a.slot)
+    ∙ first_some-none o5 (o6 ∷ []) (fault_unless-true (is_slot (shape_of_roster roster) h.stage h.sender) (Stage h.stage) a.slot)
     ∙ first_some-none o6 [] (unrefused h.sender (key_of roster h.sender) post a.signed.0 a.signed.1 a.signed.2) in
     ap (λ (r : Result Header Short). fault_as (λ (short : Short). Frame 0) r >>= λ header. value_unless (header_refusal roster round post header) header) a.reads
     ∙ ap (λ (o : Option PostRefusal). value_unless o h) none

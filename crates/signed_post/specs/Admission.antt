@@ -8,13 +8,13 @@ use Rattle.phase_message.specs.declared.header.Header.{Header}
 use Rattle.phase_message.specs.First.{first_some}
 use Rattle.phase_message.specs.Header.{header_of}
 use Rattle.phase_message.specs.Offence.{content_read}
-use Rattle.phase_message.specs.Stages.{group_of, is_member, is_slot}
+use Rattle.phase_message.specs.Stages.{is_member, is_slot}
 use Rattle.lms_tree.specs.declared.keys.LmsPublic.{LmsPublic}
 use Rattle.lms_tree.specs.declared.verifier.LmsRefusal.{LmsRefusal}
 use Rattle.lms_tree.specs.Tree.{LmsValid, lms_check}
 use Rattle.group_roster.specs.declared.roster.Roster.{Roster}
 use Rattle.group_roster.specs.Places.{fault_unless, value_unless}
-use Rattle.group_roster.specs.Roster.{roster_id, key_of}
+use Rattle.group_roster.specs.Roster.{roster_id, key_of, shape_of_roster}
 use Rattle.signed_post.specs.declared.post.PostRefusal.{PostRefusal}
 use Rattle.signed_post.specs.declared.post.PostRefusal.TheVariants.{Frame, Version, Group, Round, Sender, Stage, Signature, Body, Memory}
 use Rattle.signed_post.specs.Frame.{Signed, FitsFrame, fits_frame, framed, post_spelling}
@@ -37,7 +37,7 @@ header_refusal roster round post header = first_some (
     ∷ fault_unless (bytes_eq header.group (roster_id roster)) (Group header.group)
     ∷ fault_unless (header.round == round) (Round header.round)
     ∷ fault_unless (is_member (length roster.keys) header.sender) (Sender header.sender)
-    ∷ fault_unless (is_slot (group_of (length roster.keys)) header.stage header.sender) (Stage header.stage)
+    ∷ fault_unless (is_slot (shape_of_roster roster) header.stage header.sender) (Stage header.stage)
     ∷ signature_refusal header.sender (key_of roster header.sender) post
     ∷ [])
 
@@ -68,7 +68,7 @@ pub record Admitted (roster : Roster) (round : ℕ) (post : Signed) (header : He
   pub group : header.group ≡ roster_id roster
   pub this_round : header.round ≡ round
   pub member : IsTrue (is_member (length roster.keys) header.sender)
-  pub slot : IsTrue (is_slot (group_of (length roster.keys)) header.stage header.sender)
+  pub slot : IsTrue (is_slot (shape_of_roster roster) header.stage header.sender)
   pub signed : (key : LmsPublic) × (key_of roster header.sender ≡ Some key)
       × LmsValid key post.content post.signature
 
@@ -87,14 +87,14 @@ pub record Says (roster : Roster) (round : ℕ) (bytes content : List ℕ) (head
 pub record IsPostFile (roster : Roster) (round : ℕ) (bytes : List ℕ) (content : Content) : Type 0 where
   pub text : List ℕ
   pub says : Says roster round bytes text content.header
-  pub reads : content_read (length roster.keys) text ≡ Ok content
+  pub reads : content_read (shape_of_roster roster) text ≡ Ok content
 
 -- the content of an admitted post whose body is in the grammar, or the first of the eight checks that
 -- refuses it
 unfoldable pub checked : Roster → ℕ → Signed → Result Content PostRefusal
 checked roster round post = do
   header ← admit roster round post
-  fault_as (λ offence. Body offence.at offence.rule) (content_read (length roster.keys) post.content)
+  fault_as (λ offence. Body offence.at offence.rule) (content_read (shape_of_roster roster) post.content)
 
 -- ---- what the code holds
 

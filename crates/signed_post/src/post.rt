@@ -166,7 +166,7 @@ pub fn check(
         × IsOk (admit roster.now round (record { content = post.now.content; signature = post.now.signature }))) }
 {
     let _header = check_header(roster, round, post)?;
-    match decode(alloc, roster.members(), post.content.items()) {
+    match decode(alloc, roster.shape(), post.content.items()) {
         Ok(content) => Ok(content),
         Err(DecodeRefusal::Malformed { at, rule }) => Err(PostRefusal::Body { at, rule }),
         Err(DecodeRefusal::Memory) => Err(PostRefusal::Memory),
@@ -210,7 +210,7 @@ pub fn check_parts(roster: &Roster, round: u64, parts: Parts<'_>) -> Result<Head
         stage: header.stage,
         sender: header.sender,
     };
-    if !is_slot(members, slot) {
+    if !is_slot(roster.shape(), slot) {
         return Err(PostRefusal::Stage {
             found: header.stage,
         });
