@@ -4,3 +4,4 @@ pub mod Trits
 pub mod OpeningLemmas
 pub mod Exactness
 pub mod KeyLemmas
+pub mod ReducedLemmas

@@ -6,11 +6,12 @@ ghost use Rattle.wire_core.specs.Hash.{hash_of};
 ghost use Rattle.ring_poly.specs.Residue.{residue};
 ghost use Rattle.ring_poly.specs.Product.{IsTrit};
 ghost use Rattle.ring_encrypt.specs.Capsule.{capsule_of, sealed_with, carried, message_bit};
+ghost use Rattle.ring_encrypt.specs.Reduced.{is_reduced};
 
 use crate::bytes::join;
 use crate::draws::{draw_ternary, draw_uniform};
 use crate::public_keys::PublicKey;
-use ring_poly::{Poly, Ternary, add, mul, pack, pack_short, residue_of};
+use ring_poly::{Poly, Ternary, add, mul, pack, pack_short, residue_of, unpack, unpack_short};
 use std::marker::Model;
 use wire_core::{Register, Tag};
 
@@ -40,6 +41,14 @@ impl Capsule {
         ensures length { length self.now ≡ 2240 }
     {
         &self.bytes
+    }
+
+    /// Whether each of the 1,280 coefficients that the capsule spells is below 12289, as each is in
+    /// what was sealed.
+    pub fn is_reduced(&self) -> bool
+        ensures { result ≡ is_reduced self.now }
+    {
+        unpack(&self.bytes[..1792]).is_ok() && unpack_short(&self.bytes[1792..]).is_ok()
     }
 }
 

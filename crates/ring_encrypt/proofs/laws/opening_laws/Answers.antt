@@ -1,5 +1,6 @@
 use Rattle.ring_encrypt.proofs.OpeningLemmas.{sealed_is_decoded, length-capsule_of}
 use Rattle.ring_encrypt.proofs.KeyLemmas.{key_is_public_key}
+use Rattle.ring_encrypt.proofs.ReducedLemmas.{sealed_is_reduced}
 use Rattle.ring_encrypt.proofs.Exactness.{opens_exactly, capsule_determines, key_opens}
 use Rattle.ring_encrypt.proofs.laws.opening_laws.Goals as goal
 
@@ -20,3 +21,6 @@ returns-clause-public_key c = key_is_public_key
 
 pub returns-clause-as_long : goal.returns-clause-as_long
 returns-clause-as_long c = length-capsule_of
+
+pub returns-clause-reduced : goal.returns-clause-reduced
+returns-clause-reduced c = sealed_is_reduced
