@@ -1,2 +1,4 @@
 pub mod LayerLemmas
 pub mod WrapLemmas
+pub mod Swaps
+pub mod StrippingLemmas

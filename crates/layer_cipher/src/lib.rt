@@ -9,7 +9,7 @@ mod mask;
 mod peeling;
 mod sealing;
 
-pub use laws::layer_laws;
+pub use laws::{layer_laws, stripping_laws};
 pub use peeling::{Peeled, peel, peel_with};
 pub use sealing::{LAYER_BYTES, seal, wrap};
 
