@@ -18,7 +18,7 @@ pub use encoding::encode;
 pub use form::length_rule;
 pub use header::{Header, read_header};
 pub use laws::{contents_are_spelled, headers_agree, spelled_contents_are_read};
-pub use post::Post;
+pub use post::{LEAST_CONTENT, POST_LIMIT, Post};
 pub use shape::Shape;
 pub use slots::{slot_number, slots_before};
 pub use stage::{Slot, StageKind, is_slot, stage_kind};

@@ -7,6 +7,8 @@ use Rattle.wire_core.specs.declared.cursor.Short.{Short}
 use Rattle.wire_core.specs.Bytes.{IsBytes}
 use Rattle.wire_core.specs.Reading.{◌>>=◌, fault_as}
 use Rattle.wire_core.proofs.Readings.{bind_ok, fault_as_ok}
+use Rattle.phase_message.specs.declared.post.Post.{Post}
+use Rattle.phase_message.specs.declared.post.TheConstants.{LEAST_CONTENT, POST_LIMIT}
 use Rattle.phase_message.specs.declared.header.Header.{Header}
 use Rattle.phase_message.specs.Header.{header_of}
 use Rattle.phase_message.specs.Stages.{is_member, is_slot}
@@ -20,7 +22,7 @@ use Rattle.signed_post.specs.declared.post.PostRefusal.{PostRefusal}
 use Rattle.signed_post.specs.declared.post.PostRefusal.TheVariants.{Frame, Version, Group, Round, Sender, Stage}
 use Rattle.group_roster.specs.Places.{fault_unless, value_unless}
 use Rattle.group_roster.specs.Roster.{roster_id, key_of, shape_of_roster}
-use Rattle.signed_post.specs.Frame.{Signed, FitsFrame, fits_frame, post_limit, least_content}
+use Rattle.signed_post.specs.Frame.{FitsFrame, fits_frame}
 use Rattle.signed_post.specs.Admission.{invalid, signature_refusal, header_refusal, admit_framed, Admitted, AdmitsExactly}
 use Rattle.group_roster.proofs.Faults.{fault_unless-true, value_unless-ok, fault_unless-holds, both}
 
@@ -28,17 +30,17 @@ passed : (r : Result (Unit {0}) LmsRefusal) → invalid r ≡ None → r ≡ Ok 
 passed (Ok u) e = refl
 passed (Err refusal) e = absurd cc
 
-signed : (sender : ℕ) (o : Option LmsPublic) (post : Signed) → IsBytes post.signature → signature_refusal sender o post ≡ None → (key : LmsPublic) × (o ≡ Some key) × LmsValid key post.content post.signature
+signed : (sender : ℕ) (o : Option LmsPublic) (post : Post) → IsBytes post.signature → signature_refusal sender o post ≡ None → (key : LmsPublic) × (o ≡ Some key) × LmsValid key post.content post.signature
 signed sender None post fits e = absurd cc
 signed sender (Some key) post fits e =
     (key, refl, valid_if_passed key post.content post.signature fits (passed (lms_check key post.content post.signature) e))
 
-unrefused : (sender : ℕ) (o : Option LmsPublic) (post : Signed) (key : LmsPublic) → o ≡ Some key → LmsValid key post.content post.signature → signature_refusal sender o post ≡ None
+unrefused : (sender : ℕ) (o : Option LmsPublic) (post : Post) (key : LmsPublic) → o ≡ Some key → LmsValid key post.content post.signature → signature_refusal sender o post ≡ None
 unrefused sender o post key o-is valid =
     ap (λ (o : Option LmsPublic). signature_refusal sender o post) o-is ∙ ap invalid (passed_if_valid key post.content post.signature valid)
 
 -- a post in the frame that is not refused is admitted,
-pub admit-found : (roster : Roster) (round : ℕ) (post : Signed) (header : Header) → FitsFrame post → IsBytes post.signature → admit_framed roster round post ≡ Ok header → Admitted roster round post header
+pub admit-found : (roster : Roster) (round : ℕ) (post : Post) (header : Header) → FitsFrame post → IsBytes post.signature → admit_framed roster round post ≡ Ok header → Admitted roster round post header
 unfolding admit_framed
 admit-found roster round post header fits bytes e =
     let b = bind_ok (fault_as (λ (short : Short). Frame 0) (header_of post.content)) (λ header. value_unless (header_refusal roster round post header) header) header e in
@@ -73,7 +75,7 @@ admit-found roster round post header fits bytes e =
         }
 
 -- and what is admitted is not refused
-pub admit-again : (roster : Roster) (round : ℕ) (post : Signed) (header : Header) → Admitted roster round post header → admit_framed roster round post ≡ Ok header
+pub admit-again : (roster : Roster) (round : ℕ) (post : Post) (header : Header) → Admitted roster round post header → admit_framed roster round post ≡ Ok header
 unfolding admit_framed
 admit-again roster round post h a =
     let n : ℕ = length roster.keys in
@@ -94,13 +96,13 @@ admit-again roster round post h a =
     ∙ ap (λ (o : Option PostRefusal). value_unless o h) none
 
 -- the test of a frame
-fits-test : (post : Signed) → fits_frame post ≡ true → FitsFrame post
+fits-test : (post : Post) → fits_frame post ≡ true → FitsFrame post
 fits-test post e =
-    let p = both (nat_le least_content (length post.content)) (nat_le (4 + (length post.content + length post.signature)) post_limit) e in
+    let p = both (nat_le LEAST_CONTENT (length post.content)) (nat_le (4 + (length post.content + length post.signature)) POST_LIMIT) e in
     record { least = leb-true _ _ p.0; most = leb-true _ _ p.1 }
 
-test-fits : (post : Signed) → FitsFrame post → fits_frame post ≡ true
-test-fits post f = rw (le-leb least_content (length post.content) f.least, le-leb (4 + (length post.content + length post.signature)) post_limit f.most) refl
+test-fits : (post : Post) → FitsFrame post → fits_frame post ≡ true
+test-fits post f = rw (le-leb LEAST_CONTENT (length post.content) f.least, le-leb (4 + (length post.content + length post.signature)) POST_LIMIT f.most) refl
 
 first_way : (b : Bool) (x y : Result Header PostRefusal) (h : Header) → (y ≡ Ok h → ⊥) → cond b x y ≡ Ok h → (b ≡ true) × (x ≡ Ok h)
 first_way true x y h never e = (refl, e)

@@ -5,34 +5,37 @@ use Rattle.std.specs.Int.{w32, from_be_bytes, to_be_bytes}
 use Rattle.std.proofs.lemmas.Bool.{leb-true, le-leb}
 use Rattle.std.proofs.lemmas.List.{length-take, length-drop, take-append-drop, take_at, drop_at, drop-drop}
 use Rattle.std.proofs.lemmas.Nat.{be_bytes_4, from_be_bytes-to_be_bytes_4}
+use Rattle.phase_message.specs.declared.post.Post.{Post}
+use Rattle.phase_message.specs.declared.post.TheConstants.{LEAST_CONTENT, POST_LIMIT}
+use Rattle.phase_message.specs.Post.{post_spelling}
 use Rattle.phase_message.proofs.First.{first_some-none, first_some-none_parts}
 use Rattle.wire_core.specs.Bytes.{IsBytes}
 use Rattle.wire_core.proofs.ByteLists.{IsBytes-back, IsBytes-take}
 use Rattle.group_roster.specs.Places.{word_at, fault_unless, value_unless}
-use Rattle.signed_post.specs.Frame.{Signed, FitsFrame, post_limit, least_content, frame_fault, framed, signed_of, post_spelling}
+use Rattle.signed_post.specs.Frame.{FitsFrame, frame_fault, framed, signed_of}
 use Rattle.group_roster.proofs.Faults.{fault_unless-true, fault_unless-holds, value_unless-ok}
 
 -- what a frame without a fault says of the lengths
 record IsFramed (bytes : List ℕ) : Type 0 where
-  most : length bytes ≤ post_limit
+  most : length bytes ≤ POST_LIMIT
   head : 4 ≤ length bytes
-  least : least_content ≤ word_at bytes 0
+  least : LEAST_CONTENT ≤ word_at bytes 0
   whole : 4 + word_at bytes 0 ≤ length bytes
 
 framed-parts : (bytes : List ℕ) → frame_fault bytes ≡ None → IsFramed bytes
 framed-parts bytes e =
-    let o1 = fault_unless (nat_le (length bytes) post_limit) 0 in
+    let o1 = fault_unless (nat_le (length bytes) POST_LIMIT) 0 in
     let o2 = fault_unless (nat_le 4 (length bytes)) (length bytes) in
-    let o3 = fault_unless (nat_le least_content (word_at bytes 0)) 0 in
+    let o3 = fault_unless (nat_le LEAST_CONTENT (word_at bytes 0)) 0 in
     let o4 = fault_unless (nat_le (4 + word_at bytes 0) (length bytes)) (length bytes) in
     let p1 = first_some-none_parts o1 (o2 ∷ o3 ∷ o4 ∷ []) e in
     let p2 = first_some-none_parts o2 (o3 ∷ o4 ∷ []) p1.1 in
     let p3 = first_some-none_parts o3 (o4 ∷ []) p2.1 in
     let p4 = first_some-none_parts o4 [] p3.1 in
     record {
-      most = leb-true _ _ (fault_unless-holds (nat_le (length bytes) post_limit) 0 p1.0);
+      most = leb-true _ _ (fault_unless-holds (nat_le (length bytes) POST_LIMIT) 0 p1.0);
       head = leb-true _ _ (fault_unless-holds (nat_le 4 (length bytes)) (length bytes) p2.0);
-      least = leb-true _ _ (fault_unless-holds (nat_le least_content (word_at bytes 0)) 0 p3.0);
+      least = leb-true _ _ (fault_unless-holds (nat_le LEAST_CONTENT (word_at bytes 0)) 0 p3.0);
       whole = leb-true _ _ (fault_unless-holds (nat_le (4 + word_at bytes 0) (length bytes)) (length bytes) p4.0);
     }
 
@@ -45,11 +48,11 @@ signed-fits bytes f =
     record { least = omega (arith, f.least, content); most = omega (arith, f.most, content, signature) }
 
 -- what is framed fits a frame
-pub framed-fits : (bytes : List ℕ) (post : Signed) → framed bytes ≡ Ok post → FitsFrame post
+pub framed-fits : (bytes : List ℕ) (post : Post) → framed bytes ≡ Ok post → FitsFrame post
 unfolding framed
 framed-fits bytes post e =
     let parts = value_unless-ok (frame_fault bytes) (signed_of bytes) post e in
-    subst (λ (p : Signed). FitsFrame p) parts.1 (signed-fits bytes (framed-parts bytes parts.0))
+    subst (λ (p : Post). FitsFrame p) parts.1 (signed-fits bytes (framed-parts bytes parts.0))
 
 signed-spelled : (bytes : List ℕ) → IsBytes bytes → IsFramed bytes → bytes ≡ post_spelling (signed_of bytes)
 signed-spelled bytes fits f =
@@ -66,21 +69,21 @@ signed-spelled bytes fits f =
     ∙ sym (append_assoc (to_be_bytes w32 (length (take n (drop 4 bytes)))) (take n (drop 4 bytes)) (drop (4 + n) bytes))
 
 -- what is framed fits a frame and is spelled so
-pub framed-found : (bytes : List ℕ) (post : Signed) → IsBytes bytes → framed bytes ≡ Ok post → FitsFrame post × (bytes ≡ post_spelling post)
+pub framed-found : (bytes : List ℕ) (post : Post) → IsBytes bytes → framed bytes ≡ Ok post → FitsFrame post × (bytes ≡ post_spelling post)
 unfolding framed
 framed-found bytes post fits e =
     let parts = value_unless-ok (frame_fault bytes) (signed_of bytes) post e in
     let f = framed-parts bytes parts.0 in
-    subst (λ (p : Signed). FitsFrame p × (bytes ≡ post_spelling p)) parts.1 (signed-fits bytes f, signed-spelled bytes fits f)
+    subst (λ (p : Post). FitsFrame p × (bytes ≡ post_spelling p)) parts.1 (signed-fits bytes f, signed-spelled bytes fits f)
 
 -- the signature of what is framed is bytes
-pub framed-bytes : (bytes : List ℕ) (post : Signed) → IsBytes bytes → framed bytes ≡ Ok post → IsBytes post.signature
+pub framed-bytes : (bytes : List ℕ) (post : Post) → IsBytes bytes → framed bytes ≡ Ok post → IsBytes post.signature
 framed-bytes bytes post fits e =
     let spelled = subst (λ (x : List ℕ). IsBytes x) (framed-found bytes post fits e).1 fits in
     IsBytes-back (to_be_bytes w32 (length post.content) ++ post.content) post.signature spelled
 
 -- what fits a frame is framed where it is spelled
-pub framed-again : (post : Signed) → FitsFrame post → framed (post_spelling post) ≡ Ok post
+pub framed-again : (post : Post) → FitsFrame post → framed (post_spelling post) ≡ Ok post
 unfolding framed
 framed-again post fits =
     let c = post.content in
@@ -96,18 +99,18 @@ framed-again post fits =
     let word : word_at bytes 0 ≡ n = ap (from_be_bytes w32) front ∙ from_be_bytes-to_be_bytes_4 n small in
     let content : take (word_at bytes 0) (drop 4 bytes) ≡ c = ap (λ (m : ℕ). take m (drop 4 bytes)) word ∙ ap (take n) back ∙ take_at c s n refl in
     let signature : drop (4 + word_at bytes 0) bytes ≡ s = ap (λ (m : ℕ). drop (4 + m) bytes) word ∙ sym (drop-drop n 4 bytes) ∙ ap (drop n) back ∙ drop_at c s n refl in
-    let o1 = fault_unless (nat_le (length bytes) post_limit) 0 in
+    let o1 = fault_unless (nat_le (length bytes) POST_LIMIT) 0 in
     let o2 = fault_unless (nat_le 4 (length bytes)) (length bytes) in
-    let o3 = fault_unless (nat_le least_content (word_at bytes 0)) 0 in
+    let o3 = fault_unless (nat_le LEAST_CONTENT (word_at bytes 0)) 0 in
     let o4 = fault_unless (nat_le (4 + word_at bytes 0) (length bytes)) (length bytes) in
     let none : frame_fault bytes ≡ None =
-    first_some-none o1 (o2 ∷ o3 ∷ o4 ∷ []) (fault_unless-true (nat_le (length bytes) post_limit) 0 (le-leb _ _ (omega (arith, fits.most, long))))
+    first_some-none o1 (o2 ∷ o3 ∷ o4 ∷ []) (fault_unless-true (nat_le (length bytes) POST_LIMIT) 0 (le-leb _ _ (omega (arith, fits.most, long))))
     ∙ first_some-none o2 (o3 ∷ o4 ∷ []) (fault_unless-true (nat_le 4 (length bytes)) (length bytes) (le-leb _ _ (omega (arith, long))))
-    ∙ first_some-none o3 (o4 ∷ []) (fault_unless-true (nat_le least_content (word_at bytes 0)) 0 (le-leb _ _ (omega (arith, fits.least, word))))
+    ∙ first_some-none o3 (o4 ∷ []) (fault_unless-true (nat_le LEAST_CONTENT (word_at bytes 0)) 0 (le-leb _ _ (omega (arith, fits.least, word))))
     ∙ first_some-none o4 [] (fault_unless-true (nat_le (4 + word_at bytes 0) (length bytes)) (length bytes) (le-leb _ _ (omega (arith, long, word)))) in
     ap (λ (o : Option ℕ). value_unless o (signed_of bytes)) none
     ∙ ap (λ (x : List ℕ). ok x (drop (4 + word_at bytes 0) bytes)) content
     ∙ ap (λ (x : List ℕ). ok c x) signature
   where
-    ok : List ℕ → List ℕ → Result Signed ℕ
+    ok : List ℕ → List ℕ → Result Post ℕ
     ok content signature = Ok (record { content = content; signature = signature })

@@ -3,6 +3,8 @@ use Rattle.std.specs.Prelude.{◌≡◌, ℕ, ◌↔◌, List, [], ◌∷◌, le
 use Rattle.wire_core.specs.declared.cursor.Short.{Short}
 use Rattle.wire_core.specs.Bytes.{IsBytes}
 use Rattle.wire_core.specs.Reading.{◌>>=◌, fault_as}
+use Rattle.phase_message.specs.declared.post.Post.{Post}
+use Rattle.phase_message.specs.Post.{post_spelling}
 use Rattle.phase_message.specs.declared.content.Content.{Content}
 use Rattle.phase_message.specs.declared.header.Header.{Header}
 use Rattle.phase_message.specs.First.{first_some}
@@ -17,7 +19,7 @@ use Rattle.group_roster.specs.Places.{fault_unless, value_unless}
 use Rattle.group_roster.specs.Roster.{roster_id, key_of, shape_of_roster}
 use Rattle.signed_post.specs.declared.post.PostRefusal.{PostRefusal}
 use Rattle.signed_post.specs.declared.post.PostRefusal.TheVariants.{Frame, Version, Group, Round, Sender, Stage, Signature, Body, Memory}
-use Rattle.signed_post.specs.Frame.{Signed, FitsFrame, fits_frame, framed, post_spelling}
+use Rattle.signed_post.specs.Frame.{FitsFrame, fits_frame, framed}
 
 -- the refusal of a signature that is not valid
 abbrev pub invalid : Result (Unit {0}) LmsRefusal → Option PostRefusal
@@ -25,13 +27,13 @@ invalid (Ok valid) = None
 invalid (Err refusal) = Some (Signature refusal)
 
 -- what comes of a signature by the roster's key of the sender
-abbrev pub signature_refusal : ℕ → Option LmsPublic → Signed → Option PostRefusal
+abbrev pub signature_refusal : ℕ → Option LmsPublic → Post → Option PostRefusal
 signature_refusal sender None post = Some (Sender sender)
 signature_refusal sender (Some key) post = invalid (lms_check key post.content post.signature)
 
 -- the first refusal of a post with this header: of its version, group, round, sender, stage and
 -- signature
-abbrev pub header_refusal : Roster → ℕ → Signed → Header → Option PostRefusal
+abbrev pub header_refusal : Roster → ℕ → Post → Header → Option PostRefusal
 header_refusal roster round post header = first_some (
     fault_unless (header.version == 1) (Version header.version)
     ∷ fault_unless (bytes_eq header.group (roster_id roster)) (Group header.group)
@@ -42,13 +44,13 @@ header_refusal roster round post header = first_some (
     ∷ [])
 
 -- the header of a post in the frame, or its first refusal
-unfoldable pub admit_framed : Roster → ℕ → Signed → Result Header PostRefusal
+unfoldable pub admit_framed : Roster → ℕ → Post → Result Header PostRefusal
 admit_framed roster round post =
     fault_as (λ (short : Short). Frame 0) (header_of post.content)
     >>= λ header. value_unless (header_refusal roster round post header) header
 
 -- the header of a post, or the first of the seven checks that refuses it
-abbrev pub admit : Roster → ℕ → Signed → Result Header PostRefusal
+abbrev pub admit : Roster → ℕ → Post → Result Header PostRefusal
 admit roster round post =
     if fits_frame post then admit_framed roster round post else Err (Frame 0)
 
@@ -61,7 +63,7 @@ admit_bytes roster round bytes = do
 
 -- A post is admitted for a roster and a round: it has a frame, and its header names the version, the
 -- group, the round, and a sender in a slot of the group, under whose key in the roster the signature is valid.
-pub record Admitted (roster : Roster) (round : ℕ) (post : Signed) (header : Header) : Type 0 where
+pub record Admitted (roster : Roster) (round : ℕ) (post : Post) (header : Header) : Type 0 where
   pub frame : FitsFrame post
   pub reads : header_of post.content ≡ Ok header
   pub version : header.version ≡ 1
@@ -74,7 +76,7 @@ pub record Admitted (roster : Roster) (round : ℕ) (post : Signed) (header : He
 
 -- a post is admitted exactly where no check refuses it, with the header that it has
 abbrev pub AdmitsExactly : Type 0
-AdmitsExactly = (roster : Roster) (round : ℕ) (post : Signed) (header : Header) → IsBytes post.signature
+AdmitsExactly = (roster : Roster) (round : ℕ) (post : Post) (header : Header) → IsBytes post.signature
     → (admit roster round post ≡ Ok header) ↔ Admitted roster round post header
 
 -- bytes are a post of this content, which is admitted for the roster and the round with this header
@@ -91,7 +93,7 @@ pub record IsPostFile (roster : Roster) (round : ℕ) (bytes : List ℕ) (conten
 
 -- the content of an admitted post whose body is in the grammar, or the first of the eight checks that
 -- refuses it
-unfoldable pub checked : Roster → ℕ → Signed → Result Content PostRefusal
+unfoldable pub checked : Roster → ℕ → Post → Result Content PostRefusal
 checked roster round post = do
   header ← admit roster round post
   fault_as (λ offence. Body offence.at offence.rule) (content_read (shape_of_roster roster) post.content)

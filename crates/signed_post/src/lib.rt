@@ -7,8 +7,5 @@ mod post;
 mod tests;
 
 pub use laws::{posts_are_admitted, posts_are_framed};
-pub use phase_message::Post;
-pub use post::{
-    LEAST_CONTENT, POST_LIMIT, Parts, PostRefusal, ReadRefusal, check, check_header, check_parts,
-    read, unframed,
-};
+pub use phase_message::{LEAST_CONTENT, POST_LIMIT, Post};
+pub use post::{Parts, PostRefusal, ReadRefusal, check, check_header, check_parts, read, unframed};

@@ -3,20 +3,17 @@
 ghost use Rattle.std.specs.Prelude.{◌≡◌, ◌⊎◌, ◌≤◌, ◌<◌, ◌^◌, ◌+◌, length, Some, Ok, Err, IfOk, IfErr, IsOk};
 ghost use Rattle.wire_core.specs.Reading.{Gives};
 ghost use Rattle.group_roster.specs.Roster.{IsRosterForm};
-ghost use Rattle.signed_post.specs.Frame.{Signed, framed, frame_told, least_content};
+ghost use Rattle.signed_post.specs.Frame.{framed, frame_told};
 ghost use Rattle.signed_post.specs.Admission.{admit, admit_framed, checked, refusal_number, refusal_place};
 
 use group_roster::Roster;
 use lms_tree::{LmsRefusal, verify};
-use phase_message::{Content, DecodeRefusal, Header, Post, Slot, decode, is_slot, read_header};
+use phase_message::{
+    Content, DecodeRefusal, Header, LEAST_CONTENT, POST_LIMIT, Post, Slot, decode, is_slot,
+    read_header,
+};
 use std::alloc::Global;
 use wire_core::List;
-
-/// The most bytes of a post.
-pub const POST_LIMIT: usize = 16_777_216;
-
-/// The fewest bytes of a content: a header and a kind.
-pub const LEAST_CONTENT: usize = 76;
 
 /// Why bytes are no post.
 #[derive(Clone, Copy, Debug, PartialEq, Eq)]
@@ -91,7 +88,7 @@ pub struct Parts<'a> {
 /// The post that bytes spell: the content's length in four bytes, the content, and the signature to
 /// the end. `Frame` names the first fault.
 pub fn read(alloc: Global, bytes: &[u8]) -> Result<Post, ReadRefusal>
-    ensures { Gives frame_told (λ p. record { content = p.content; signature = p.signature }) result (framed bytes.now) }
+    ensures { Gives frame_told (λ post. post) result (framed bytes.now) }
 {
     let parts = match unframed(bytes) {
         Ok(parts) => parts,
@@ -137,7 +134,7 @@ pub fn unframed(bytes: &[u8]) -> Result<Parts<'_>, u32>
 /// refuses it. It takes no memory.
 pub fn check_header(roster: &Roster, round: u64, post: &Post) -> Result<Header, PostRefusal>
     requires { IsRosterForm roster.now }
-    ensures { result ≡ admit roster.now round (record { content = post.now.content; signature = post.now.signature }) }
+    ensures { result ≡ admit roster.now round post.now }
 {
     let content = post.content.items().as_slice();
     let signature = post.signature.items().as_slice();
@@ -161,9 +158,9 @@ pub fn check(
     post: &Post,
 ) -> Result<Content, PostRefusal>
     requires { IsRosterForm roster.now }
-    ensures { (result ≡ checked roster.now round (record { content = post.now.content; signature = post.now.signature }))
+    ensures { (result ≡ checked roster.now round post.now)
         ⊎ ((result ≡ Err PostRefusal.Memory)
-        × IsOk (admit roster.now round (record { content = post.now.content; signature = post.now.signature }))) }
+        × IsOk (admit roster.now round post.now)) }
 {
     let _header = check_header(roster, round, post)?;
     match decode(alloc, roster.shape(), post.content.items()) {
@@ -177,7 +174,7 @@ pub fn check(
 #[tactic(auto, unfolding(crate::specs::Admission::admit_framed))]
 pub fn check_parts(roster: &Roster, round: u64, parts: Parts<'_>) -> Result<Header, PostRefusal>
     requires form { IsRosterForm roster.now }
-    requires least { least_content ≤ length parts.content.now }
+    requires least { LEAST_CONTENT ≤ length parts.content.now }
     requires most { length parts.content.now < 2 ^ 32 }
     requires signature { length parts.signature.now < 2 ^ 32 }
     ensures { result ≡ admit_framed roster.now round (record { content = parts.entry.content.now; signature = parts.entry.signature.now }) }
