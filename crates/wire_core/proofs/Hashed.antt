@@ -1,14 +1,14 @@
 -- Hashed strings: how one grows by a piece, and that one determines its tag and its pieces.
 use Rattle.std.proofs.Common.{◌≡◌, ◌≢◌, ℕ, ◌-◌, ◌<◌, ◌^◌, ◌⊎◌, inl, inr, List, [], ◌∷◌, ◌++◌, length, refl, ap, sym, ◌∙◌, append_assoc, append-nil, arith, slice_index_or}
 use Rattle.std.specs.Prelude.{Contains}
-use Rattle.std.specs.Int.{w32, to_be_bytes, from_be_bytes}
+use Rattle.std.specs.Int.{w32, w64, to_be_bytes, from_be_bytes}
 use Rattle.std.specs.List.{flat_map}
 use Rattle.std.proofs.lemmas.Bool.Decides.{eqb_tells}
 use Rattle.std.proofs.lemmas.Grind.{flat_map-append}
-use Rattle.std.proofs.lemmas.Nat.{from_be_bytes-to_be_bytes_4}
+use Rattle.std.proofs.lemmas.Nat.{from_be_bytes-to_be_bytes_4, from_be_bytes-to_be_bytes_8}
 use Rattle.wire_core.specs.declared.tag.Tag.{Tag}
 use Rattle.wire_core.specs.declared.tag.Tag.TheVariants.{View, Roster, RingPublic, RingSecret, RingCoins, LayerStream, LayerTag, LayerSeed, Message, PadStream, PadHash, Derive, LmsIdentifier, LmsSeed, ScriptKey, ScriptFresh, MakeSeed, MakeMessage}
-use Rattle.wire_core.specs.Hash.{magic, tag_number, piece, hashed, hash_of, ArePieces, Collides, NoCollision}
+use Rattle.wire_core.specs.Hash.{magic, tag_number, piece, hashed, hash_of, ArePieces, layer_seed_pieces, layer_seed, layer_seed_string, Collides, NoCollision}
 
 -- one more piece is appended to what is hashed
 pub hashed-push : (tag : Tag) (pieces : List (List ℕ)) (b : List ℕ) → hashed tag (pieces ++ b ∷ []) ≡ hashed tag pieces ++ piece b
@@ -122,3 +122,24 @@ collide_or_same tag tag' pieces pieces' s t e =
 -- no two strings of a part collide where none of the whole do
 pub no_collision_part : (part strings : List (List ℕ)) → ((s : List ℕ) → Contains part s → Contains strings s) → NoCollision strings → NoCollision part
 no_collision_part part strings inside none s t there there' e = none s t (inside s there) (inside t there') e
+
+-- ---- the seed of a layer
+
+be64-determines : (m n : ℕ) → m < 2 ^ 64 → n < 2 ^ 64 → to_be_bytes w64 m ≡ to_be_bytes w64 n → m ≡ n
+be64-determines m n small small' e =
+    sym (from_be_bytes-to_be_bytes_8 m small) ∙ ap (from_be_bytes w64) e ∙ from_be_bytes-to_be_bytes_8 n small'
+
+-- the pieces of two lists of six are equal where the lists are
+six_pieces : (a a' b b' : List ℕ) (c c' d d' e e' f f' : ℕ) → a ∷ b ∷ (c ∷ []) ∷ (d ∷ []) ∷ (e ∷ []) ∷ (f ∷ []) ∷ [] ≡ a' ∷ b' ∷ (c' ∷ []) ∷ (d' ∷ []) ∷ (e' ∷ []) ∷ (f' ∷ []) ∷ [] → (a ≡ a') × (b ≡ b') × (c ≡ c') × (d ≡ d') × (e ≡ e') × (f ≡ f')
+six_pieces a a' b b' c c' d d' e e' f f' same = (cc, cc, cc, cc, cc, cc)
+
+pub layer_seed_determines : (strings : List (List ℕ)) (opening opening' : List ℕ) (round round' shuffle shuffle' side side' member member' layer layer' : ℕ) → NoCollision strings → Contains strings (layer_seed_string opening round shuffle side member layer) → Contains strings (layer_seed_string opening' round' shuffle' side' member' layer') → length opening ≡ 32 → length opening' ≡ 32 → round < 2 ^ 64 → round' < 2 ^ 64 → layer_seed opening round shuffle side member layer ≡ layer_seed opening' round' shuffle' side' member' layer' → (opening ≡ opening') × (round ≡ round') × (shuffle ≡ shuffle') × (side ≡ side') × (member ≡ member') × (layer ≡ layer')
+layer_seed_determines strings opening opening' round round' shuffle shuffle' side side' member member' layer layer' none there there' long long' small small' e =
+    let pieces : ArePieces (layer_seed_pieces opening round shuffle side member layer) = fit opening round shuffle side member layer long in
+    let pieces' : ArePieces (layer_seed_pieces opening' round' shuffle' side' member' layer') = fit opening' round' shuffle' side' member' layer' long' in
+    let same = same_hash strings LayerSeed LayerSeed (layer_seed_pieces opening round shuffle side member layer) (layer_seed_pieces opening' round' shuffle' side' member' layer') none there there' pieces pieces' e in
+    let parts = six_pieces opening opening' (to_be_bytes w64 round) (to_be_bytes w64 round') shuffle shuffle' side side' member member' layer layer' same.1 in
+    (parts.0, be64-determines round round' small small' parts.1, parts.2, parts.3, parts.4, parts.5)
+  where
+    fit : (opening : List ℕ) (round shuffle side member layer : ℕ) → length opening ≡ 32 → ArePieces (layer_seed_pieces opening round shuffle side member layer)
+    fit opening round shuffle side member layer long = (omega arith, (omega arith, (omega arith, (omega arith, (omega arith, (omega arith, tt))))))

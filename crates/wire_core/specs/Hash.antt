@@ -54,6 +54,22 @@ abbrev pub derived : List ℕ → ℕ → ℕ → ℕ → List ℕ
 derived fresh round label index =
     hash_of Derive (fresh ∷ to_be_bytes w64 round ∷ (label ∷ []) ∷ (index ∷ []) ∷ [])
 
+-- what is hashed for the seed of a layer: the opening of the member's side, the round, and a byte for each of the
+-- shuffle, the side, the member and the layer
+abbrev pub layer_seed_pieces : List ℕ → ℕ → ℕ → ℕ → ℕ → ℕ → List (List ℕ)
+layer_seed_pieces opening round shuffle side member layer =
+    opening ∷ to_be_bytes w64 round ∷ (shuffle ∷ []) ∷ (side ∷ []) ∷ (member ∷ []) ∷ (layer ∷ []) ∷ []
+
+-- the seed of one layer of a member's submission
+abbrev pub layer_seed : List ℕ → ℕ → ℕ → ℕ → ℕ → ℕ → List ℕ
+layer_seed opening round shuffle side member layer =
+    hash_of LayerSeed (layer_seed_pieces opening round shuffle side member layer)
+
+-- the string whose hash that seed is
+abbrev pub layer_seed_string : List ℕ → ℕ → ℕ → ℕ → ℕ → ℕ → List ℕ
+layer_seed_string opening round shuffle side member layer =
+    hashed LayerSeed (layer_seed_pieces opening round shuffle side member layer)
+
 -- two different strings with one SHA-256
 abbrev pub Collides : List ℕ → List ℕ → Type 0
 Collides s t = (s ≢ t) × (sha256 s ≡ sha256 t)

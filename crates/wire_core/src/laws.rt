@@ -5,7 +5,7 @@ ghost use Rattle.std.specs.Prelude.{◌≡◌, ◌<◌, ◌+◌, ◌^◌, ◌⊎
 ghost use Rattle.std.specs.Int.{w8, w16, w32, w64, to_be_bytes};
 ghost use Rattle.wire_core.specs.declared.tag.Tag.{Tag};
 ghost use Rattle.wire_core.specs.Bytes.{IsBytes};
-ghost use Rattle.wire_core.specs.Hash.{ArePieces, Collides, hash_of, NoCollision, hashed};
+ghost use Rattle.wire_core.specs.Hash.{ArePieces, Collides, hash_of, layer_seed, layer_seed_string, NoCollision, hashed};
 ghost use Rattle.wire_core.specs.Reading.{Reading, Takes, bytes_at, number_at, reading_at};
 
 /// What is appended is read again, whatever follows it.
@@ -60,6 +60,21 @@ pub fn collide_or_same()
         ArePieces pieces → ArePieces pieces' →
         hash_of tag pieces ≡ hash_of tag' pieces' →
         ((tag ≡ tag') × (pieces ≡ pieces')) ⊎ Collides (hashed tag pieces) (hashed tag' pieces') }
+{}
+
+/// Where no two strings of a list have one SHA-256, the seed of a layer determines the opening of
+/// 32 bytes, the round, the shuffle, the side, the member and the layer that it is of.
+pub fn layer_seed_determines()
+    ensures { (strings : List (List ℕ)) (opening opening' : List ℕ)
+        (round round' shuffle shuffle' side side' member member' layer layer' : ℕ) →
+        NoCollision strings →
+        Contains strings (layer_seed_string opening round shuffle side member layer) →
+        Contains strings (layer_seed_string opening' round' shuffle' side' member' layer') →
+        length opening ≡ 32 → length opening' ≡ 32 → round < 2 ^ 64 → round' < 2 ^ 64 →
+        layer_seed opening round shuffle side member layer
+        ≡ layer_seed opening' round' shuffle' side' member' layer' →
+        (opening ≡ opening') × (round ≡ round') × (shuffle ≡ shuffle') × (side ≡ side')
+        × (member ≡ member') × (layer ≡ layer') }
 {}
 
 /// What holds of a list of strings holds of every list whose strings are in it.

@@ -12,8 +12,8 @@ mod tag;
 
 pub use cursor::{Cursor, Short};
 pub use laws::{
-    collide_or_same, hash_bytes, hashed_determines, no_collision_part, reads_nothing_else,
-    reads_what_is_put, same_hash,
+    collide_or_same, hash_bytes, hashed_determines, layer_seed_determines, no_collision_part,
+    reads_nothing_else, reads_what_is_put, same_hash,
 };
 pub use list::List;
 pub use put::{Mem, put_bytes, put_u8, put_u16, put_u32, put_u64};
