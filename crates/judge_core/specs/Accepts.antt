@@ -1,0 +1,39 @@
+-- What convicts a member.
+use Rattle.std.specs.Prelude.{◌≡◌, ◌≢◌, ℕ, List, [], ◌∷◌, length}
+use Rattle.phase_message.specs.declared.header.Header.{Header}
+use Rattle.group_roster.specs.declared.roster.Roster.{Roster}
+use Rattle.transcript_form.specs.declared.claim.Claim.{Claim}
+use Rattle.transcript_form.specs.declared.claim.Claim.TheVariants.{Equivocation}
+use Rattle.transcript_form.specs.declared.transcript.Transcript.{Transcript}
+use Rattle.signed_post.specs.Admission.{Says}
+use Rattle.transcript_form.specs.Transcript.{IsTranscript, transcript_spelling}
+
+-- Equivocation: the transcript lists two posts of the accused in one slot, whose contents differ.
+pub record Equivocates (roster : Roster) (t : Transcript) : Type 0 where
+  pub first : List ℕ
+  pub second : List ℕ
+  pub listed : t.posts ≡ first ∷ second ∷ []
+  pub first_content : List ℕ
+  pub second_content : List ℕ
+  pub first_header : Header
+  pub second_header : Header
+  pub first_says : Says roster t.round first first_content first_header
+  pub second_says : Says roster t.round second second_content second_header
+  pub first_sender : first_header.sender ≡ t.accused
+  pub second_sender : second_header.sender ≡ t.accused
+  pub one_stage : second_header.stage ≡ first_header.stage
+  pub differ : first_content ≢ second_content
+
+-- what a claim asks of the listed posts
+abbrev pub Convicts : Roster → Transcript → Claim → Type 0
+Convicts roster t Equivocation = Equivocates roster t
+
+-- bytes convict a member under a roster: they spell a transcript with that accused and claim, and its
+-- posts are what the claim asks
+pub record Accepts (roster : Roster) (bytes : List ℕ) (accused : ℕ) (claim : Claim) : Type 0 where
+  pub transcript : Transcript
+  pub form : IsTranscript (length roster.keys) transcript
+  pub spelled : bytes ≡ transcript_spelling transcript
+  pub accused_is : transcript.accused ≡ accused
+  pub claim_is : transcript.claim ≡ claim
+  pub convicts : Convicts roster transcript claim

@@ -1,0 +1,32 @@
+-- Nobody is framed: what a member did not say convicts it of nothing.
+use Rattle.std.specs.Prelude.{◌≡◌, ℕ, List, Contains, Ok}
+use Rattle.phase_message.specs.declared.header.Header.{Header}
+use Rattle.phase_message.specs.Header.{header_of}
+use Rattle.group_roster.specs.declared.roster.Roster.{Roster}
+use Rattle.transcript_form.specs.declared.claim.Claim.{Claim}
+use Rattle.transcript_form.specs.declared.transcript.Transcript.{Transcript}
+use Rattle.signed_post.specs.Admission.{Says}
+use Rattle.judge_core.specs.Accepts.{Accepts}
+use Rattle.transcript_form.specs.Transcript.{transcript_spelling}
+
+-- a member's contents, of which no two stand in one slot of one round
+abbrev pub OnePerSlot : List (List ℕ) → Type 0
+OnePerSlot sent = (a b : List ℕ) (h g : Header)
+    → Contains sent a → Contains sent b → header_of a ≡ Ok h → header_of b ≡ Ok g
+    → h.round ≡ g.round → h.stage ≡ g.stage → h.sender ≡ g.sender → a ≡ b
+
+-- whatever these posts say for the accused in the round, it sent
+abbrev pub SaidBy : Roster → ℕ → ℕ → List (List ℕ) → List (List ℕ) → Type 0
+SaidBy roster round accused posts sent = (bytes content : List ℕ) (header : Header)
+    → Contains posts bytes → Says roster round bytes content header → header.sender ≡ accused
+    → Contains sent content
+
+-- the same of the posts that the bytes of a transcript list
+abbrev pub ListsSaid : Roster → List ℕ → ℕ → List (List ℕ) → Type 0
+ListsSaid roster bytes accused sent = (t : Transcript)
+    → bytes ≡ transcript_spelling t → SaidBy roster t.round accused t.posts sent
+
+-- nothing convicts a member of which every listed post is one that it sent, with one content per slot
+abbrev pub NobodyIsFramed : Type 0
+NobodyIsFramed = (roster : Roster) (bytes : List ℕ) (accused : ℕ) (claim : Claim) (sent : List (List ℕ))
+    → OnePerSlot sent → ListsSaid roster bytes accused sent → Accepts roster bytes accused claim → ⊥

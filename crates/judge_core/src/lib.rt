@@ -1,0 +1,12 @@
+//! The judge of transcripts: what convicts a member, and the first check that a transcript fails.
+#![tactic(auto)]
+
+#[cfg(test)]
+mod evidence;
+mod judging;
+mod laws;
+#[cfg(test)]
+mod stored_evidence;
+
+pub use judging::{Accepted, judge};
+pub use laws::{checks_are_exact, nobody_is_framed};
