@@ -18,7 +18,8 @@ use Rattle.transcript_form.specs.declared.claim.Claim.TheVariants.{Equivocation}
 use Rattle.judge_core.specs.declared.judging.Accepted.{Accepted}
 use Rattle.transcript_form.specs.declared.refusal.FailedCheck.{FailedCheck}
 use Rattle.transcript_form.specs.declared.transcript.Transcript.{Transcript}
-use Rattle.signed_post.specs.Frame.{Signed, framed}
+use Rattle.phase_message.specs.declared.post.Post.{Post}
+use Rattle.signed_post.specs.Frame.{framed}
 use Rattle.signed_post.specs.Admission.{admit_framed, admit_bytes, Says}
 use Rattle.transcript_form.specs.Transcript.{transcript_magic, claim_number, claim_posts, listed, transcript_spelling, transcript_read}
 use Rattle.judge_core.specs.Accepts.{Equivocates, Convicts, Accepts}
@@ -48,7 +49,7 @@ says-found roster round bytes x fits e =
 
 says-again : (roster : Roster) (round : ℕ) (bytes content : List ℕ) (header : Header) → Says roster round bytes content header → admit_bytes roster round bytes ≡ Ok (header, content)
 says-again roster round bytes content header says =
-    let post : Signed = record { content = content; signature = says.signature } in
+    let post : Post = record { content = content; signature = says.signature } in
     let frame : framed bytes ≡ Ok post = ap framed says.spelled ∙ framed-again post says.admitted.frame in
     rw (frame, admit-again roster round post header says.admitted) refl
 

@@ -1,6 +1,6 @@
 //! Evidence: two votes of member 3 in one slot, made from keys, with the transcript that lists them; and the evidence that is stored.
 
-ghost use Rattle.std.specs.Prelude.{◌≡◌, ◌<◌, length};
+ghost use Rattle.std.specs.Prelude.{◌≡◌, ◌<◌, IfOk, length};
 ghost use Rattle.group_roster.specs.Roster.{IsRosterForm};
 
 use crate::stored_evidence::{roster_digits, transcript_digits};
@@ -242,22 +242,33 @@ fn posts_are_refused(
     refused(rt, alloc, roster, (&yes, &unframed), (4, 2, 1))
 }
 
-#[test]
-fn evidence_is_judged(rt: HostRuntime) -> Result<(), Fail> {
-    let alloc = rt.alloc();
+// The roster of four members that is read from its bytes, and its group.
+fn group_of_four(alloc: Global) -> Result<(Roster, [u8; 32]), Fail>
+    ensures { IfOk result (λ r. IsRosterForm r.0) }
+{
     let bytes = roster_of_four(alloc)?;
-    assert_eq!(rt; bytes.len(), 230);
     let mut register = Register::new(Tag::Roster);
     register.piece(&bytes);
-    let group = register.end();
     match decode(alloc, &bytes) {
-        Ok(roster) => {
-            votes_are_judged(&rt, alloc, &roster, &group)?;
-            a_vote_is_taken(&rt, alloc, &roster, &group)?;
-            posts_are_refused(&rt, alloc, &roster, &group)?;
-        }
-        Err(_) => assert!(rt; false, "no roster"),
+        Ok(roster) => Ok((roster, register.end())),
+        Err(_) => Err(Fail::from("no roster")),
     }
+}
+
+#[test]
+fn votes_convict(rt: HostRuntime) -> Result<(), Fail> {
+    let alloc = rt.alloc();
+    let (roster, group) = group_of_four(alloc)?;
+    votes_are_judged(&rt, alloc, &roster, &group)?;
+    a_vote_is_taken(&rt, alloc, &roster, &group)?;
+    Ok(())
+}
+
+#[test]
+fn wrong_posts_convict_nobody(rt: HostRuntime) -> Result<(), Fail> {
+    let alloc = rt.alloc();
+    let (roster, group) = group_of_four(alloc)?;
+    posts_are_refused(&rt, alloc, &roster, &group)?;
     Ok(())
 }
 
