@@ -2,8 +2,11 @@ pub mod First
 pub mod Table
 pub mod Fields
 pub mod Counts
+pub mod Closings
+pub mod SlotLists
 pub mod Groups
 pub mod Spelled
 pub mod Bodies
 pub mod Whole
+pub mod Lengths
 pub mod Written

@@ -8,12 +8,12 @@ use Rattle.phase_message.specs.declared.stage.StageKind.TheVariants.{Keys, Submi
 use Rattle.phase_message.specs.Shape.{Shape}
 use Rattle.phase_message.specs.Stages.{turns, kind_of_stage}
 
-slice_get_left : {A : Type 0} (xs ys : List A) (i : ℕ) → i < length xs → slice_get (xs ++ ys) i ≡ slice_get xs i
+pub slice_get_left : {A : Type 0} (xs ys : List A) (i : ℕ) → i < length xs → slice_get (xs ++ ys) i ≡ slice_get xs i
 slice_get_left [] ys i lt = absurd (omega arith)
 slice_get_left (x ∷ xs) ys zero lt = refl
 slice_get_left (x ∷ xs) ys (suc i) lt = slice_get_left xs ys i (omega arith)
 
-slice_get_right : {A : Type 0} (xs ys : List A) (k : ℕ) → slice_get (xs ++ ys) (length xs + k) ≡ slice_get ys k
+pub slice_get_right : {A : Type 0} (xs ys : List A) (k : ℕ) → slice_get (xs ++ ys) (length xs + k) ≡ slice_get ys k
 slice_get_right [] ys k = let e : 0 + k ≡ k = omega arith in rw e refl
 slice_get_right (x ∷ xs) ys k = let e : suc (length xs) + k ≡ suc (length xs + k) = omega arith in rw e (slice_get_right xs ys k)
 

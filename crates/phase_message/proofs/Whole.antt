@@ -22,17 +22,13 @@ use Rattle.phase_message.specs.Header.{header_at, header_of}
 use Rattle.phase_message.specs.Body.{only, either, form_in, form_of, body_form, level}
 use Rattle.phase_message.specs.declared.content.DecodeRefusal.{DecodeRefusal}
 use Rattle.phase_message.specs.Offence.{Offence, fault, offence, cut, or_refuse, head_at, body_at, content_read}
-use Rattle.phase_message.specs.Grammar.{header_text, kind_number, body_text, content_text, Fits, IsHeader, OfGrammar}
+use Rattle.phase_message.specs.Grammar.{header_text, kind_number, body_text, content_text, Fits, HasWidths, BeginsWith, IsHeader, OfGrammar}
 use Rattle.phase_message.proofs.Bodies.{body-takes, body-again}
 
 -- ---- headers
 
 made : {A : Type 0} (x y : A × Reading) → (let told : A × Reading → Result (A × Reading) Short = λ z. Ok z in told x ≡ told y) → x ≡ y
 made x y e = cc
-
--- a header's numbers and hashes have their widths
-abbrev HasWidths : Header → Type 0
-HasWidths h = (length h.group ≡ 32) × (h.round < 2 ^ 64) × (length h.view ≡ 32)
 
 header-takes : (r : Reading) (x : Header × Reading) → IsBytes r.rest → header_at r ≡ Ok x → Takes (header_text x.0) r x.1 × HasWidths x.0
 unfolding header_at
@@ -63,7 +59,7 @@ header-takes r x bytes e =
         let last_3 = Takes-append (d.0 ∷ []) ((f.0 ∷ []) ++ g.0) c.1 d.1 g.1 stage.0 last in
         let last_4 = Takes-append (to_be_bytes w64 c.0) ((d.0 ∷ []) ++ ((f.0 ∷ []) ++ g.0)) b.1 c.1 g.1 round.0 last_3 in
         let last_5 = Takes-append b.0 (to_be_bytes w64 c.0 ++ ((d.0 ∷ []) ++ ((f.0 ∷ []) ++ g.0))) a.1 b.1 g.1 group.0 last_4 in
-        (Takes-append (a.0 ∷ []) (b.0 ++ (to_be_bytes w64 c.0 ++ ((d.0 ∷ []) ++ ((f.0 ∷ []) ++ g.0)))) r a.1 g.1 version.0 last_5, (group.1, round.1, view.1))
+        (Takes-append (a.0 ∷ []) (b.0 ++ (to_be_bytes w64 c.0 ++ ((d.0 ∷ []) ++ ((f.0 ∷ []) ++ g.0)))) r a.1 g.1 version.0 last_5, record { group_long = group.1; round_small = round.1; view_long = view.1 })
 
 header-again : (h : Header) (place : ℕ) (rest : List ℕ) → HasWidths h → header_at (reading_at place (header_text h ++ rest)) ≡ Ok (h, reading_at (place + length (header_text h)) rest)
 unfolding header_at
@@ -73,12 +69,12 @@ header-again h place rest fits =
     let last : List ℕ = h.stage ∷ (h.sender ∷ h.view) in
     let text : (h.group ++ (round ++ last)) ++ rest ≡ h.group ++ (round ++ (last ++ rest)) = append_assoc h.group (round ++ last) rest ∙ ap (λ (t : List ℕ). h.group ++ t) (append_assoc round last rest) in
     let e0 = number_at-again_1 h.version place (h.group ++ (round ++ (last ++ rest))) in
-    let e1 = bytes_at-again 32 h.group (round ++ (last ++ rest)) (place + 1) fits.0 in
-    let e2 = number_at-again_8 h.round (place + 1 + 32) (last ++ rest) fits.1 in
+    let e1 = bytes_at-again 32 h.group (round ++ (last ++ rest)) (place + 1) fits.group_long in
+    let e2 = number_at-again_8 h.round (place + 1 + 32) (last ++ rest) fits.round_small in
     let e3 = number_at-again_1 h.stage (place + 1 + 32 + 8) (h.sender ∷ (h.view ++ rest)) in
     let e4 = number_at-again_1 h.sender (place + 1 + 32 + 8 + 1) (h.view ++ rest) in
-    let e5 = bytes_at-again 32 h.view rest (place + 1 + 32 + 8 + 1 + 1) fits.2 in
-    let ends : place + 1 + 32 + 8 + 1 + 1 + 32 ≡ place + length (header_text h) = omega (arith, length-append h.group (round ++ last), length-append round last, fits.0, fits.2) in
+    let e5 = bytes_at-again 32 h.view rest (place + 1 + 32 + 8 + 1 + 1) fits.view_long in
+    let ends : place + 1 + 32 + 8 + 1 + 1 + 32 ≡ place + length (header_text h) = omega (arith, length-append h.group (round ++ last), length-append round last, fits.group_long, fits.view_long) in
     rw (text, e0, e1, e2, e3, e4, e5) (ap told ends)
 
 -- ---- kinds
@@ -184,14 +180,14 @@ head-takes shape r x bytes e =
         let number = body_form-number shape h.0.stage k.0 form has in
         let spelled = Takes-append (header_text h.0) (k.0 ∷ []) r h.1 k.1 header.0 kind.0 in (
           subst (λ (m : ℕ). Takes (header_text h.0 ++ (m ∷ [])) r k.1) number spelled,
-          record { version_is = eqb-true h.0.version shape.version version; group_long = header.1.0; round_small = header.1.1; slot_is = slot; view_long = header.1.2 },
+          record { version_is = eqb-true h.0.version shape.version version; group_long = header.1.group_long; round_small = header.1.round_small; slot_is = slot; view_long = header.1.view_long },
           subst (λ (m : ℕ). body_form shape h.0.stage m ≡ Some form) number has,
         )
 
 head-again : (shape : Shape) (h : Header) (kind : ℕ) (form : BodyForm) (place : ℕ) (rest : List ℕ) → IsHeader shape h → body_form shape h.stage kind ≡ Some form → head_at shape (reading_at place (header_text h ++ (kind ∷ rest))) ≡ Ok ((h, form), reading_at (place + length (header_text h) + 1) rest)
 unfolding head_at
 head-again shape h kind form place rest is has =
-    let header = header-again h place (kind ∷ rest) (is.group_long, is.round_small, is.view_long) in
+    let header = header-again h place (kind ∷ rest) (record { group_long = is.group_long; round_small = is.round_small; view_long = is.view_long }) in
     let version : (h.version == shape.version) ≡ true = eq-eqb h.version shape.version is.version_is in
     let number = number_at-again_1 kind (place + length (header_text h)) rest in
     rw (header, version, is.slot_is, number, has) refl
@@ -225,8 +221,8 @@ content-is_spelled shape bytes c are e =
           (head.1, (h.0.1, subst (λ (m : ℕ). body_form shape h.0.0.stage m ≡ Some h.0.1) (sym number) head.2, body.1)),
         )
 
-header_long : (shape : Shape) (h : Header) → IsHeader shape h → length (header_text h) ≡ 75
-header_long shape h is =
+pub length-header_text : (shape : Shape) (h : Header) → IsHeader shape h → length (header_text h) ≡ 75
+length-header_text shape h is =
     let round : List ℕ = to_be_bytes w64 h.round in
     let last : List ℕ = h.stage ∷ (h.sender ∷ h.view) in
     let group = is.group_long in
@@ -237,7 +233,7 @@ pub content-is_read : (shape : Shape) (c : Content) → OfGrammar shape c → co
 unfolding content_read
 content-is_read shape c is =
     let text : List ℕ = body_text c.body in
-    let long : 76 ≤ length (content_text c) = omega (arith, length-append (header_text c.header) (kind_number c.body ∷ text), header_long shape c.header is.0) in
+    let long : 76 ≤ length (content_text c) = omega (arith, length-append (header_text c.header) (kind_number c.body ∷ text), length-header_text shape c.header is.0) in
     let whole : nat_lt (length (content_text c)) 76 ≡ false = le-ltb (length (content_text c)) 76 long in
     let place : ℕ = 0 + length (header_text c.header) + 1 in
     let head = head-again shape c.header (kind_number c.body) is.1.0 0 text is.0 is.1.1 in
@@ -262,6 +258,21 @@ header_ok : (bytes : List ℕ) (y : Header × Reading) (h : Header) → header_a
 header_ok bytes y h e same =
     let told : Header → Result Header Short = λ h. Ok h in
     rw e (ap told same)
+
+value_ok : {A E : Type 0} (read : Result (A × Reading) E) (x : A) → (read >>= λ y. Ok y.0) ≡ Ok x → (y : A × Reading) × (read ≡ Ok y) × (y.0 ≡ x)
+value_ok (Ok y) x e = (y, refl, cc)
+value_ok (Err d) x e = absurd cc
+
+-- bytes have a header exactly where they begin with its spelling
+pub header_of-begins : (bytes : List ℕ) (h : Header) → IsBytes bytes → header_of bytes ≡ Ok h → BeginsWith h bytes
+header_of-begins bytes h are e =
+    let y = value_ok (header_at (reading_of bytes)) h e in
+    let read = header-takes (reading_of bytes) y.0 are y.1 in
+    subst (λ (h : Header). BeginsWith h bytes) y.2 (record { widths = read.1; rest = y.0.1.rest; spelled = read.0.text_is })
+
+pub begins-header_of : (bytes : List ℕ) (h : Header) → BeginsWith h bytes → header_of bytes ≡ Ok h
+begins-header_of bytes h begins =
+    ap header_of begins.spelled ∙ header_ok (header_text h ++ begins.rest) (h, reading_at (0 + length (header_text h)) begins.rest) h (header-again h 0 begins.rest begins.widths) refl
 
 pub content-header : (shape : Shape) (bytes : List ℕ) (c : Content) → content_read shape bytes ≡ Ok c → header_of bytes ≡ Ok c.header
 unfolding content_read

@@ -90,6 +90,18 @@ Fits (OfConfirm count) (Confirm votes) = AreItems Post count votes
 Fits (OfDiffer count) (Differ posts) = AreItems Post count posts
 Fits _ _ = ⊥
 
+-- numbers and hashes of a header have their widths
+pub record HasWidths (h : Header) : Type 0 where
+  pub group_long : length h.group ≡ 32
+  pub round_small : h.round < 2 ^ 64
+  pub view_long : length h.view ≡ 32
+
+-- bytes begin with a header as it is spelled, whatever follows
+pub record BeginsWith (h : Header) (bytes : List ℕ) : Type 0 where
+  pub widths : HasWidths h
+  pub rest : List ℕ
+  pub spelled : bytes ≡ header_text h ++ rest
+
 -- the version of the shape, a slot of the round, and numbers and hashes of their widths
 pub record IsHeader (shape : Shape) (h : Header) : Type 0 where
   pub version_is : h.version ≡ shape.version

@@ -48,3 +48,9 @@ speaks shape (Some kind) sender = is_sender shape kind sender
 -- whether a stage and a member are a slot: the round has the stage, and the member speaks in it
 abbrev pub is_slot : Shape → ℕ → ℕ → Bool
 is_slot shape stage sender = speaks shape (kind_of_stage shape stage) sender
+
+-- the votes that a closing stage closes: those of the shuffle, or those on what was seen
+abbrev pub vote_of : StageKind → Option StageKind
+vote_of (Final shuffle) = Some (Go shuffle)
+vote_of Confirm = Some Check
+vote_of _ = None

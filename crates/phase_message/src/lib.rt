@@ -17,11 +17,16 @@ pub use content::{Body, Content, DecodeRefusal, decode};
 pub use encoding::encode;
 pub use form::length_rule;
 pub use header::{Header, read_header};
-pub use laws::{contents_are_spelled, headers_agree, spelled_contents_are_read};
+pub use laws::{
+    closings_follow_votes, contents_are_spelled, contents_have_lengths, headers_agree,
+    headers_are_spelled, slot_numbers_rise, slots_are_numbered, spelled_contents_are_read,
+    stages_are_counted,
+};
 pub use post::{LEAST_CONTENT, POST_LIMIT, Post};
 pub use shape::Shape;
 pub use slots::{slot_number, slots_before};
 pub use stage::{Slot, StageKind, is_slot, stage_kind};
+pub use wire_core::List;
 
 #[cfg(test)]
 mod tests;
