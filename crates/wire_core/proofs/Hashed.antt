@@ -6,15 +6,17 @@ use Rattle.std.specs.List.{flat_map}
 use Rattle.std.proofs.lemmas.Bool.Decides.{eqb_tells}
 use Rattle.std.proofs.lemmas.Grind.{flat_map-append}
 use Rattle.std.proofs.lemmas.Nat.{from_be_bytes-to_be_bytes_4, from_be_bytes-to_be_bytes_8}
+use Rattle.wire_core.proofs.ListLemmas.{split_once}
 use Rattle.wire_core.specs.declared.tag.Tag.{Tag}
 use Rattle.wire_core.specs.declared.tag.Tag.TheVariants.{View, Roster, RingPublic, RingSecret, RingCoins, LayerStream, LayerTag, LayerSeed, Message, PadStream, PadHash, Derive, LmsIdentifier, LmsSeed, ScriptKey, ScriptFresh, MakeSeed, MakeMessage}
-use Rattle.wire_core.specs.Hash.{magic, tag_number, piece, hashed, hash_of, ArePieces, layer_seed_pieces, layer_seed, layer_seed_string, Collides, NoCollision}
+use Rattle.wire_core.specs.Bytes.{prefixed}
+use Rattle.wire_core.specs.Hash.{magic, tag_number, hashed, hash_of, ArePieces, layer_seed_pieces, layer_seed, layer_seed_string, Collides, NoCollision}
 
 -- one more piece is appended to what is hashed
-pub hashed-push : (tag : Tag) (pieces : List (List ℕ)) (b : List ℕ) → hashed tag (pieces ++ b ∷ []) ≡ hashed tag pieces ++ piece b
+pub hashed-push : (tag : Tag) (pieces : List (List ℕ)) (b : List ℕ) → hashed tag (pieces ++ b ∷ []) ≡ hashed tag pieces ++ prefixed b
 unfolding hashed
 hashed-push tag pieces b =
-    ap (λ (x : List ℕ). magic ++ tag_number tag ∷ x) (flat_map-append piece pieces (b ∷ []) ∙ ap (λ (x : List ℕ). flat_map piece pieces ++ x) (append-nil (piece b)))
+    ap (λ (x : List ℕ). magic ++ tag_number tag ∷ x) (flat_map-append prefixed pieces (b ∷ []) ∙ ap (λ (x : List ℕ). flat_map prefixed pieces ++ x) (append-nil (prefixed b)))
 
 -- ---- what a hashed string determines
 
@@ -47,39 +49,26 @@ pub tag_number-determines : (t u : Tag) → tag_number t ≡ tag_number u → t 
 tag_number-determines t u e =
     sym (numbered t) ∙ ap (λ (n : ℕ). slice_index_or tags (n - 1) View) e ∙ numbered u
 
--- of two lists with equal fronts of one length the fronts and the rests are equal
-pub split_once : (p q x y : List ℕ) → length p ≡ length q → p ++ x ≡ q ++ y → (p ≡ q) × (x ≡ y)
-split_once [] [] x y l e = (refl, e)
-split_once [] (b ∷ q) x y l e = absurd (omega arith)
-split_once (a ∷ p) [] x y l e = absurd (omega arith)
-split_once (a ∷ p) (b ∷ q) x y l e =
-    let tails : p ++ x ≡ q ++ y = cc in
-    let below : length p ≡ length q = omega arith in
-    let parts = split_once p q x y below tails in
-    let heads : a ≡ b = cc in
-    let fronts : p ≡ q = parts.0 in
-    (cc, parts.1)
-
 -- the bytes of two lengths are equal only where the lengths are
 be32-determines : (m n : ℕ) → m < 2 ^ 32 → n < 2 ^ 32 → to_be_bytes w32 m ≡ to_be_bytes w32 n → m ≡ n
 be32-determines m n small small' e =
     sym (from_be_bytes-to_be_bytes_4 m small) ∙ ap (from_be_bytes w32) e ∙ from_be_bytes-to_be_bytes_4 n small'
 
--- the front of a list of pieces
-pub piece-front : (p q x y : List ℕ) → length p < 2 ^ 32 → length q < 2 ^ 32 → piece p ++ x ≡ piece q ++ y → (p ≡ q) × (x ≡ y)
-piece-front p q x y small small' e =
+-- bytes with their length before them end where they end, whatever follows
+pub prefixed-front : (p q x y : List ℕ) → length p < 2 ^ 32 → length q < 2 ^ 32 → prefixed p ++ x ≡ prefixed q ++ y → (p ≡ q) × (x ≡ y)
+prefixed-front p q x y small small' e =
     let be : ℕ → List ℕ = to_be_bytes w32 in
     let grouped : be (length p) ++ (p ++ x) ≡ be (length q) ++ (q ++ y) =
     sym (append_assoc (be (length p)) p x) ∙ e ∙ append_assoc (be (length q)) q y in
     let parts = split_once (be (length p)) (be (length q)) (p ++ x) (q ++ y) refl grouped in
     split_once p q x y (be32-determines (length p) (length q) small small' parts.0) parts.1
 
-pieces-determined : (ps qs : List (List ℕ)) → ArePieces ps → ArePieces qs → flat_map piece ps ≡ flat_map piece qs → ps ≡ qs
+pieces-determined : (ps qs : List (List ℕ)) → ArePieces ps → ArePieces qs → flat_map prefixed ps ≡ flat_map prefixed qs → ps ≡ qs
 pieces-determined [] [] s t e = refl
 pieces-determined [] (q ∷ qs) s t e = absurd (omega (arith, ap length e))
 pieces-determined (p ∷ ps) [] s t e = absurd (omega (arith, ap length e))
 pieces-determined (p ∷ ps) (q ∷ qs) s t e =
-    let parts = piece-front p q (flat_map piece ps) (flat_map piece qs) s.0 t.0 e in
+    let parts = prefixed-front p q (flat_map prefixed ps) (flat_map prefixed qs) s.0 t.0 e in
     let fronts : p ≡ q = parts.0 in
     let rests : ps ≡ qs = pieces-determined ps qs s.1 t.1 parts.1 in
     cc
@@ -88,9 +77,9 @@ pieces-determined (p ∷ ps) (q ∷ qs) s t e =
 pub hashed_determines : (tag tag' : Tag) (pieces pieces' : List (List ℕ)) → ArePieces pieces → ArePieces pieces' → hashed tag pieces ≡ hashed tag' pieces' → (tag ≡ tag') × (pieces ≡ pieces')
 unfolding hashed
 hashed_determines tag tag' pieces pieces' s t e =
-    let rest : tag_number tag ∷ flat_map piece pieces ≡ tag_number tag' ∷ flat_map piece pieces' = cc in
+    let rest : tag_number tag ∷ flat_map prefixed pieces ≡ tag_number tag' ∷ flat_map prefixed pieces' = cc in
     let numbers : tag_number tag ≡ tag_number tag' = cc in
-    let bytes : flat_map piece pieces ≡ flat_map piece pieces' = cc in
+    let bytes : flat_map prefixed pieces ≡ flat_map prefixed pieces' = cc in
     (tag_number-determines tag tag' numbers, pieces-determined pieces pieces' s t bytes)
 
 -- equal hashes of two strings of a list without collisions have equal tags and pieces

@@ -9,31 +9,10 @@ use Rattle.std.proofs.lemmas.List.{take-append-drop}
 use Rattle.std.proofs.lemmas.Nat.{be_bytes_2, be_bytes_4, be_bytes_8, from_be_bytes-to_be_bytes_2, from_be_bytes-to_be_bytes_4, from_be_bytes-to_be_bytes_8}
 use Rattle.std.proofs.Math.Seq.{take-append_seam, drop-append_seam}
 use Rattle.wire_core.specs.declared.cursor.Short.{Short}
+pub use Rattle.wire_core.proofs.AnswerLemmas.{bind_ok, fault_as_ok, guard_ok, chosen}
 use Rattle.wire_core.specs.Bytes.{IsBytes}
 use Rattle.wire_core.proofs.ByteLists.{IsBytes-front, IsBytes-back}
 use Rattle.wire_core.specs.Reading.{Reading, reading_at, ◌>>=◌, fault_as, unless, advanced, bytes_at, number_at, repeated, with_front, IsFault, Takes}
-
--- ---- readings one after the other
-
--- two readings in turn gave a value: so did each
-pub bind_ok : {A B E : Type 0} (r : Result A E) (f : A → Result B E) (y : B) → (r >>= f) ≡ Ok y → (x : A) × (r ≡ Ok x) × (f x ≡ Ok y)
-bind_ok (Ok x) f y e = (x, refl, e)
-bind_ok (Err d) f y e = cc
-
--- a reading whose fault is told otherwise gave a value: so did the reading
-pub fault_as_ok : {A E F : Type 0} (f : E → F) (r : Result A E) (x : A) → fault_as f r ≡ Ok x → r ≡ Ok x
-fault_as_ok f (Ok y) x e = cc
-fault_as_ok f (Err d) x e = cc
-
--- a test gave a value: it passed
-pub guard_ok : {A E : Type 0} (bad : Bool) (d : E) (x y : A) → unless bad d x ≡ Ok y → (bad ≡ false) × (x ≡ y)
-guard_ok true d x y e = cc
-guard_ok false d x y e = (refl, cc)
-
--- which way a test went
-pub chosen : {A : Type 0} (b : Bool) (x y z : A) → cond b x y ≡ z → ((b ≡ true) × (x ≡ z)) ⊎ ((b ≡ false) × (y ≡ z))
-chosen true x y z e = inl (refl, e)
-chosen false x y z e = inr (refl, e)
 
 -- ---- what was read
 

@@ -1,15 +1,16 @@
 -- Hashed strings. What is hashed is "DSNT1", the byte of a tag, and for each piece its length in
 -- four bytes and its bytes.
-use Rattle.std.specs.Prelude.{◌≡◌, ◌≢◌, ℕ, ◌<◌, ◌^◌, List, [], ◌∷◌, ◌++◌, length, Contains}
+use Rattle.std.specs.Prelude.{◌≡◌, ◌≢◌, ℕ, ◌<◌, ◌^◌, List, [], ◌∷◌, ◌++◌, length, Contains, codes}
 use Rattle.std.specs.List.{flat_map, AllByRecursion}
-use Rattle.std.specs.Int.{w32, w64, to_be_bytes}
+use Rattle.std.specs.Int.{w64, to_be_bytes}
 use Rattle.sha2.specs.Sha256.{sha256}
+use Rattle.wire_core.specs.Bytes.{prefixed}
 use Rattle.wire_core.specs.declared.tag.Tag.{Tag}
 use Rattle.wire_core.specs.declared.tag.Tag.TheVariants.{View, Roster, RingPublic, RingSecret, RingCoins, LayerStream, LayerTag, LayerSeed, Message, PadStream, PadHash, Derive, LmsIdentifier, LmsSeed, ScriptKey, ScriptFresh, MakeSeed, MakeMessage}
 
 -- the text "DSNT1"
 abbrev pub magic : List ℕ
-magic = 68 ∷ 83 ∷ 78 ∷ 84 ∷ 49 ∷ []
+magic = codes "DSNT1"
 
 -- the byte of a tag
 abbrev pub tag_number : Tag → ℕ
@@ -32,17 +33,13 @@ tag_number ScriptFresh = 16
 tag_number MakeSeed = 17
 tag_number MakeMessage = 18
 
--- a piece as it is hashed: four bytes of length, and its bytes
-abbrev pub piece : List ℕ → List ℕ
-piece p = to_be_bytes w32 (length p) ++ p
-
 -- a list of pieces, each of which has its length in four bytes
 abbrev pub ArePieces : List (List ℕ) → Type 0
 ArePieces pieces = AllByRecursion (λ p. length p < 2 ^ 32) pieces
 
 -- the string that is hashed for a tag and its pieces
 unfoldable pub hashed : Tag → List (List ℕ) → List ℕ
-hashed tag pieces = magic ++ tag_number tag ∷ flat_map piece pieces
+hashed tag pieces = magic ++ tag_number tag ∷ flat_map prefixed pieces
 
 -- the hash of a tag and its pieces: 32 bytes
 unfoldable pub hash_of : Tag → List (List ℕ) → List ℕ

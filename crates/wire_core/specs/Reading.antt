@@ -4,6 +4,7 @@ use Rattle.std.specs.Prelude.{◌≡◌, ℕ, zero, suc, ◌+◌, List, [], ◌�
 use Rattle.std.specs.Int.{Width, byte_len, from_be_bytes}
 use Rattle.wire_core.specs.declared.cursor.Short.{Short}
 pub use Rattle.wire_core.specs.Place.{Reading}
+pub use Rattle.wire_core.specs.Answers.{◌>>=◌, fault_as, unless, IsFault, Gives}
 
 -- a reading that stands at this place, with these bytes to come
 abbrev pub reading_at : ℕ → List ℕ → Reading
@@ -16,21 +17,6 @@ reading_of bytes = reading_at 0 bytes
 -- the reading before, with n bytes more read
 abbrev pub advanced : ℕ → Reading → Reading
 advanced n before = reading_at (before.place + n) (drop n before.rest)
-
--- first this reading, then that of what it gave; the first fault ends both
-infixl 10 ◌>>=◌
-abbrev pub ◌>>=◌ : {A B E : Type 0} → Result A E → (A → Result B E) → Result B E
-(Ok x) >>= f = f x
-(Err e) >>= f = Err e
-
--- the same reading, with its fault told in other words
-abbrev pub fault_as : {A E F : Type 0} → (E → F) → Result A E → Result A F
-fault_as f (Ok x) = Ok x
-fault_as f (Err e) = Err (f e)
-
--- x where the test passes, else the fault
-abbrev pub unless : {A E : Type 0} → Bool → E → A → Result A E
-unless bad e x = if bad then Err e else Ok x
 
 -- the next n bytes. Short where fewer are left, with how many are
 abbrev pub bytes_at : ℕ → Reading → Result (List ℕ × Reading) Short
@@ -63,20 +49,10 @@ abbrev pub Reads : {X Y E : Type 0} → (X → Y) → Result X E → Reading →
 Reads view (Ok x) after read = read ≡ Ok (view x, after)
 Reads view (Err e) after read = read ≡ Err e
 
--- The same for a reader that may run out of memory: fault tells which of its errors is which fault,
--- and None is want of memory, of which nothing is said.
-abbrev pub IsFault : {A F : Type 0} → Option F → Result A F → Type 0
-IsFault None read = Unit {0}
-IsFault (Some f) read = read ≡ Err f
-
+-- The same for a reader that may run out of memory: fault tells which of its errors is which fault.
 abbrev pub ReadsOr : {X Y E F : Type 0} → (E → Option F) → (X → Y) → Result X E → Reading → Result (Y × Reading) F → Type 0
 ReadsOr fault view (Ok x) after read = read ≡ Ok (view x, after)
 ReadsOr fault view (Err e) after read = IsFault (fault e) read
-
--- The same for a call that takes whole bytes and has no place afterwards.
-abbrev pub Gives : {X Y E F : Type 0} → (E → Option F) → (X → Y) → Result X E → Result Y F → Type 0
-Gives fault view (Ok x) read = read ≡ Ok (view x)
-Gives fault view (Err e) read = IsFault (fault e) read
 
 -- from before to after exactly this text was read
 pub record Takes (text : List ℕ) (before after : Reading) : Type 0 where

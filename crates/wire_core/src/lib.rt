@@ -6,6 +6,7 @@
 mod cursor;
 mod laws;
 mod list;
+mod places;
 mod put;
 mod register;
 mod tag;
@@ -16,6 +17,7 @@ pub use laws::{
     reads_nothing_else, reads_what_is_put, same_hash,
 };
 pub use list::List;
+pub use places::{copy_part, first_unlike, long_at, word_at};
 pub use put::{Mem, put_bytes, put_u8, put_u16, put_u32, put_u64};
 pub use register::Register;
 pub use tag::Tag;
