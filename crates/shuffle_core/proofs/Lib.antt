@@ -1,0 +1,4 @@
+pub mod Drawn
+pub mod Opened
+pub mod Submitted
+pub mod Turns
