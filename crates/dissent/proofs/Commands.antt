@@ -3,11 +3,11 @@
 use Rattle.std.proofs.Common.{◌≡◌, inl, inr, refl, sym, ◌∙◌, ap, ℕ, ◌≤◌, List, Option, Result, Ok, Err, subst, arith}
 use Rattle.dissent.specs.declared.status.Status.{Status}
 use Rattle.dissent.specs.declared.status.Status.TheVariants.{OutOfMemory}
-use Rattle.dissent.specs.declared.judge.FailedCheck.{FailedCheck}
-use Rattle.dissent.specs.declared.judge.Refused.{Refused}
-use Rattle.dissent.specs.declared.judge.Refused.TheVariants.{Check, Memory as JudgeMemory}
-use Rattle.dissent.specs.declared.roster.RosterRefusal.{RosterRefusal}
-use Rattle.dissent.specs.declared.roster.RosterRefusal.TheVariants.{Bad, Memory as RosterMemory}
+use Rattle.transcript_form.specs.declared.refusal.FailedCheck.{FailedCheck}
+use Rattle.transcript_form.specs.declared.refusal.Refused.{Refused}
+use Rattle.transcript_form.specs.declared.refusal.Refused.TheVariants.{Check, Memory as JudgeMemory}
+use Rattle.group_roster.specs.declared.roster.RosterRefusal.{RosterRefusal}
+use Rattle.group_roster.specs.declared.roster.RosterRefusal.TheVariants.{Bad, Memory as RosterMemory}
 use Rattle.key_store.specs.Disk.{Rose}
 use Rattle.dissent.specs.Outside.{Held, Shows}
 use Rattle.dissent.specs.Refusals.{RefusesRoster, RefusesTranscript, roster_status, judge_status}

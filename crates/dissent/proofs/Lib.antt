@@ -1,11 +1,3 @@
-pub mod Unlike
-pub mod Keys
-pub mod Spelled
-pub mod Frames
-pub mod Rosters
-pub mod Admits
-pub mod Transcripts
-pub mod Judging
 pub mod Reading
 pub mod Printing
 pub mod Commands

@@ -2,25 +2,27 @@
 use Rattle.std.proofs.Common.{◌≡◌, ◌≢◌, ◌⊎◌, inl, inr, refl, sym, ◌∙◌, ap, subst, ℕ, List, length, Option, Some, None, Result, Ok, Err, IsSomeAnd, IsSome, Bool, true, false, nat_lt, if◌then◌else◌}
 use Rattle.dissent.specs.declared.status.Status.{Status}
 use Rattle.dissent.specs.declared.status.Status.TheVariants.{Done, Usage, Refused, ReadFault, WriteFault, DiskFault, BadRoster, TooLong, OutOfMemory}
-use Rattle.dissent.specs.declared.judge.Accepted.{Accepted}
+use Rattle.judge_core.specs.declared.judging.Accepted.{Accepted}
 use Rattle.dissent.specs.Outside.{Held, Shows, IsMissing, Gains}
 use Rattle.dissent.specs.Command.{Request, judge, show, keygen}
-use Rattle.dissent.specs.declared.judge.FailedCheck.{FailedCheck}
-use Rattle.dissent.specs.declared.roster.Roster.{Roster}
-use Rattle.dissent.specs.Roster.{roster_read, IsRosterFile, roster_spelling}
+use Rattle.transcript_form.specs.declared.refusal.FailedCheck.{FailedCheck}
+use Rattle.group_roster.specs.declared.roster.Roster.{Roster}
+use Rattle.group_roster.specs.Roster.{roster_read, IsRosterFile, roster_spelling}
 use Rattle.phase_message.specs.declared.content.Content.{Content}
-use Rattle.dissent.specs.Accepts.{judged}
-use Rattle.dissent.specs.Show.{IsPostFile, file_checked, shown_line}
+use Rattle.judge_core.specs.Checks.{judged}
+use Rattle.signed_post.specs.Admission.{IsPostFile}
+use Rattle.dissent.specs.Show.{file_checked, shown_line}
 use Rattle.dissent.specs.Outcome.{Yields, YieldsOr, Answers, RequestMisses, within, and_then, or_bad_roster, or_refused, judge_outcome, show_outcome, keygen_outcome, accepted_line}
 use Rattle.dissent.specs.Delivery.{Delivers, status_of, text_of}
 use Rattle.dissent.proofs.Commands.{outcome_by}
 use Rattle.dissent.specs.Promise.{IsToldStatus, IsStatusOf, IsWhole, IsComplete, FilesConvict, FilesShow, OnOutput, PrintsOutput}
-use Rattle.dissent.specs.declared.roster.RosterRefusal.{RosterRefusal}
-use Rattle.dissent.specs.declared.roster.RosterRefusal.TheVariants.{Bad, Memory as RosterMemory}
-use Rattle.dissent.specs.declared.judge.Refused.{Refused as JudgeRefusal}
-use Rattle.dissent.specs.declared.judge.Refused.TheVariants.{Check, Memory as JudgeMemory}
+use Rattle.group_roster.specs.declared.roster.RosterRefusal.{RosterRefusal}
+use Rattle.group_roster.specs.declared.roster.RosterRefusal.TheVariants.{Bad, Memory as RosterMemory}
+use Rattle.transcript_form.specs.declared.refusal.Refused.{Refused as JudgeRefusal}
+use Rattle.transcript_form.specs.declared.refusal.Refused.TheVariants.{Check, Memory as JudgeMemory}
 use Rattle.dissent.specs.Refusals.{roster_status, judge_status}
-use Rattle.dissent.specs.Accepts.{Accepts, OnePerSlot, ListsSaid}
+use Rattle.judge_core.specs.Accepts.{Accepts}
+use Rattle.judge_core.specs.Framing.{OnePerSlot, ListsSaid}
 
 -- The statuses that a command may be refused with.
 

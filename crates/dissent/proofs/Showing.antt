@@ -1,5 +1,5 @@
 -- What a post that is shown has passed.
-use Rattle.std.proofs.Common.{◌≡◌, ◌⊎◌, inl, inr, ℕ, List, length, Result, Ok, Err, sym, subst, ◌∙◌}
+use Rattle.std.proofs.Common.{◌≡◌, ◌⊎◌, inl, inr, ℕ, List, Result, Ok, Err, sym, subst, ◌∙◌}
 use Rattle.wire_core.specs.declared.cursor.Short.{Short}
 use Rattle.wire_core.specs.Bytes.{IsBytes}
 use Rattle.wire_core.specs.Reading.{fault_as}
@@ -8,19 +8,20 @@ use Rattle.phase_message.specs.declared.content.Content.{Content}
 use Rattle.phase_message.specs.declared.header.Header.{Header}
 use Rattle.phase_message.specs.Offence.{Offence, content_read}
 use Rattle.phase_message.proofs.Whole.{content-header}
-use Rattle.dissent.specs.declared.roster.Roster.{Roster}
-use Rattle.dissent.specs.declared.post.PostRefusal.TheVariants.{Memory, Body as BodyFault}
-use Rattle.dissent.specs.Roster.{shape_of_roster}
-use Rattle.dissent.specs.Post.{Signed, framed, admit, Admitted, checked}
-use Rattle.dissent.specs.Show.{IsPostFile}
-use Rattle.dissent.proofs.Admits.{admits_exactly}
-use Rattle.dissent.proofs.Frames.{framed-found, framed-bytes}
+use Rattle.group_roster.specs.declared.roster.Roster.{Roster}
+use Rattle.signed_post.specs.declared.post.PostRefusal.TheVariants.{Memory, Body as BodyFault}
+use Rattle.group_roster.specs.Roster.{shape_of_roster}
+use Rattle.phase_message.specs.declared.post.Post.{Post}
+use Rattle.signed_post.specs.Frame.{framed}
+use Rattle.signed_post.specs.Admission.{admit, Admitted, checked, IsPostFile}
+use Rattle.signed_post.proofs.Admits.{admits_exactly}
+use Rattle.signed_post.proofs.Frames.{framed-found, framed-bytes}
 
 -- a post that passes is admitted with the header of its content
 abbrev header_ok : Header → Result Header Short
 header_ok header = Ok header
 
-checked-found : (roster : Roster) (round : ℕ) (post : Signed) (content : Content) → IsBytes post.signature → checked roster round post ≡ Ok content
+checked-found : (roster : Roster) (round : ℕ) (post : Post) (content : Content) → IsBytes post.signature → checked roster round post ≡ Ok content
     → Admitted roster round post content.header × (content_read (shape_of_roster roster) post.content ≡ Ok content)
 unfolding checked
 checked-found roster round post content bytes e =
@@ -32,10 +33,14 @@ checked-found roster round post content bytes e =
     (subst (λ (h : Header). Admitted roster round post h) same admitted, reads)
 
 -- a file whose post passes
-pub file-passes : (roster : Roster) (round : ℕ) (bytes : List ℕ) (post : Signed) (content : Content) (X : Type 0) → IsBytes bytes
+pub file-passes : (roster : Roster) (round : ℕ) (bytes : List ℕ) (post : Post) (content : Content) (X : Type 0) → IsBytes bytes
     → framed bytes ≡ Ok post → (Ok content ≡ checked roster round post) ⊎ ((Ok content ≡ Err Memory) × X)
     → IsPostFile roster round bytes content
 file-passes roster round bytes post content X fits frame (inl e) =
     let found = checked-found roster round post content (framed-bytes bytes post fits frame) (sym e) in
-    record { post = post; spelled = (framed-found bytes post fits frame).1; admitted = found.0; reads = found.1 }
+    record {
+      text = post.content;
+      says = record { signature = post.signature; spelled = (framed-found bytes post fits frame).1; admitted = found.0 };
+      reads = found.1;
+    }
 file-passes roster round bytes post content X fits frame (inr (e, x)) = absurd (cc)

@@ -1,8 +1,3 @@
-pub mod Places
-pub mod Roster
-pub mod Post
-pub mod Transcript
-pub mod Accepts
 pub mod Show
 pub mod Outside
 pub mod Command

@@ -9,12 +9,13 @@ use Rattle.lms_tree.specs.declared.secrets.MadeHeight.{MadeHeight}
 use Rattle.lms_tree.specs.Tree.{key_bytes}
 use Rattle.lms_tree.specs.Secret.{SecretParts, own_public, parts_of_master}
 use Rattle.lms_tree.specs.States.{made_type}
-use Rattle.dissent.specs.declared.judge.Accepted.{Accepted}
+use Rattle.judge_core.specs.declared.judging.Accepted.{Accepted}
 use Rattle.dissent.specs.Command.{Request, judge, show, keygen}
 use Rattle.dissent.specs.Outside.{Held, Shows, IsMissing}
-use Rattle.dissent.specs.Roster.{roster_read}
-use Rattle.dissent.specs.declared.judge.FailedCheck.{FailedCheck}
-use Rattle.dissent.specs.Accepts.{judged, claim_name}
+use Rattle.group_roster.specs.Roster.{roster_read}
+use Rattle.transcript_form.specs.declared.refusal.FailedCheck.{FailedCheck}
+use Rattle.judge_core.specs.Checks.{judged}
+use Rattle.transcript_form.specs.Transcript.{claim_name}
 use Rattle.dissent.specs.Show.{file_checked, shown_line}
 use Rattle.dissent.specs.Status.{line_of}
 

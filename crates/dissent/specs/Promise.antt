@@ -5,12 +5,14 @@ use Rattle.dissent.specs.declared.status.Status.TheVariants.{Done, ReadFault, Wr
 use Rattle.dissent.specs.Outside.{Held, Shows, Gains}
 use Rattle.dissent.specs.Command.{Request, judge, show, keygen}
 use Rattle.dissent.specs.Outcome.{Answers, outcome_of, keygen_outcome, made_parts, key_line, accepted_line}
-use Rattle.dissent.specs.declared.roster.Roster.{Roster}
-use Rattle.dissent.specs.declared.judge.Accepted.{Accepted}
-use Rattle.dissent.specs.Roster.{IsRosterFile, roster_spelling}
-use Rattle.dissent.specs.Accepts.{Accepts, OnePerSlot, ListsSaid}
+use Rattle.group_roster.specs.declared.roster.Roster.{Roster}
+use Rattle.judge_core.specs.declared.judging.Accepted.{Accepted}
+use Rattle.group_roster.specs.Roster.{IsRosterFile, roster_spelling}
+use Rattle.judge_core.specs.Accepts.{Accepts}
+use Rattle.judge_core.specs.Framing.{OnePerSlot, ListsSaid}
 use Rattle.phase_message.specs.declared.content.Content.{Content}
-use Rattle.dissent.specs.Show.{IsPostFile, shown_line}
+use Rattle.signed_post.specs.Admission.{IsPostFile}
+use Rattle.dissent.specs.Show.{shown_line}
 use Rattle.dissent.specs.Delivery.{Delivers, status_of}
 use Rattle.lms_tree.specs.Secret.{own_public}
 use Rattle.lm_ots.specs.declared.types.OtsType.{OtsType}

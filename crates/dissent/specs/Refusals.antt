@@ -1,13 +1,13 @@
 -- Which refusals the reader of rosters and the judge answer. Want of memory may come at any time.
 use Rattle.std.specs.Prelude.{ℕ, Result}
 use Rattle.wire_core.specs.Reading.{IsFault}
-use Rattle.dissent.specs.declared.roster.RosterRefusal.{RosterRefusal}
-use Rattle.dissent.specs.declared.roster.RosterRefusal.TheVariants.{Bad, Memory as RosterMemory}
-use Rattle.dissent.specs.declared.judge.Refused.{Refused}
-use Rattle.dissent.specs.declared.judge.Refused.TheVariants.{Check, Memory as JudgeMemory}
-use Rattle.dissent.specs.declared.judge.FailedCheck.{FailedCheck}
-use Rattle.dissent.specs.Roster.{offence_told}
-use Rattle.dissent.specs.Accepts.{check_told}
+use Rattle.group_roster.specs.declared.roster.RosterRefusal.{RosterRefusal}
+use Rattle.group_roster.specs.declared.roster.RosterRefusal.TheVariants.{Bad, Memory as RosterMemory}
+use Rattle.transcript_form.specs.declared.refusal.Refused.{Refused}
+use Rattle.transcript_form.specs.declared.refusal.Refused.TheVariants.{Check, Memory as JudgeMemory}
+use Rattle.transcript_form.specs.declared.refusal.FailedCheck.{FailedCheck}
+use Rattle.group_roster.specs.Roster.{offence_told}
+use Rattle.transcript_form.specs.Transcript.{check_told}
 use Rattle.dissent.specs.declared.status.Status.{Status}
 use Rattle.dissent.specs.declared.status.Status.TheVariants.{BadRoster, Refused as IsRefused, OutOfMemory}
 

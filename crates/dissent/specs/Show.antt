@@ -1,17 +1,16 @@
 -- What `show` tells of a post file.
-use Rattle.std.specs.Prelude.{◌≡◌, ℕ, List, [], ◌∷◌, length, Option, Some, None, Result, Ok, codes, decimal}
+use Rattle.std.specs.Prelude.{ℕ, List, [], ◌∷◌, Option, Some, None, Result, codes, decimal}
 use Rattle.hex.specs.Hex.{encode_lower}
 use Rattle.wire_core.specs.Reading.{◌>>=◌, fault_as}
 use Rattle.phase_message.specs.declared.content.Body.{Body}
 use Rattle.phase_message.specs.declared.content.Body.TheVariants.{Keys, Submit, Shuffled, Abort, Go, Reveal, Dispute, Pads, Check, Confirm, Differ}
 use Rattle.phase_message.specs.declared.content.Content.{Content}
-use Rattle.phase_message.specs.Offence.{content_read}
-use Rattle.dissent.specs.declared.roster.Roster.{Roster}
-use Rattle.dissent.specs.declared.post.PostRefusal.{PostRefusal}
-use Rattle.dissent.specs.declared.post.PostRefusal.TheVariants.{Frame, Memory}
-use Rattle.dissent.specs.declared.judge.FailedCheck.{FailedCheck}
-use Rattle.dissent.specs.Roster.{shape_of_roster}
-use Rattle.dissent.specs.Post.{Signed, post_spelling, framed, Admitted, checked, refusal_number, refusal_place}
+use Rattle.group_roster.specs.declared.roster.Roster.{Roster}
+use Rattle.signed_post.specs.declared.post.PostRefusal.{PostRefusal}
+use Rattle.signed_post.specs.declared.post.PostRefusal.TheVariants.{Frame, Memory}
+use Rattle.transcript_form.specs.declared.refusal.FailedCheck.{FailedCheck}
+use Rattle.signed_post.specs.Frame.{framed}
+use Rattle.signed_post.specs.Admission.{checked, refusal_number, refusal_place}
 use Rattle.dissent.specs.Status.{line_of}
 
 -- ---- the check of a file
@@ -29,13 +28,6 @@ file_checked round roster bytes =
 abbrev pub failure_told : PostRefusal → Option FailedCheck
 failure_told Memory = None
 failure_told refusal = Some (failed_check refusal)
-
--- bytes are a post of this content, which the roster admits for the round and whose body is in the grammar
-pub record IsPostFile (roster : Roster) (round : ℕ) (bytes : List ℕ) (content : Content) : Type 0 where
-  pub post : Signed
-  pub spelled : bytes ≡ post_spelling post
-  pub admitted : Admitted roster round post content.header
-  pub reads : content_read (shape_of_roster roster) post.content ≡ Ok content
 
 -- ---- what is printed
 

@@ -1,15 +1,11 @@
-//! Evidence: two votes of member 3 in one slot, made from keys, with the transcript that lists them; and the evidence that is stored.
+//! Evidence: two votes of member 3 in one slot, made from keys, with the transcript that lists them.
 
-ghost use Rattle.std.specs.Prelude.{◌≡◌, ◌<◌, length};
-ghost use Rattle.dissent.specs.Roster.{IsRosterForm};
+ghost use Rattle.std.specs.Prelude.{◌<◌};
 
 use super::*;
-use crate::stored_evidence::{roster_digits, transcript_digits};
 use crate::tests::{FRESH, words_of};
 use key_store::SteadyDisk;
 use lms_tree::{LmsSecret, MadeHeight, OtsType};
-use phase_message::Body;
-use std::process::Abort;
 use std::test::Fail;
 use wire_core::{Mem, Register, Tag, put_bytes, put_u8, put_u32, put_u64};
 
@@ -103,184 +99,6 @@ fn transcript_of(alloc: Global, first: &[u8], second: &[u8]) -> Mem<Vec<u8>> {
     Ok(bytes)
 }
 
-// The checks 1 and 2 refuse each cut of the transcript, at its number of bytes.
-fn no_cut_convicts(rt: &impl Abort, alloc: Global, roster: &Roster, bytes: &[u8])
-    requires form { IsRosterForm roster.now }
-    requires size { length bytes.now ≡ 4885 }
-{
-    for size in 0..4885 {
-        let want = if size < 5 { 1 } else { 2 };
-        let refused = judge(alloc, roster, &bytes[..size]);
-        assert!(rt;
-            matches!(refused, Err(Refused::Check { check, post: 0, at })
-            if check == want && at as usize == size)
-        );
-    }
-}
-
-// The judge refuses the transcript of these two posts by this check.
-fn refused(
-    rt: &impl Abort,
-    alloc: Global,
-    roster: &Roster,
-    posts: (&[u8], &[u8]),
-    want: (u32, u32, u32),
-) -> Result<(), AllocError>
-    requires { IsRosterForm roster.now }
-{
-    let bytes = transcript_of(alloc, posts.0, posts.1)?;
-    assert_eq!(rt; bytes.len(), 4885);
-    let refused = judge(alloc, roster, &bytes);
-    assert!(rt;
-        matches!(refused, Err(Refused::Check { check, post, at })
-        if check == want.0 && post == want.1 && at == want.2)
-    );
-    Ok(())
-}
-
-// Two votes convict, and one vote signed twice does not.
-fn votes_are_judged(
-    rt: &impl Abort,
-    alloc: Global,
-    roster: &Roster,
-    group: &[u8; 32],
-) -> Result<(), AllocError>
-    requires { IsRosterForm roster.now }
-{
-    let first = first_vote(group);
-    let second = Vote { yes: 0, ..first };
-    let yes = first.post(alloc, 3, 0)?;
-    let no = second.post(alloc, 3, 1)?;
-    let bytes = transcript_of(alloc, &yes, &no)?;
-    assert_eq!(rt; bytes.len(), 4885);
-    let accepted = judge(alloc, roster, &bytes);
-    assert!(rt;
-        matches!(
-            accepted,
-            Ok(Accepted {
-                accused: 3,
-                claim: Claim::Equivocation
-            })
-        )
-    );
-    let listed = read_transcript(alloc, 4, &bytes);
-    assert!(rt;
-        matches!(&listed, Ok(t) if t.accused == 3 && t.round == 1 && t.posts.items().len() == 2)
-    );
-    let again = first.post(alloc, 3, 2)?;
-    refused(rt, alloc, roster, (&yes, &again), (8, 2, 0))
-}
-
-// The vote of member 3 is read, and passes the checks with what it says.
-fn a_vote_is_taken(
-    rt: &impl Abort,
-    alloc: Global,
-    roster: &Roster,
-    group: &[u8; 32],
-) -> Result<(), AllocError>
-    requires { IsRosterForm roster.now }
-{
-    let yes = first_vote(group);
-    let content = yes.content(alloc)?;
-    match read(alloc, &yes.post(alloc, 3, 0)?) {
-        Ok(post) => {
-            assert!(rt; post.content.items() == &content);
-            let header = check_header(roster, 1, &post);
-            assert!(rt; matches!(&header, Ok(h) if h.stage == 6 && h.sender == 3));
-            let said = check(alloc, roster, 1, &post);
-            assert!(rt; matches!(&said, Ok(said) if matches!(&said.body, Body::Go { yes: true })));
-        }
-        Err(_) => assert!(rt; false, "no post"),
-    }
-    Ok(())
-}
-
-// Each check of a post that its bytes can fail, in the first place and in the second.
-fn posts_are_refused(
-    rt: &impl Abort,
-    alloc: Global,
-    roster: &Roster,
-    group: &[u8; 32],
-) -> Result<(), AllocError>
-    requires { IsRosterForm roster.now }
-{
-    let right = first_vote(group);
-    let yes = right.post(alloc, 3, 0)?;
-    let cases = [
-        (
-            Vote {
-                version: 2,
-                ..right
-            },
-            3,
-            (4, 1, 2),
-        ),
-        (
-            Vote {
-                group: [0; 32],
-                ..right
-            },
-            3,
-            (4, 1, 3),
-        ),
-        (Vote { round: 2, ..right }, 3, (4, 1, 4)),
-        (Vote { sender: 0, ..right }, 3, (4, 1, 5)),
-        (Vote { stage: 18, ..right }, 3, (4, 1, 6)),
-        (right, 4, (4, 1, 7)),
-        (Vote { sender: 1, ..right }, 1, (5, 1, 6)),
-    ];
-    for (wrong, signer, want) in cases {
-        let post = wrong.post(alloc, signer, 1)?;
-        refused(rt, alloc, roster, (&post, &yes), want)?;
-    }
-    let later = Vote { stage: 7, ..right }.post(alloc, 3, 1)?;
-    refused(rt, alloc, roster, (&yes, &later), (5, 2, 7))?;
-    let unframed = vec![in alloc; 0u8; 2429]?;
-    refused(rt, alloc, roster, (&unframed, &yes), (4, 1, 1))?;
-    refused(rt, alloc, roster, (&yes, &unframed), (4, 2, 1))
-}
-
-#[test]
-fn evidence_is_judged(rt: HostRuntime) -> Result<(), Fail> {
-    let alloc = rt.alloc();
-    let bytes = roster_of_four(alloc)?;
-    assert_eq!(rt; bytes.len(), 230);
-    let mut register = Register::new(Tag::Roster);
-    register.piece(&bytes);
-    let group = register.end();
-    match decode(alloc, &bytes) {
-        Ok(roster) => {
-            votes_are_judged(&rt, alloc, &roster, &group)?;
-            a_vote_is_taken(&rt, alloc, &roster, &group)?;
-            posts_are_refused(&rt, alloc, &roster, &group)?;
-        }
-        Err(_) => assert!(rt; false, "no roster"),
-    }
-    Ok(())
-}
-
-// The stored evidence convicts, and no cut of it does.
-#[test]
-fn stored_evidence_convicts_whole(rt: HostRuntime) -> Result<(), Fail> {
-    let alloc = rt.alloc();
-    let Ok(roster) = hex::decode(alloc, roster_digits()) else {
-        return Err(Fail::from("no roster"));
-    };
-    let Ok(transcript) = hex::decode(alloc, transcript_digits()) else {
-        return Err(Fail::from("no transcript"));
-    };
-    assert_eq!(rt; transcript.len(), 4885);
-    match decode(alloc, &roster) {
-        Ok(roster) => {
-            let accepted = judge(alloc, &roster, &transcript);
-            assert!(rt; matches!(accepted, Ok(Accepted { accused: 3, .. })));
-            no_cut_convicts(&rt, alloc, &roster, &transcript);
-        }
-        Err(_) => assert!(rt; false, "no roster"),
-    }
-    Ok(())
-}
-
 // What the commands print of a transcript that convicts and of a post that passes.
 #[test]
 fn commands_come_to_their_end(rt: HostRuntime) -> Result<(), Fail> {
@@ -312,41 +130,5 @@ fn commands_come_to_their_end(rt: HostRuntime) -> Result<(), Fail> {
         out.written(),
         b"accepted member 3 claim Equivocation\nstage 6 sender 3 kind Go view 0909090909090909090909090909090909090909090909090909090909090909\n".as_slice()
     );
-    Ok(())
-}
-
-// A roster of two keys, each of two types and 48 equal bytes, and bytes that follow.
-fn two_keys(alloc: Global, keys: [[u8; 3]; 2], tail: &[u8]) -> Mem<Vec<u8>> {
-    let mut bytes = Vec::new(alloc);
-    put_bytes(&mut bytes, b"DSRO\x01\x02")?;
-    for [lms_type, ots_type, fill] in keys {
-        put_u32(&mut bytes, u32::from(lms_type))?;
-        put_u32(&mut bytes, u32::from(ots_type))?;
-        put_bytes(&mut bytes, &[fill; 48])?;
-    }
-    put_bytes(&mut bytes, tail)?;
-    Ok(bytes)
-}
-
-#[test]
-fn keys_of_rosters_are_refused(rt: HostRuntime) -> Result<(), Fail> {
-    let alloc = rt.alloc();
-    let cases = [
-        ([[4, 3, 1], [5, 3, 2]], b"".as_slice(), (6, 6)),
-        ([[5, 3, 1], [10, 3, 2]], b"".as_slice(), (62, 6)),
-        ([[5, 0, 1], [5, 3, 2]], b"".as_slice(), (10, 7)),
-        ([[5, 3, 1], [9, 5, 2]], b"".as_slice(), (66, 7)),
-        ([[5, 3, 1], [5, 3, 1]], b"".as_slice(), (62, 8)),
-        ([[5, 3, 1], [5, 3, 2]], b"!".as_slice(), (118, 5)),
-    ];
-    for (keys, tail, want) in cases {
-        let bytes = two_keys(alloc, keys, tail)?;
-        match decode(alloc, &bytes) {
-            Err(RosterRefusal::Bad { at, rule }) => assert!(rt; at == want.0 && rule == want.1),
-            _ => assert!(rt; false, "taken"),
-        }
-    }
-    let bytes = two_keys(alloc, [[5, 3, 1], [9, 4, 2]], b"")?;
-    assert!(rt; decode(alloc, &bytes).is_ok());
     Ok(())
 }

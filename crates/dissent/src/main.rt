@@ -6,36 +6,21 @@
 mod evidence;
 mod host;
 mod host_disk;
-mod judge;
-mod laws;
 mod memory;
 mod offline;
 mod outside;
-mod places;
-mod post;
-mod roster;
 mod show;
 mod status;
 mod stored;
 #[cfg(test)]
-mod stored_evidence;
-#[cfg(test)]
 mod tests;
-mod transcript;
 mod words;
 
 pub use host::{HostFiles, WriterSink};
 pub use host_disk::HostDisk;
-pub use judge::{Accepted, Claim, FailedCheck, Refused, judge};
-pub use laws::{
-    checks_are_exact, nobody_is_framed, posts_are_admitted, posts_are_framed, rosters_are_spelled,
-    transcripts_are_listed,
-};
 pub use memory::{MemoryFiles, MemorySink, SteadyFiles, SteadySink};
 pub use offline::{POST_FILE_LIMIT, ROSTER_LIMIT, TRANSCRIPT_LIMIT, run_offline};
 pub use outside::{FileRead, FileWrite, Files, Sink, SinkAnswer};
-pub use post::{PostRefusal, ReadRefusal, check, check_header, read};
-pub use roster::{Roster, RosterRefusal, decode};
 pub use status::Status;
 use std::alloc::{AllocError, Global};
 use std::process::ExitCode;
@@ -43,7 +28,6 @@ use std::random::RandomSource;
 use std::rt::{Env, Runtime};
 use std::thread::Threads;
 use std::{env, io};
-pub use transcript::{Transcript, read_transcript};
 pub use words::{Command, read_words};
 
 fn main(rt: HostRuntime) -> ExitCode {

@@ -9,17 +9,17 @@ ghost use Rattle.dissent.specs.Status.{status_line};
 ghost use Rattle.dissent.specs.Promise.{AnswersAndPrints, BearsOut, IsStatusOf, IsToldStatus, IsComplete, IsMade, MakesKey, FilesConvict, FilesShow, OnOutput, PrintsOutput};
 ghost use Rattle.dissent.specs.Refusals.{RefusesRoster, RefusesTranscript};
 
-use crate::judge::{Accepted, Refused};
 use crate::outside::{FileRead, Files, Sink, SinkAnswer};
-use crate::roster::RosterRefusal;
 use crate::show::{check_file, shown_text};
 use crate::status::Status;
 use crate::words::{Command, read_words};
-use crate::{judge, roster};
+use group_roster::{RosterRefusal, decode};
+use judge_core::{Accepted, judge};
 use key_store::{Disk, DiskAnswer, StoreRefusal};
 use lms_tree::{LmsPublic, MadeHeight, OtsType};
 use std::alloc::{AllocError, Global};
 use std::thread::Threads;
+use transcript_form::Refused;
 
 /// The most bytes of a roster file.
 pub const ROSTER_LIMIT: u32 = 4096;
@@ -132,9 +132,9 @@ fn run_judge<F: Files>(
     ensures no_fall { F.faults files.old ≤ F.faults files.new }
 {
     let roster_bytes = read_within(files, roster, ROSTER_LIMIT)?;
-    let roster = roster::decode(alloc, &roster_bytes)?;
+    let roster = decode(alloc, &roster_bytes)?;
     let bytes = read_within(files, transcript, TRANSCRIPT_LIMIT)?;
-    let accepted = judge::judge(alloc, &roster, &bytes)?;
+    let accepted = judge(alloc, &roster, &bytes)?;
     Ok(accepted_text(alloc, accepted)?)
 }
 
@@ -155,7 +155,7 @@ fn run_show<F: Files>(
     ensures no_fall { F.faults files.old ≤ F.faults files.new }
 {
     let roster_file = read_within(files, roster, ROSTER_LIMIT)?;
-    let roster = roster::decode(alloc, &roster_file)?;
+    let roster = decode(alloc, &roster_file)?;
     let bytes = read_within(files, post, POST_FILE_LIMIT)?;
     let content = check_file(alloc, &roster, round, &bytes)?;
     Ok(shown_text(alloc, &content)?)

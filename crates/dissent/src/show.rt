@@ -1,15 +1,16 @@
 //! What `show` tells of a post file.
 ghost use Rattle.std.specs.Prelude.{◌≡◌, IfOk};
 ghost use Rattle.wire_core.specs.Reading.{Gives};
-ghost use Rattle.dissent.specs.Roster.{IsRosterForm};
-ghost use Rattle.dissent.specs.Accepts.{check_told};
-ghost use Rattle.dissent.specs.Show.{IsPostFile, failure_told, file_checked, kind_name, shown_line};
+ghost use Rattle.group_roster.specs.Roster.{IsRosterForm};
+ghost use Rattle.transcript_form.specs.Transcript.{check_told};
+ghost use Rattle.signed_post.specs.Admission.{IsPostFile};
+ghost use Rattle.dissent.specs.Show.{failure_told, file_checked, kind_name, shown_line};
 
-use crate::judge::Refused;
-use crate::post::{PostRefusal, ReadRefusal, check, read};
-use crate::roster::Roster;
+use group_roster::Roster;
 use phase_message::{Body, Content};
+use signed_post::{PostRefusal, ReadRefusal, check, read};
 use std::alloc::{AllocError, Global};
+use transcript_form::Refused;
 
 /// The content of the post that a file spells, or the first check that refuses it, as a check of post 1.
 #[tactic(auto, unfolding(crate::specs::Show::file_checked))]

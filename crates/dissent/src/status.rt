@@ -4,9 +4,9 @@ ghost use Rattle.dissent.specs.Status.{status_number, status_line};
 ghost use Rattle.dissent.specs.Refusals.{roster_status, judge_status};
 ghost use Rattle.dissent.specs.declared.status.Status.TheVariants.{OutOfMemory};
 
-use crate::judge::Refused;
-use crate::roster::RosterRefusal;
+use group_roster::RosterRefusal;
 use std::alloc::{AllocError, Global};
+use transcript_form::Refused;
 
 /// How a command ended.
 #[derive(Clone, Copy, Debug, PartialEq, Eq)]

@@ -95,7 +95,7 @@ fn roster_of_two(alloc: Global) -> Result<Vec<u8>, AllocError> {
 
 // The bytes of a post of round 7 by a member of the roster of two, with no signature.
 fn post_of_round_7(alloc: Global) -> Result<Vec<u8>, Fail> {
-    let roster = match roster::decode(alloc, &roster_of_two(alloc)?) {
+    let roster = match group_roster::decode(alloc, &roster_of_two(alloc)?) {
         Ok(roster) => roster,
         Err(_) => return Err(Fail::from(AllocError)),
     };

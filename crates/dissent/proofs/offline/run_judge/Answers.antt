@@ -1,7 +1,7 @@
-use Rattle.dissent.specs.declared.roster.Roster.{Roster}
-use Rattle.dissent.specs.Roster.{roster_read}
-use Rattle.dissent.specs.declared.judge.Accepted.{Accepted}
-use Rattle.dissent.specs.Accepts.{judged}
+use Rattle.group_roster.specs.declared.roster.Roster.{Roster}
+use Rattle.group_roster.specs.Roster.{roster_read}
+use Rattle.judge_core.specs.declared.judging.Accepted.{Accepted}
+use Rattle.judge_core.specs.Checks.{judged}
 use Rattle.dissent.specs.Outcome.{accepted_line}
 use Rattle.std.proofs.lemmas.Result.{err_from_is_err_and}
 use Rattle.dissent.proofs.Commands.{roster_unread, roster_refused, transcript_unread, judge_refused, judge_accepted, no_memory, rose_earlier}

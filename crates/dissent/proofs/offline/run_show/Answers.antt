@@ -1,5 +1,5 @@
-use Rattle.dissent.specs.declared.roster.Roster.{Roster}
-use Rattle.dissent.specs.Roster.{roster_read}
+use Rattle.group_roster.specs.declared.roster.Roster.{Roster}
+use Rattle.group_roster.specs.Roster.{roster_read}
 use Rattle.phase_message.specs.declared.content.Content.{Content}
 use Rattle.dissent.specs.Show.{file_checked, shown_line}
 use Rattle.std.proofs.lemmas.Result.{err_from_is_err_and}

@@ -1,8 +1,0 @@
-use Rattle.std.proofs.Common.{◌≡◌, ◌+◌, ◌*◌, length, take, ◌++◌, ◌∷◌}
-use Rattle.std.specs.List.{concat}
-use Rattle.dissent.specs.Roster.{roster_magic}
-use Rattle.dissent.proofs.roster.Roster.spelled.Given as goal
-
-abbrev pub invariant-loop-k : goal.invariant-loop-k
-invariant-loop-k l =
-    take (6 + 56 * l.k) l.bytes ≡ roster_magic ++ (l.self.version ∷ length l.self.keys ∷ concat (take l.k l.self.keys))
