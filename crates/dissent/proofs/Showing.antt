@@ -2,8 +2,8 @@
 use Rattle.std.proofs.Common.{◌≡◌, ◌⊎◌, inl, inr, ℕ, List, Result, Ok, Err, sym, subst, ◌∙◌}
 use Rattle.wire_core.specs.declared.cursor.Short.{Short}
 use Rattle.wire_core.specs.Bytes.{IsBytes}
-use Rattle.wire_core.specs.Reading.{fault_as}
-use Rattle.wire_core.proofs.Readings.{bind_ok, fault_as_ok}
+use Rattle.wire_core.specs.Answers.{fault_as}
+use Rattle.wire_core.proofs.AnswerLemmas.{bind_ok, fault_as_ok}
 use Rattle.phase_message.specs.declared.content.Content.{Content}
 use Rattle.phase_message.specs.declared.header.Header.{Header}
 use Rattle.phase_message.specs.Offence.{Offence, content_read}

@@ -1,6 +1,6 @@
 -- Which refusals the reader of rosters and the judge answer. Want of memory may come at any time.
 use Rattle.std.specs.Prelude.{ℕ, Result}
-use Rattle.wire_core.specs.Reading.{IsFault}
+use Rattle.wire_core.specs.Answers.{IsFault}
 use Rattle.group_roster.specs.declared.roster.RosterRefusal.{RosterRefusal}
 use Rattle.group_roster.specs.declared.roster.RosterRefusal.TheVariants.{Bad, Memory as RosterMemory}
 use Rattle.transcript_form.specs.declared.refusal.Refused.{Refused}

@@ -1,7 +1,7 @@
 -- What `show` tells of a post file.
 use Rattle.std.specs.Prelude.{ℕ, List, [], ◌∷◌, Option, Some, None, Result, codes, decimal}
 use Rattle.hex.specs.Hex.{encode_lower}
-use Rattle.wire_core.specs.Reading.{◌>>=◌, fault_as}
+use Rattle.wire_core.specs.Answers.{◌>>=◌, fault_as}
 use Rattle.phase_message.specs.declared.content.Body.{Body}
 use Rattle.phase_message.specs.declared.content.Body.TheVariants.{Keys, Submit, Shuffled, Abort, Go, Reveal, Dispute, Pads, Check, Confirm, Differ}
 use Rattle.phase_message.specs.declared.content.Content.{Content}

@@ -1,6 +1,6 @@
 //! What `show` tells of a post file.
 ghost use Rattle.std.specs.Prelude.{◌≡◌, IfOk};
-ghost use Rattle.wire_core.specs.Reading.{Gives};
+ghost use Rattle.wire_core.specs.Answers.{Gives};
 ghost use Rattle.group_roster.specs.Roster.{IsRosterForm};
 ghost use Rattle.transcript_form.specs.Transcript.{check_told};
 ghost use Rattle.signed_post.specs.Admission.{IsPostFile};
