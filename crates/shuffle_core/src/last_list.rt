@@ -1,6 +1,6 @@
 //! The last list of a shuffle.
 
-ghost use Rattle.std.specs.Prelude.{◌≡◌, ◌<◌, ◌^◌, All, map, length, vec_len, IfOk, Some};
+ghost use Rattle.std.specs.Prelude.{◌≡◌, ◌<◌, ◌^◌, All, map, length, vec_len, IfOk, IfSome, Some};
 ghost use Rattle.std.specs.Option.{ForSome, option_and_then};
 ghost use Rattle.shuffle_core.specs.Shuffle.{body_of, opened_list, place_of};
 
@@ -15,10 +15,15 @@ pub fn own_place(list: &Vec<List<u8>>, ct: &[u8]) -> Option<u32>
     requires { vec_len list.now < 2 ^ 32 }
     ensures { result ≡ place_of list.now.items ct.now }
 {
-    let place = list
-        .iter()
-        .position(|entry| entry.items().as_slice() == ct)?;
-    Some(place as u32)
+    place_in(list, ct).map(|place| place as u32)
+}
+
+// The least place of an entry.
+fn place_in(list: &[List<u8>], ct: &[u8]) -> Option<usize>
+    ensures value { result ≡ place_of list.now ct.now }
+    ensures within { IfSome result (λ place. place < length list.now) }
+{
+    list.iter().position(|entry| entry.items().as_slice() == ct)
 }
 
 /// What is in each entry, of fewer than 2^32 bytes, under as many layers as there are seeds, the

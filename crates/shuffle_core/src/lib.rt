@@ -19,3 +19,6 @@ pub use laws::{opening_laws, order_laws, place_laws, turn_laws};
 pub use seeds::layer_seeds;
 pub use submitting::submission;
 pub use turn::anonymize;
+
+#[cfg(test)]
+mod tests;
