@@ -1,6 +1,6 @@
 //! Opening a layer.
 
-ghost use Rattle.std.specs.Prelude.{◌≡◌, ◌<◌, ◌^◌, length, IfOk};
+ghost use Rattle.std.specs.Prelude.{◌≡◌, ◌<◌, ◌^◌, ◌↔◌, length, IfOk, IsTrue};
 ghost use Rattle.layer_cipher.specs.Layer.{peeled};
 ghost use Rattle.layer_cipher.specs.Peeling.{returned, Finds};
 
@@ -41,13 +41,20 @@ pub fn peel(alloc: Global, seed: &[u8; 32], ct: &[u8]) -> Result<Peeled, AllocEr
     found
 }
 
+// Whether bytes are fewer than those of a layer of no body.
+fn is_too_short(ct: &[u8]) -> bool
+    ensures { IsTrue result ↔ (length ct.now < LAYER_BYTES) }
+{
+    ct.len() < LAYER_BYTES
+}
+
 /// Opens a layer of fewer than 2^32 bytes by a seed that is in use.
 pub fn peel_with(alloc: Global, seed: &KeySeed, ct: &[u8]) -> Result<Peeled, AllocError>
     requires { length ct.now < 2 ^ 32 }
     ensures value { IfOk result (λ found. found ≡ returned (peeled seed.now ct.now)) }
     ensures finds { IfOk result (λ found. Finds found seed.now ct.now) }
 {
-    if ct.len() < LAYER_BYTES {
+    if is_too_short(ct) {
         return Ok(Peeled::NoLayer);
     }
     let (capsule, rest) = ct.split_at(CAPSULE_BYTES);

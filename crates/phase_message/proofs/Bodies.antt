@@ -11,7 +11,8 @@ use Rattle.phase_message.specs.declared.form.BodyForm.TheVariants.{Keys as OfKey
 use Rattle.phase_message.specs.declared.content.Body.{Body}
 use Rattle.phase_message.specs.declared.content.Body.TheVariants.{Keys, Submit, Shuffled, Abort, Go, Reveal, Dispute, Pads, Check, Confirm, Differ}
 use Rattle.phase_message.specs.Offence.{Offence, field_at, flag_at, key_at, item_at, items_at, held_in, body_at}
-use Rattle.phase_message.specs.Grammar.{prefixed, IsKey, AreItems, body_text, Fits}
+use Rattle.ring_poly.specs.PublicKey.{IsPublicKey}
+use Rattle.phase_message.specs.Grammar.{prefixed, AreItems, body_text, Fits}
 use Rattle.phase_message.proofs.Spelled.{given, field-takes, field-again, flag-takes, flag-again, key-takes, key-again, item-takes, item-again, items-takes, items-again}
 
 -- what a reading gave is spelled by a body that holds it, and the body fits
@@ -20,9 +21,9 @@ held-takes body form read r x each e =
     let y = bind_ok read (λ y. Ok (body y.0, y.1)) x e in
     subst (λ (x : Body × Reading). Takes (body_text x.0) r x.1 × Fits form x.0) (given (body y.0.0, y.0.1) x y.2) (each y.0 y.1)
 
-keys-takes : (r : Reading) (y : List (List ℕ) × Reading) → IsBytes r.rest → repeated 5 key_at r ≡ Ok y → Takes (flat_map (λ key. key) y.0) r y.1 × (AllByRecursion IsKey y.0 × (length y.0 ≡ 5))
+keys-takes : (r : Reading) (y : List (List ℕ) × Reading) → IsBytes r.rest → repeated 5 key_at r ≡ Ok y → Takes (flat_map (λ key. key) y.0) r y.1 × (AllByRecursion IsPublicKey y.0 × (length y.0 ≡ 5))
 keys-takes r y bytes e =
-    let read = repeated-takes (λ key. key) IsKey key_at key-takes 5 r y bytes e in
+    let read = repeated-takes (λ key. key) IsPublicKey key_at key-takes 5 r y bytes e in
     (read.0, (read.1, read.2))
 
 reveal-takes : (count : ℕ) (r : Reading) (x : Body × Reading) → IsBytes r.rest → body_at (OfReveal count) r ≡ Ok x → Takes (body_text x.0) r x.1 × Fits (OfReveal count) x.0
@@ -62,10 +63,10 @@ body-takes OfCheck r x bytes e = held-takes Check OfCheck (flag_at r) r x (λ y 
 body-takes (OfConfirm count) r x bytes e = held-takes Confirm (OfConfirm count) (items_at Post count r) r x (λ y e. items-takes Post count r y bytes e) e
 body-takes (OfDiffer count) r x bytes e = held-takes Differ (OfDiffer count) (items_at Post count r) r x (λ y e. items-takes Post count r y bytes e) e
 
-keys-again : (keys : List (List ℕ)) (place : ℕ) (rest : List ℕ) → AllByRecursion IsKey keys × (length keys ≡ 5) → repeated 5 key_at (reading_at place (flat_map (λ key. key) keys ++ rest)) ≡ Ok (keys, reading_at (place + length (flat_map (λ key. key) keys)) rest)
+keys-again : (keys : List (List ℕ)) (place : ℕ) (rest : List ℕ) → AllByRecursion IsPublicKey keys × (length keys ≡ 5) → repeated 5 key_at (reading_at place (flat_map (λ key. key) keys ++ rest)) ≡ Ok (keys, reading_at (place + length (flat_map (λ key. key) keys)) rest)
 keys-again keys place rest good =
     ap (λ (k : ℕ). repeated k key_at (reading_at place (flat_map (λ key. key) keys ++ rest))) (sym good.1)
-    ∙ repeated-again (λ key. key) IsKey key_at key-again keys place rest good.0
+    ∙ repeated-again (λ key. key) IsPublicKey key_at key-again keys place rest good.0
 
 reveal-again : (count : ℕ) (votes : List (List ℕ)) (seed : List ℕ) (place : ℕ) (rest : List ℕ) → AreItems Post count votes → length seed ≡ 32 → body_at (OfReveal count) (reading_at place ((flat_map prefixed votes ++ seed) ++ rest)) ≡ Ok (Reveal votes seed, reading_at (place + length (flat_map prefixed votes ++ seed)) rest)
 unfolding body_at

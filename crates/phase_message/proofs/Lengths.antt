@@ -1,29 +1,30 @@
 -- How many bytes a content has, by its stage and its kind.
-use Rattle.std.proofs.Common.{◌≡◌, true, false, ℕ, zero, suc, ◌+◌, ◌*◌, ◌<◌, ◌≤◌, List, [], ◌∷◌, ◌++◌, length, map, Some, None, refl, ap, sym, ◌∙◌, subst, arith, inl, inr, length-append, zero-mul}
+use Rattle.std.proofs.Common.{◌≡◌, true, false, ℕ, ◌+◌, ◌*◌, ◌<◌, ◌≤◌, List, [], ◌∷◌, length, Some, None, refl, ap, sym, ◌∙◌, subst, arith, inl, inr, length-append, zero-mul}
 use Rattle.std.specs.Prelude.{Option, ◌==◌, ◌⊎◌}
 use Rattle.std.specs.Int.{w32, to_be_bytes}
 use Rattle.std.specs.List.{flat_map, AllByRecursion}
 use Rattle.wire_core.proofs.Readings.{chosen}
 use Rattle.phase_message.specs.declared.stage.StageKind.{StageKind}
-use Rattle.phase_message.specs.declared.stage.StageKind.TheVariants.{Keys as AtKeys, Submit as AtSubmit, Shuffle as AtShuffle, Go as AtGo, Final as AtFinal, Pad as AtPad, Check as AtCheck, Confirm as AtConfirm}
+use Rattle.phase_message.specs.declared.stage.StageKind.TheVariants.{Keys as AtKeys, Submit as AtSubmit, Shuffle as AtShuffle, Go as AtGo, Pad as AtPad, Check as AtCheck}
 use Rattle.phase_message.specs.declared.form.ItemForm.TheVariants.{Entry, Pad}
 use Rattle.phase_message.specs.declared.form.BodyForm.{BodyForm}
 use Rattle.phase_message.specs.declared.form.BodyForm.TheVariants.{Keys as OfKeys, Submit as OfSubmit, Shuffled as OfShuffled, Abort as OfAbort, Go as OfGo, Pads as OfPads, Check as OfCheck}
 use Rattle.phase_message.specs.declared.content.Body.{Body}
 use Rattle.phase_message.specs.declared.content.Body.TheVariants.{Keys, Submit, Shuffled, Abort, Go, Pads, Check}
 use Rattle.phase_message.specs.declared.content.Content.{Content}
+use Rattle.ring_poly.specs.PublicKey.{IsPublicKey}
 use Rattle.phase_message.specs.Shape.{Shape}
 use Rattle.phase_message.specs.Stages.{kind_of_stage}
 use Rattle.phase_message.specs.Slots.{slots_before}
 use Rattle.phase_message.specs.Body.{only, either, form_in, form_of, body_form, level, length_rule}
-use Rattle.phase_message.specs.Grammar.{prefixed, IsKey, IsItem, kind_number, header_text, body_text, content_text, Fits, OfGrammar}
+use Rattle.phase_message.specs.Grammar.{prefixed, IsItem, kind_number, header_text, body_text, content_text, Fits, OfGrammar}
 use Rattle.phase_message.proofs.Whole.{length-header_text}
 
 -- ---- lists of items
 
-keys_long : (keys : List (List ℕ)) → AllByRecursion IsKey keys → length (flat_map (λ key. key) keys) ≡ length keys * 1824
+keys_long : (keys : List (List ℕ)) → AllByRecursion IsPublicKey keys → length (flat_map (λ key. key) keys) ≡ length keys * 1824
 keys_long [] all = refl
-keys_long (key ∷ keys) all = omega (arith, length-append key (flat_map (λ key. key) keys), all.0.0, keys_long keys all.1)
+keys_long (key ∷ keys) all = omega (arith, length-append key (flat_map (λ key. key) keys), all.0.length, keys_long keys all.1)
 
 entries_long : (n : ℕ) (entries : List (List ℕ)) → AllByRecursion (IsItem (Entry n)) entries → length (flat_map (λ entry. entry) entries) ≡ length entries * n
 entries_long n [] all = sym (zero-mul n)

@@ -1,20 +1,22 @@
 -- What is read was spelled so and is of the grammar, and what is of the grammar is read from its
 -- spelling: one pair of laws for each field, for a body and for a content.
 use Rattle.std.proofs.Common.{◌≡◌, ℕ, zero, suc, ◌+◌, ◌<◌, ◌≤◌, ◌^◌, Bool, true, false, List, [], ◌∷◌, ◌++◌, length, drop, refl, ap, sym, ◌∙◌, subst, arith, append_assoc, length-append}
-use Rattle.std.specs.Prelude.{Option, Some, None, Result, Ok, nat_lt, ◌==◌, option_map}
+use Rattle.std.specs.Prelude.{None, Result, Ok, nat_lt, ◌==◌, option_map}
 use Rattle.std.specs.Int.{w8, w32, to_be_bytes}
 use Rattle.std.specs.List.{flat_map}
 use Rattle.std.proofs.lemmas.Bool.{ltb-false, le-ltb}
-use Rattle.ring_poly.specs.declared.packing.CoefficientTooLarge.{CoefficientTooLarge}
 use Rattle.ring_poly.specs.Packing.{unpacked, first_too_large}
-use Rattle.ring_poly.proofs.Packings.{none_too_large, none_from}
+use Rattle.ring_poly.proofs.Packings.{none_from_all, all_from_none}
 use Rattle.wire_core.specs.Bytes.{IsBytes}
+use Rattle.wire_core.specs.Answers.{value_unless}
+use Rattle.wire_core.proofs.AnswerLemmas.{value_unless-ok, nothing_mapped}
 use Rattle.wire_core.specs.Reading.{Reading, reading_at, ◌>>=◌, fault_as, unless, bytes_at, number_at, repeated, Takes}
 use Rattle.wire_core.proofs.Readings.{bind_ok, fault_as_ok, guard_ok, Takes-append, bytes_at-takes, bytes_at-again, number_at-takes_1, number_at-takes_4, number_at-again_1, number_at-again_4, repeated-takes, repeated-again}
 use Rattle.phase_message.specs.declared.form.ItemForm.{ItemForm}
 use Rattle.phase_message.specs.declared.form.ItemForm.TheVariants.{Entry, Post, Pad}
-use Rattle.phase_message.specs.Offence.{Offence, offence, cut, field_at, flag_at, bad_group, unless_bad, key_at, length_at, item_at, items_at}
-use Rattle.phase_message.specs.Grammar.{prefixed, flag_text, IsKey, IsItem, AreItems}
+use Rattle.phase_message.specs.Offence.{Offence, offence, cut, field_at, flag_at, bad_group, key_at, length_at, item_at, items_at}
+use Rattle.ring_poly.specs.PublicKey.{IsPublicKey}
+use Rattle.phase_message.specs.Grammar.{prefixed, flag_text, IsItem, AreItems}
 
 -- two values that a reading gave are one
 pub given : {A : Type 0} (x y : A × Reading) → (let told : A × Reading → Result (A × Reading) Offence = λ z. Ok z in told x ≡ told y) → x ≡ y
@@ -55,36 +57,30 @@ flag-again false place rest =
 
 -- ---- public keys
 
-unless_bad-ok : {A : Type 0} (o : Option ℕ) (from : ℕ) (x y : A) → unless_bad o from x ≡ Ok y → (o ≡ None) × (x ≡ y)
-unless_bad-ok None from x y e = (refl, cc)
-unless_bad-ok (Some group) from x y e = absurd cc
-
-no_group : (o : Option CoefficientTooLarge) (f : CoefficientTooLarge → ℕ) → option_map f o ≡ None → o ≡ None
-no_group None f e = refl
-no_group (Some large) f e = absurd cc
-
 good_group : (bytes : List ℕ) → bad_group bytes ≡ None → first_too_large 0 (unpacked bytes) ≡ None
 unfolding bad_group
-good_group bytes e = no_group (first_too_large 0 (unpacked bytes)) _ e
+good_group bytes e = nothing_mapped _ (first_too_large 0 (unpacked bytes)) e
 
 group_good : (bytes : List ℕ) → first_too_large 0 (unpacked bytes) ≡ None → bad_group bytes ≡ None
 unfolding bad_group
 group_good bytes e = rw e refl
 
-pub key-takes : (r : Reading) (x : List ℕ × Reading) → IsBytes r.rest → key_at r ≡ Ok x → Takes x.0 r x.1 × IsKey x.0
+pub key-takes : (r : Reading) (x : List ℕ × Reading) → IsBytes r.rest → key_at r ≡ Ok x → Takes x.0 r x.1 × IsPublicKey x.0
 unfolding key_at
 key-takes r x bytes e =
-    let key = bind_ok (field_at 1824 r) (λ key. unless_bad (bad_group (drop 32 key.0)) (r.place + 32) key) x e in
-    let test = unless_bad-ok (bad_group (drop 32 key.0.0)) (r.place + 32) key.0 x key.2 in
+    let key = bind_ok (field_at 1824 r) (λ key. value_unless (option_map (λ group. offence 4 (r.place + 32 + group)) (bad_group (drop 32 key.0))) key) x e in
+    let told = option_map (λ group. offence 4 (r.place + 32 + group)) (bad_group (drop 32 key.0.0)) in
+    let test = value_unless-ok told key.0 x key.2 in
+    let none = nothing_mapped (λ group. offence 4 (r.place + 32 + group)) (bad_group (drop 32 key.0.0)) test.0 in
     let field = field-takes 1824 r key.0 key.1 in
-    let small = none_from 0 (unpacked (drop 32 key.0.0)) (good_group (drop 32 key.0.0) test.0) in
-    subst (λ (x : List ℕ × Reading). Takes x.0 r x.1 × IsKey x.0) test.1 (field.0, (field.1, small))
+    let small = all_from_none (unpacked (drop 32 key.0.0)) (good_group (drop 32 key.0.0) none) in
+    subst (λ (x : List ℕ × Reading). Takes x.0 r x.1 × IsPublicKey x.0) test.1 (field.0, record { length = field.1; reduced = small })
 
-pub key-again : (key : List ℕ) (place : ℕ) (rest : List ℕ) → IsKey key → key_at (reading_at place (key ++ rest)) ≡ Ok (key, reading_at (place + length key) rest)
+pub key-again : (key : List ℕ) (place : ℕ) (rest : List ℕ) → IsPublicKey key → key_at (reading_at place (key ++ rest)) ≡ Ok (key, reading_at (place + length key) rest)
 unfolding key_at
 key-again key place rest good =
-    let field = field-again 1824 key place rest good.0 in
-    let group = group_good (drop 32 key) (none_too_large 0 (unpacked (drop 32 key)) good.1) in
+    let field = field-again 1824 key place rest good.length in
+    let group = group_good (drop 32 key) (none_from_all (unpacked (drop 32 key)) good.reduced) in
     rw (field, group) refl
 
 -- ---- items

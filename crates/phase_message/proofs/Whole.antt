@@ -1,6 +1,6 @@
 -- The same pair of laws for a header and for a whole content.
-use Rattle.std.proofs.Common.{◌≡◌, ℕ, ◌+◌, ◌<◌, ◌≤◌, ◌^◌, Bool, true, false, not, List, [], ◌∷◌, ◌++◌, length, refl, ap, sym, ◌∙◌, subst, arith, inl, inr, append_assoc, append-nil, length-append, eq-eqb, eqb-true}
-use Rattle.std.specs.Prelude.{Option, Some, None, Result, Ok, Err, IfOk, nat_lt, ◌==◌}
+use Rattle.std.proofs.Common.{◌≡◌, ℕ, ◌+◌, ◌≤◌, Bool, true, false, not, List, [], ◌∷◌, ◌++◌, length, refl, ap, sym, ◌∙◌, subst, arith, inl, inr, append_assoc, append-nil, length-append, eq-eqb, eqb-true}
+use Rattle.std.specs.Prelude.{Option, Some, None, Result, Ok, Err, IfOk, nat_lt, ◌==◌, ok_or}
 use Rattle.std.specs.Int.{w8, w64, to_be_bytes}
 use Rattle.std.proofs.lemmas.Bool.{ltb-false, le-ltb}
 use Rattle.wire_core.specs.declared.cursor.Short.{Short}
@@ -21,7 +21,7 @@ use Rattle.phase_message.specs.Slots.{slots_before}
 use Rattle.phase_message.specs.Header.{header_at, header_of}
 use Rattle.phase_message.specs.Body.{only, either, form_in, form_of, body_form, level}
 use Rattle.phase_message.specs.declared.content.DecodeRefusal.{DecodeRefusal}
-use Rattle.phase_message.specs.Offence.{Offence, fault, offence, cut, or_refuse, head_at, body_at, content_read}
+use Rattle.phase_message.specs.Offence.{Offence, fault, offence, cut, head_at, body_at, content_read}
 use Rattle.phase_message.specs.Grammar.{header_text, kind_number, body_text, content_text, Fits, HasWidths, BeginsWith, IsHeader, OfGrammar}
 use Rattle.phase_message.proofs.Bodies.{body-takes, body-again}
 
@@ -145,7 +145,7 @@ fits-number _ _ fits = absurd fits
 
 -- ---- the first 76 bytes
 
-refused-some : {A : Type 0} (o : Option A) (d : Offence) (x : A) → or_refuse o d ≡ Ok x → o ≡ Some x
+refused-some : {A : Type 0} (o : Option A) (d : Offence) (x : A) → ok_or o d ≡ Ok x → o ≡ Some x
 refused-some None d x e = absurd cc
 refused-some (Some y) d x e = cc
 
@@ -162,11 +162,11 @@ IsHead shape r x = Takes (header_text x.0.0 ++ (form_number x.0.1 ∷ [])) r x.1
 head-takes : (shape : Shape) (r : Reading) (x : (Header × BodyForm) × Reading) → IsBytes r.rest → head_at shape r ≡ Ok x → IsHead shape r x
 unfolding head_at
 head-takes shape r x bytes e =
-    let h = bind_ok (fault_as cut (header_at r)) (λ header. unless (not (header.0.version == shape.version)) (offence 8 0) header.1 >>= λ version. unless (not (is_slot shape header.0.stage header.0.sender)) (offence 9 41) header.1 >>= λ slot. fault_as cut (number_at w8 header.1) >>= λ kind. or_refuse (body_form shape header.0.stage kind.0) (offence 1 75) >>= λ form. Ok ((header.0, form), kind.1)) x e in
-    let v = bind_ok (unless (not (h.0.0.version == shape.version)) (offence 8 0) h.0.1) (λ version. unless (not (is_slot shape h.0.0.stage h.0.0.sender)) (offence 9 41) h.0.1 >>= λ slot. fault_as cut (number_at w8 h.0.1) >>= λ kind. or_refuse (body_form shape h.0.0.stage kind.0) (offence 1 75) >>= λ form. Ok ((h.0.0, form), kind.1)) x h.2 in
-    let s = bind_ok (unless (not (is_slot shape h.0.0.stage h.0.0.sender)) (offence 9 41) h.0.1) (λ slot. fault_as cut (number_at w8 h.0.1) >>= λ kind. or_refuse (body_form shape h.0.0.stage kind.0) (offence 1 75) >>= λ form. Ok ((h.0.0, form), kind.1)) x v.2 in
-    let k = bind_ok (fault_as cut (number_at w8 h.0.1)) (λ kind. or_refuse (body_form shape h.0.0.stage kind.0) (offence 1 75) >>= λ form. Ok ((h.0.0, form), kind.1)) x s.2 in
-    let f = bind_ok (or_refuse (body_form shape h.0.0.stage k.0.0) (offence 1 75)) (λ form. Ok ((h.0.0, form), k.0.1)) x k.2 in
+    let h = bind_ok (fault_as cut (header_at r)) (λ header. unless (not (header.0.version == shape.version)) (offence 8 0) header.1 >>= λ version. unless (not (is_slot shape header.0.stage header.0.sender)) (offence 9 41) header.1 >>= λ slot. fault_as cut (number_at w8 header.1) >>= λ kind. ok_or (body_form shape header.0.stage kind.0) (offence 1 75) >>= λ form. Ok ((header.0, form), kind.1)) x e in
+    let v = bind_ok (unless (not (h.0.0.version == shape.version)) (offence 8 0) h.0.1) (λ version. unless (not (is_slot shape h.0.0.stage h.0.0.sender)) (offence 9 41) h.0.1 >>= λ slot. fault_as cut (number_at w8 h.0.1) >>= λ kind. ok_or (body_form shape h.0.0.stage kind.0) (offence 1 75) >>= λ form. Ok ((h.0.0, form), kind.1)) x h.2 in
+    let s = bind_ok (unless (not (is_slot shape h.0.0.stage h.0.0.sender)) (offence 9 41) h.0.1) (λ slot. fault_as cut (number_at w8 h.0.1) >>= λ kind. ok_or (body_form shape h.0.0.stage kind.0) (offence 1 75) >>= λ form. Ok ((h.0.0, form), kind.1)) x v.2 in
+    let k = bind_ok (fault_as cut (number_at w8 h.0.1)) (λ kind. ok_or (body_form shape h.0.0.stage kind.0) (offence 1 75) >>= λ form. Ok ((h.0.0, form), kind.1)) x s.2 in
+    let f = bind_ok (ok_or (body_form shape h.0.0.stage k.0.0) (offence 1 75)) (λ form. Ok ((h.0.0, form), k.0.1)) x k.2 in
     let version = not-false _ (guard_ok (not (h.0.0.version == shape.version)) (offence 8 0) h.0.1 v.0 v.1).0 in
     let slot = not-false _ (guard_ok (not (is_slot shape h.0.0.stage h.0.0.sender)) (offence 9 41) h.0.1 s.0 s.1).0 in
     subst (IsHead shape r) (given ((h.0.0, f.0), k.0.1) x f.2)
@@ -246,11 +246,11 @@ content-is_read shape c is =
 head-header : (shape : Shape) (r : Reading) (x : (Header × BodyForm) × Reading) → head_at shape r ≡ Ok x → (y : Header × Reading) × (header_at r ≡ Ok y) × (y.0 ≡ x.0.0)
 unfolding head_at
 head-header shape r x e =
-    let h = bind_ok (fault_as cut (header_at r)) (λ header. unless (not (header.0.version == shape.version)) (offence 8 0) header.1 >>= λ version. unless (not (is_slot shape header.0.stage header.0.sender)) (offence 9 41) header.1 >>= λ slot. fault_as cut (number_at w8 header.1) >>= λ kind. or_refuse (body_form shape header.0.stage kind.0) (offence 1 75) >>= λ form. Ok ((header.0, form), kind.1)) x e in
-    let v = bind_ok (unless (not (h.0.0.version == shape.version)) (offence 8 0) h.0.1) (λ version. unless (not (is_slot shape h.0.0.stage h.0.0.sender)) (offence 9 41) h.0.1 >>= λ slot. fault_as cut (number_at w8 h.0.1) >>= λ kind. or_refuse (body_form shape h.0.0.stage kind.0) (offence 1 75) >>= λ form. Ok ((h.0.0, form), kind.1)) x h.2 in
-    let s = bind_ok (unless (not (is_slot shape h.0.0.stage h.0.0.sender)) (offence 9 41) h.0.1) (λ slot. fault_as cut (number_at w8 h.0.1) >>= λ kind. or_refuse (body_form shape h.0.0.stage kind.0) (offence 1 75) >>= λ form. Ok ((h.0.0, form), kind.1)) x v.2 in
-    let k = bind_ok (fault_as cut (number_at w8 h.0.1)) (λ kind. or_refuse (body_form shape h.0.0.stage kind.0) (offence 1 75) >>= λ form. Ok ((h.0.0, form), kind.1)) x s.2 in
-    let f = bind_ok (or_refuse (body_form shape h.0.0.stage k.0.0) (offence 1 75)) (λ form. Ok ((h.0.0, form), k.0.1)) x k.2 in
+    let h = bind_ok (fault_as cut (header_at r)) (λ header. unless (not (header.0.version == shape.version)) (offence 8 0) header.1 >>= λ version. unless (not (is_slot shape header.0.stage header.0.sender)) (offence 9 41) header.1 >>= λ slot. fault_as cut (number_at w8 header.1) >>= λ kind. ok_or (body_form shape header.0.stage kind.0) (offence 1 75) >>= λ form. Ok ((header.0, form), kind.1)) x e in
+    let v = bind_ok (unless (not (h.0.0.version == shape.version)) (offence 8 0) h.0.1) (λ version. unless (not (is_slot shape h.0.0.stage h.0.0.sender)) (offence 9 41) h.0.1 >>= λ slot. fault_as cut (number_at w8 h.0.1) >>= λ kind. ok_or (body_form shape h.0.0.stage kind.0) (offence 1 75) >>= λ form. Ok ((h.0.0, form), kind.1)) x h.2 in
+    let s = bind_ok (unless (not (is_slot shape h.0.0.stage h.0.0.sender)) (offence 9 41) h.0.1) (λ slot. fault_as cut (number_at w8 h.0.1) >>= λ kind. ok_or (body_form shape h.0.0.stage kind.0) (offence 1 75) >>= λ form. Ok ((h.0.0, form), kind.1)) x v.2 in
+    let k = bind_ok (fault_as cut (number_at w8 h.0.1)) (λ kind. ok_or (body_form shape h.0.0.stage kind.0) (offence 1 75) >>= λ form. Ok ((h.0.0, form), kind.1)) x s.2 in
+    let f = bind_ok (ok_or (body_form shape h.0.0.stage k.0.0) (offence 1 75)) (λ form. Ok ((h.0.0, form), k.0.1)) x k.2 in
     let same = given ((h.0.0, f.0), k.0.1) x f.2 in
     (h.0, fault_as_ok cut (header_at r) h.0 h.1, ap (λ (x : (Header × BodyForm) × Reading). x.0.0) same)
 

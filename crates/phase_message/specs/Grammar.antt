@@ -1,8 +1,9 @@
 -- The grammar of contents: how a content is spelled, and which contents a group may say.
-use Rattle.std.specs.Prelude.{◌≡◌, ℕ, ◌<◌, ◌≤◌, ◌^◌, List, [], ◌∷◌, ◌++◌, length, drop, slice_index, Bool, true, false, Some}
-use Rattle.std.specs.Int.{w32, w64, to_be_bytes}
+use Rattle.std.specs.Prelude.{◌≡◌, ℕ, ◌<◌, ◌≤◌, ◌^◌, List, [], ◌∷◌, ◌++◌, length, Bool, true, false, Some}
+use Rattle.std.specs.Int.{w64, to_be_bytes}
 use Rattle.std.specs.List.{flat_map, AllByRecursion}
-use Rattle.ring_poly.specs.Packing.{unpacked}
+use Rattle.ring_poly.specs.PublicKey.{IsPublicKey}
+pub use Rattle.wire_core.specs.Bytes.{prefixed}
 use Rattle.phase_message.specs.declared.header.Header.{Header}
 use Rattle.phase_message.specs.declared.form.ItemForm.{ItemForm}
 use Rattle.phase_message.specs.declared.form.ItemForm.TheVariants.{Entry, Post, Pad}
@@ -16,10 +17,6 @@ use Rattle.phase_message.specs.Stages.{is_slot}
 use Rattle.phase_message.specs.Body.{body_form}
 
 -- ---- spelling
-
--- the length in four bytes, high byte first, and the bytes
-abbrev pub prefixed : List ℕ → List ℕ
-prefixed item = to_be_bytes w32 (length item) ++ item
 
 abbrev pub flag_text : Bool → List ℕ
 flag_text true = 1 ∷ []
@@ -61,12 +58,6 @@ content_text c = header_text c.header ++ ((kind_number c.body ∷ []) ++ body_te
 
 -- ---- what may be said
 
--- 32 bytes, and the bytes of coefficients below 12289
-abbrev pub IsKey : List ℕ → Type 0
-IsKey key =
-    let coefficients = unpacked (drop 32 key) in
-    (length key ≡ 1824) × ((k : ℕ) → k < length coefficients → slice_index coefficients k < 12289)
-
 abbrev pub IsItem : ItemForm → List ℕ → Type 0
 IsItem (Entry n) item = length item ≡ n
 IsItem Post item = length item < 2 ^ 32
@@ -77,7 +68,7 @@ AreItems form count items = AllByRecursion (IsItem form) items × (length items 
 
 -- a body of a kind has the counts and the lengths that the kind has at the stage
 abbrev pub Fits : BodyForm → Body → Type 0
-Fits OfKeys (Keys keys) = AllByRecursion IsKey keys × (length keys ≡ 5)
+Fits OfKeys (Keys keys) = AllByRecursion IsPublicKey keys × (length keys ≡ 5)
 Fits (OfSubmit n) (Submit ciphertext) = length ciphertext ≡ n
 Fits (OfShuffled count n) (Shuffled list) = AreItems (Entry n) count list
 Fits OfAbort Abort = Unit {0}

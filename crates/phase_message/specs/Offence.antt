@@ -9,11 +9,12 @@
 --   rule 5  a flag is neither 0 nor 1                  at the flag
 --   rule 6  a pad has more than 65,536 bytes           at its length
 --   rule 3  bytes follow the body                      at the first of them
-use Rattle.std.specs.Prelude.{ℕ, ◌+◌, ◌*◌, ◌/◌, List, length, drop, Bool, not, ◌==◌, nat_lt, Option, Some, None, Result, Ok, Err, option_map}
+use Rattle.std.specs.Prelude.{ℕ, ◌+◌, ◌*◌, ◌/◌, List, length, drop, Bool, not, ◌==◌, nat_lt, Option, Some, None, Result, Ok, option_map, ok_or}
 use Rattle.std.specs.Int.{w8, w32}
 use Rattle.ring_poly.specs.Packing.{unpacked, first_too_large}
 use Rattle.wire_core.specs.declared.cursor.Short.{Short}
-use Rattle.wire_core.specs.Reading.{Reading, reading_of, ◌>>=◌, fault_as, unless, repeated, bytes_at, number_at}
+use Rattle.wire_core.specs.Answers.{◌>>=◌, fault_as, unless, value_unless}
+use Rattle.wire_core.specs.Reading.{Reading, reading_of, repeated, bytes_at, number_at}
 use Rattle.phase_message.specs.declared.header.Header.{Header}
 use Rattle.phase_message.specs.declared.form.ItemForm.{ItemForm}
 use Rattle.phase_message.specs.declared.form.ItemForm.TheVariants.{Entry, Post, Pad}
@@ -40,7 +41,7 @@ offence rule at = record { at = at; rule = rule }
 abbrev pub cut : Short → Offence
 cut short = offence 2 short.at
 
--- which offence a refusal tells; want of memory tells none
+-- which offence a refusal tells; out of memory tells none
 abbrev pub fault : DecodeRefusal → Option Offence
 fault (Malformed at rule) = Some (offence rule at)
 fault Memory = None
@@ -61,15 +62,11 @@ flag_at before = do
 unfoldable pub bad_group : List ℕ → Option ℕ
 bad_group bytes = option_map (λ large. 7 * (large.place / 4)) (first_too_large 0 (unpacked bytes))
 
-abbrev pub unless_bad : {A : Type 0} → Option ℕ → ℕ → A → Result A Offence
-unless_bad None from x = Ok x
-unless_bad (Some group) from x = Err (offence 4 (from + group))
-
 -- a public key: 32 bytes, and 1,792 that spell 1,024 coefficients below 12289
 unfoldable pub key_at : Reading → Result (List ℕ × Reading) Offence
 key_at before = do
   key ← field_at 1824 before
-  unless_bad (bad_group (drop 32 key.0)) (before.place + 32) key
+  value_unless (option_map (λ group. offence 4 (before.place + 32 + group)) (bad_group (drop 32 key.0))) key
 
 -- how many bytes an item of a list has. A post and a pad say it in the four bytes before
 unfoldable pub length_at : ItemForm → Reading → Result (ℕ × Reading) Offence
@@ -116,10 +113,6 @@ body_at (OfDiffer count) before = held_in Differ (items_at Post count before)
 
 -- ---- contents
 
-abbrev pub or_refuse : {A : Type 0} → Option A → Offence → Result A Offence
-or_refuse None refusal = Err refusal
-or_refuse (Some x) refusal = Ok x
-
 -- the header and the kind, with what a body of the kind holds at the stage
 unfoldable pub head_at : Shape → Reading → Result ((Header × BodyForm) × Reading) Offence
 head_at shape before = do
@@ -127,7 +120,7 @@ head_at shape before = do
   version ← unless (not (header.0.version == shape.version)) (offence 8 0) header.1
   slot ← unless (not (is_slot shape header.0.stage header.0.sender)) (offence 9 41) header.1
   kind ← fault_as cut (number_at w8 header.1)
-  form ← or_refuse (body_form shape header.0.stage kind.0) (offence 1 75)
+  form ← ok_or (body_form shape header.0.stage kind.0) (offence 1 75)
   Ok ((header.0, form), kind.1)
 
 -- a content of a round of a shape, or its first offence

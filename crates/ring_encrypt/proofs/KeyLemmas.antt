@@ -5,7 +5,7 @@ use Rattle.ring_poly.specs.declared.packing.CoefficientTooLarge.{CoefficientTooL
 use Rattle.ring_poly.specs.Packing.{packed, unpacked, read_packed, unless_too_large, first_too_large}
 use Rattle.ring_poly.specs.Residue.{residue}
 use Rattle.ring_poly.specs.Product.{IsPolynomial, product_of}
-use Rattle.ring_poly.proofs.Packings.{packed_is_read_back}
+use Rattle.ring_poly.proofs.Packings.{packed_is_read_back, all_from_none, none_from_all}
 use Rattle.ring_poly.proofs.Products.{length-sum_of}
 use Rattle.wire_core.specs.declared.tag.Tag.TheVariants.{RingPublic}
 use Rattle.wire_core.specs.Hash.{hash_of}
@@ -23,7 +23,7 @@ back_of bytes n long = take_all n (drop 32 bytes) (omega (arith, length-drop 32 
 -- what the code reads of a key's polynomial
 pub key_reads : (bytes : List ℕ) (n : ℕ) (r : Result (List ℕ) CoefficientTooLarge) → IsPublicKey bytes → r ≡ read_packed (take n (drop 32 bytes)) → length bytes ≤ n + 32 → r ≡ Ok (unpacked (drop 32 bytes))
 key_reads bytes n r key e room =
-    let none : first_too_large 0 (unpacked (drop 32 bytes)) ≡ None = key.reduced in
+    let none : first_too_large 0 (unpacked (drop 32 bytes)) ≡ None = none_from_all (unpacked (drop 32 bytes)) key.reduced in
     let whole : take n (drop 32 bytes) ≡ drop 32 bytes = back_of bytes n room in
     let read : read_packed (drop 32 bytes) ≡ Ok (unpacked (drop 32 bytes)) = rw none refl in
     e ∙ ap read_packed whole ∙ read
@@ -39,10 +39,16 @@ key_refused bytes n r x long room e is =
     let whole : take n (drop 32 bytes) ≡ drop 32 bytes = back_of bytes n (omega arith) in
     refused (unpacked (drop 32 bytes)) (first_too_large 0 (unpacked (drop 32 bytes))) x (sym (ap read_packed whole) ∙ sym e ∙ is)
 
+-- bytes with a coefficient that is too large are no key
+pub refused_is_no_key : (bytes : List ℕ) (x : CoefficientTooLarge) → first_too_large 0 (unpacked (drop 32 bytes)) ≡ Some x → IsPublicKey bytes → ⊥
+refused_is_no_key bytes x large key =
+    let none : first_too_large 0 (unpacked (drop 32 bytes)) ≡ None = none_from_all (unpacked (drop 32 bytes)) key.reduced in
+    cc
+
 pub key_read : (bytes : List ℕ) (n : ℕ) (r : Result (List ℕ) CoefficientTooLarge) (f : List ℕ) → length bytes ≡ 1824 → length bytes ≤ n + 32 → r ≡ read_packed (take n (drop 32 bytes)) → r ≡ Ok f → IsPublicKey bytes
 key_read bytes n r f long room e is =
     let whole : take n (drop 32 bytes) ≡ drop 32 bytes = back_of bytes n (omega arith) in
-    record { length = long; reduced = (read_gives (drop 32 bytes) f (sym (ap read_packed whole) ∙ sym e ∙ is)).1 }
+    record { length = long; reduced = all_from_none (unpacked (drop 32 bytes)) (read_gives (drop 32 bytes) f (sym (ap read_packed whole) ∙ sym e ∙ is)).1 }
 
 -- a key that is put together
 pub key_of_parts : (rho b : List ℕ) → length rho ≡ 32 → IsPolynomial b → IsPublicKey (rho ++ packed b)
@@ -51,7 +57,7 @@ key_of_parts rho b long polynomial =
     let back : drop 32 (rho ++ packed b) ≡ packed b = drop_at rho (packed b) 32 long in
     record {
       length = omega (arith, length-append rho (packed b), p.0);
-      reduced = rw back (read_gives (packed b) b p.1).1;
+      reduced = rw back (all_from_none (unpacked (packed b)) (read_gives (packed b) b p.1).1);
     }
 
 pub key_is_public_key : KeyIsPublicKey

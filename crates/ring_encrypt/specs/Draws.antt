@@ -1,12 +1,8 @@
 -- Polynomials that are drawn from a key of 32 bytes.
 use Rattle.std.specs.Prelude.{ℕ, ◌+◌, ◌*◌, ◌/◌, ◌%◌, List, ℤ, pos, ◌-ℤ◌}
 use Rattle.std.specs.Int.{bit_at}
-use Rattle.rand_chacha.specs.ChaCha.{word_at, key_of}
+pub use Rattle.pad_stream.specs.Stream.{word_of}
 use Rattle.ring_poly.specs.Product.{by_place}
-
--- the word at a place of what ChaCha20 gives for the key, in its stream number 0
-abbrev pub word_of : List ℕ → ℕ → ℕ
-word_of key place = word_at 10 (key_of key) 0 place
 
 -- a polynomial modulo 12289: each coefficient from a word of its own
 unfoldable pub uniform : List ℕ → List ℕ

@@ -60,7 +60,9 @@ impl KeySeed {
     /// Opens a capsule: the 32 bytes of which this is the capsule under the key of the seed, and
     /// `None` exactly where it is that of no 32 bytes.
     pub fn open_with(&self, c: &Capsule) -> Option<[u8; 32]>
-        ensures { result ≡ opened self.now c.now }
+        ensures value { result ≡ opened self.now c.now }
+        ensures opens { IfSome result (λ m. IsMessage m × (c.now ≡ capsule_of (key_of_seed self.now) m)) }
+        ensures refuses { IfNone result ((m : List ℕ) → IsMessage m → c.now ≢ capsule_of (key_of_seed self.now) m) }
     {
         let m = self.read(c)?;
         let again = seal_seed(&self.public, &m);

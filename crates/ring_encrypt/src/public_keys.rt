@@ -3,6 +3,7 @@
 ghost use Rattle.std.specs.Prelude.{◌≡◌, IfOk, IfErr, IsOk, ◌↔◌, ◌++◌, length, take, drop, Some, None};
 ghost use Rattle.ring_poly.specs.Product.{IsPolynomial};
 ghost use Rattle.ring_poly.specs.Packing.{packed, unpacked, first_too_large};
+ghost use Rattle.ring_encrypt.specs.PublicKey.{IsPublicKey};
 
 use crate::bytes::join;
 use ring_poly::{CoefficientTooLarge, Poly, pack, unpack};
@@ -73,7 +74,7 @@ impl PublicKey {
 /// least such coefficient, whose place is counted from 0.
 pub fn read_key(b: &[u8]) -> Result<PublicKey, CoefficientTooLarge>
     requires { length b.now ≡ 1824 }
-    ensures ok { IsOk result ↔ (first_too_large 0 (unpacked (drop 32 b.now)) ≡ None) }
+    ensures ok { IsOk result ↔ IsPublicKey b.now }
     ensures value { IfOk result (λ key. key ≡ b.now) }
     ensures refusal { IfErr result (λ e. first_too_large 0 (unpacked (drop 32 b.now)) ≡ Some e) }
 {

@@ -1,5 +1,6 @@
 -- Groups of four coefficients and seven bytes.
 use Rattle.std.proofs.Common.{◌≡◌, ℕ, zero, suc, ◌+◌, ◌-◌, ◌*◌, ◌/◌, ◌%◌, ◌^◌, ◌<◌, ◌≤◌, List, [], ◌∷◌, ◌++◌, length, get_or, set, take, drop, refl, sym, ap, subst, arith, ◌∙◌, Option, Some, None, Ok, Err, ⊎_elim}
+use Rattle.std.specs.Prelude.{All}
 use Rattle.std.specs.Int.{bytes_low_first}
 use Rattle.ring_poly.specs.Packing.{group_number, packed, spelled_number, group_of, unpacked, first_too_large, unless_too_large, read_packed}
 use Rattle.ring_poly.specs.declared.packing.CoefficientTooLarge.{CoefficientTooLarge}
@@ -183,6 +184,13 @@ none_from p (c ∷ rest) e = ⊎_elim
     head_and_tail c rest h tail)
     (λ (h : 12289 ≤ c). let f = rw (le-ltb c 12289 h) at e in cc)
     (cases_lt c 12289)
+
+-- none is too large exactly where all are below the modulus
+pub all_from_none : (cs : List ℕ) → first_too_large 0 cs ≡ None → All (λ c. c < 12289) cs
+all_from_none cs e = All-from_get_or (λ c. c < 12289) cs 0 (none_from 0 cs e)
+
+pub none_from_all : (cs : List ℕ) → All (λ c. c < 12289) cs → first_too_large 0 cs ≡ None
+none_from_all cs all = none_too_large 0 cs (λ k lt. all k 0 lt)
 
 -- the numbers below place i are small, and the one at i is not
 pub first_at : (i p : ℕ) (cs : List ℕ) → i < length cs → ((k : ℕ) → k < i → get_or cs k 0 < 12289) → 12289 ≤ get_or cs i 0 → first_too_large p cs ≡ Some (record { place = p + i; value = get_or cs i 0 })

@@ -1,6 +1,6 @@
 -- The tools for decoders: what a reading that gave a value read, and that what is spelled is read
 -- again. A decoder above this crate has one pair of laws for each of its fields, `takes` and `again`.
-use Rattle.std.proofs.Common.{◌≡◌, ℕ, zero, suc, ◌+◌, ◌-◌, ◌<◌, ◌≤◌, ◌^◌, ◌⊎◌, inl, inr, Bool, true, false, cond, List, [], ◌∷◌, ◌++◌, length, take, drop, refl, ap, sym, ◌∙◌, subst, arith, append_assoc, append-nil, length-append, length-take-le, add-zero}
+use Rattle.std.proofs.Common.{◌≡◌, ℕ, zero, suc, ◌+◌, ◌-◌, ◌<◌, ◌≤◌, ◌^◌, inl, inr, List, [], ◌∷◌, ◌++◌, length, take, drop, refl, ap, sym, ◌∙◌, subst, arith, append_assoc, append-nil, length-append, length-take-le, add-zero}
 use Rattle.std.specs.Prelude.{Option, Some, None, Result, Ok, Err, nat_lt}
 use Rattle.std.specs.Int.{Width, w8, w16, w32, w64, byte_len, to_be_bytes, from_be_bytes}
 use Rattle.std.specs.List.{flat_map, AllByRecursion}
@@ -12,7 +12,7 @@ use Rattle.wire_core.specs.declared.cursor.Short.{Short}
 pub use Rattle.wire_core.proofs.AnswerLemmas.{bind_ok, fault_as_ok, guard_ok, chosen}
 use Rattle.wire_core.specs.Bytes.{IsBytes}
 use Rattle.wire_core.proofs.ByteLists.{IsBytes-front, IsBytes-back}
-use Rattle.wire_core.specs.Reading.{Reading, reading_at, ◌>>=◌, fault_as, unless, advanced, bytes_at, number_at, repeated, with_front, IsFault, Takes}
+use Rattle.wire_core.specs.Reading.{Reading, reading_at, ◌>>=◌, advanced, bytes_at, number_at, repeated, with_front, IsFault, Takes}
 
 -- ---- what was read
 

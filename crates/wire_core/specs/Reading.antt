@@ -1,6 +1,6 @@
 -- Reading from left to right: functions from where a reading stands to the value that is read and
 -- where it stands then, or to the first fault. A decoder's clause says that it gives such a function.
-use Rattle.std.specs.Prelude.{◌≡◌, ℕ, zero, suc, ◌+◌, List, [], ◌∷◌, ◌++◌, length, take, drop, Bool, Option, Some, None, Result, Ok, Err, nat_lt, if◌then◌else◌}
+use Rattle.std.specs.Prelude.{◌≡◌, ℕ, zero, suc, ◌+◌, List, [], ◌∷◌, ◌++◌, length, take, drop, Option, Result, Ok, Err, nat_lt, if◌then◌else◌}
 use Rattle.std.specs.Int.{Width, byte_len, from_be_bytes}
 use Rattle.wire_core.specs.declared.cursor.Short.{Short}
 pub use Rattle.wire_core.specs.Place.{Reading}
