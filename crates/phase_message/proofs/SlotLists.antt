@@ -280,8 +280,30 @@ past-stage shape stage none =
     at_least shape stage (inl x) lt none = let some = x.2 in cc
     at_least shape stage (inr x) lt none = absurd (omega (arith, length-stages shape))
 
--- before the end of a round stand all its slots
-pub slots_before-end : (shape : Shape) → slots_before shape (stage_count shape) ≡ slot_count shape
-slots_before-end shape =
-    ap (sum_by (senders_of shape)) (take_all (stage_count shape) (stages shape) (omega (arith, length-stages shape)))
+-- before the end of a round stand all its slots, and never more
+pub slots_before-past : (shape : Shape) (stage : ℕ) → stage_count shape ≤ stage → slots_before shape stage ≡ slot_count shape
+slots_before-past shape stage le =
+    ap (sum_by (senders_of shape)) (take_all stage (stages shape) (omega (arith, length-stages shape)))
     ∙ sym (length-slots_from shape 0 (stages shape)) ∙ length-slots_of shape
+
+pub slots_before-most : (shape : Shape) (stage : ℕ) → slots_before shape stage ≤ slot_count shape
+slots_before-most shape stage =
+    omega (arith, sum_by-take-le (senders_of shape) (stages shape) stage, length-slots_from shape 0 (stages shape), length-slots_of shape)
+
+-- the number of a slot is below the number of slots
+pub slot_number-most : (shape : Shape) (stage sender : ℕ) → is_slot shape stage sender ≡ true → slot_number shape stage sender < slot_count shape
+slot_number-most shape stage sender e =
+    omega (arith, slice_get_within (slots_of shape) (slot_number shape stage sender) (record { stage = stage; sender = sender }) (slot_at-number shape stage sender e), length-slots_of shape)
+
+-- ---- by place
+
+-- the slot of the sender at a place of a stage
+pub slot_at-place : (shape : Shape) (stage place sender : ℕ) (kind : StageKind) → kind_of_stage shape stage ≡ Some kind → slice_get (senders_in shape kind) place ≡ Some sender
+    → slot_at shape (slots_before shape stage + place) ≡ Some (record { stage = stage; sender = sender })
+slot_at-place shape stage place sender kind is at =
+    let first : 0 + stage ≡ stage = omega arith in
+    slot-in_order shape 0 (stages shape) stage place sender kind is at ∙ ap (λ (t : ℕ). Some (record { stage = t; sender = sender })) first
+
+-- who speaks at a place where all members do
+pub member-in : (n place : ℕ) → place < n → slice_get (range_with_len 1 n) place ≡ Some (place + 1)
+member-in n place lt = let e : 1 + place ≡ place + 1 = omega arith in in_range 1 n place lt ∙ ap (λ (k : ℕ). Some k) e

@@ -42,7 +42,7 @@ pub fn headers_are_spelled()
 /// A round of N members has the stages from 0 to 2N + 9, and before its end stand all its slots.
 pub fn stages_are_counted()
     ensures past { (shape : Shape) (stage : ℕ) → (kind_of_stage shape stage ≡ None) ↔ (stage_count shape ≤ stage) }
-    ensures slots { (shape : Shape) → slots_before shape (stage_count shape) ≡ slot_count shape }
+    ensures slots { (shape : Shape) (stage : ℕ) → stage_count shape ≤ stage → slots_before shape stage ≡ slot_count shape }
 {}
 
 /// The list of a round's slots has 12 slots for each member. Each slot stands at its number, and what stands

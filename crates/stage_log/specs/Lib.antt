@@ -1,0 +1,4 @@
+pub mod Table
+pub mod Put
+pub mod Log
+pub mod Running
