@@ -100,7 +100,7 @@ fn post_of_round_7(alloc: Global) -> Result<Vec<u8>, Fail> {
         Err(_) => return Err(Fail::from(AllocError)),
     };
     let mut bytes = Vec::from_slice(alloc, &[0, 0, 0, 76, 1])?;
-    bytes.extend_from_slice(&roster.group())?;
+    bytes.extend_from_slice(&roster.id())?;
     bytes.extend_from_slice(&7u64.to_be_bytes())?;
     bytes.extend_from_slice(&[0, 1])?;
     bytes.extend_from_slice(&[0; 33])?;

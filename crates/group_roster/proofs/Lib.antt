@@ -2,3 +2,4 @@ pub mod Faults
 pub mod Keys
 pub mod Spelled
 pub mod Rosters
+pub mod TomlLemmas

@@ -20,9 +20,13 @@ use Rattle.group_roster.specs.Places.{has_byte, first_unlike, fault_unless, valu
 abbrev pub roster_magic : List ℕ
 roster_magic = 68 ∷ 83 ∷ 82 ∷ 79 ∷ []
 
--- the bytes of a roster: the text, the version, the number of keys, and the keys
+-- the bytes of a version and keys: the text, the version, the number of keys, and the keys
+abbrev pub keys_spelling : ℕ → List (List ℕ) → List ℕ
+keys_spelling version keys = roster_magic ++ (version ∷ length keys ∷ concat keys)
+
+-- the bytes of a roster
 abbrev pub roster_spelling : Roster → List ℕ
-roster_spelling r = roster_magic ++ (r.version ∷ length r.keys ∷ concat r.keys)
+roster_spelling r = keys_spelling r.version r.keys
 
 -- what the stages of the group's rounds depend on
 abbrev pub shape_of_roster : Roster → Shape

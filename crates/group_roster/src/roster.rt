@@ -5,14 +5,14 @@ ghost use Rattle.std.specs.List.{range_with_len};
 ghost use Rattle.wire_core.specs.Reading.{Gives};
 ghost use Rattle.phase_message.specs.Stages.{shape_of};
 ghost use Rattle.group_roster.specs.Places.{first_unlike, value_unless};
-ghost use Rattle.group_roster.specs.Roster.{IsRosterFile, IsRosterForm, roster_spelling, roster_read, roster_id, key_at, key_of, keys_at, head_offence, key_offence, keys_offence, offence_told, shape_of_roster, size_of};
+ghost use Rattle.group_roster.specs.Roster.{IsRosterFile, IsRosterForm, roster_spelling, roster_read, keys_spelling, roster_id, key_at, key_of, keys_at, head_offence, key_offence, keys_offence, offence_told, shape_of_roster, size_of};
 
 use crate::places::first_unlike;
 use lms_tree::{KeyRefusal, LmsPublic};
 use phase_message::Shape;
 use std::alloc::{AllocError, AllocFailed, Global};
 use thiserror::Error;
-use wire_core::{List, Register, Tag};
+use wire_core::{List, Mem, Register, Tag};
 
 /// The members' public keys, as an LMS key of RFC 8554, section 5.3, has them. Member i has key
 /// i - 1. A roster that was read has version 1 and 2 to 8 distinct keys.
@@ -91,34 +91,43 @@ impl Roster {
         }
     }
 
-    /// The group's id: the hash of the roster's bytes.
-    pub fn group(&self) -> [u8; 32]
+    /// The group's id: the hash of the roster's bytes under the tag Roster. It takes no memory.
+    pub fn id(&self) -> [u8; 32]
         requires { IsRosterForm self.now }
         ensures { result ≡ roster_id self.now }
     {
-        let (bytes, size) = self.spelled();
+        let (bytes, size) = spelling(self.version, self.keys.items());
         let mut register = Register::new(Tag::Roster);
         register.piece(&bytes[..size]);
         register.end()
     }
 
-    // The roster's bytes, of which there are at most 454, and their number.
-    fn spelled(&self) -> ([u8; 454], usize)
+    /// The roster's bytes, of which there are 6 and 56 for each member: the text "DSRO", the version,
+    /// the number of members and their keys.
+    pub fn encode(&self, alloc: Global) -> Mem<Vec<u8>>
         requires { IsRosterForm self.now }
-        ensures size { result.1 ≡ 6 + 56 * length self.now.keys }
-        ensures bytes { take result.1 result.0 ≡ roster_spelling self.now }
+        ensures { IfOk result (λ bytes. bytes.items ≡ roster_spelling self.now) }
     {
-        let keys = self.keys.items();
-        let mut bytes = [0; 454];
-        bytes[..4].copy_from_slice(b"DSRO");
-        bytes[4] = self.version;
-        bytes[5] = keys.len() as u8;
-        for (k, key) in keys.iter().enumerate() {
-            let at = 6 + 56 * k;
-            bytes[at..at + 56].copy_from_slice(key);
-        }
-        (bytes, 6 + 56 * keys.len())
+        let (bytes, size) = spelling(self.version, self.keys.items());
+        Vec::from_slice(alloc, &bytes[..size])
     }
+}
+
+/// The bytes that spell these keys, of which there are at most 454, and their number.
+pub(crate) fn spelling(version: u8, keys: &Vec<[u8; 56]>) -> ([u8; 454], usize)
+    requires { length keys.now.items ≤ 8 }
+    ensures size { result.1 ≡ 6 + 56 * length keys.now.items }
+    ensures bytes { take result.1 result.0 ≡ keys_spelling version keys.now.items }
+{
+    let mut bytes = [0; 454];
+    bytes[..4].copy_from_slice(b"DSRO");
+    bytes[4] = version;
+    bytes[5] = keys.len() as u8;
+    for (k, key) in keys.iter().enumerate() {
+        let at = 6 + 56 * k;
+        bytes[at..at + 56].copy_from_slice(key);
+    }
+    (bytes, 6 + 56 * keys.len())
 }
 
 /// The roster that the bytes of a file spell, all of the bytes. `Bad` names the first offence.

@@ -1,4 +1,4 @@
-use crate::{RosterRefusal, decode};
+use crate::{RosterRefusal, decode, from_toml};
 use std::alloc::Global;
 use std::test::Fail;
 use wire_core::{Mem, put_bytes, put_u32};
@@ -59,5 +59,91 @@ fn keys_of_rosters_are_refused(rt: HostRuntime) -> Result<(), Fail> {
     }
     let bytes = two_keys(alloc, [[5, 3, 1], [9, 4, 2]], b"")?;
     assert!(rt; decode(alloc, &bytes).is_ok());
+    Ok(())
+}
+
+// A key of two types and 48 equal bytes, in hexadecimal digits.
+fn digits(alloc: Global, [lms_type, ots_type, fill]: [u8; 3]) -> Mem<String> {
+    let mut bytes = Vec::new(alloc);
+    put_u32(&mut bytes, u32::from(lms_type))?;
+    put_u32(&mut bytes, u32::from(ots_type))?;
+    put_bytes(&mut bytes, &[fill; 48])?;
+    hex::encode(alloc, &bytes)
+}
+
+// What is written of a document's two keys is the roster of the same keys, and it is read again.
+#[test]
+fn documents_are_read_as_rosters(rt: HostRuntime) -> Result<(), Fail> {
+    let alloc = rt.alloc();
+    let first = digits(alloc, [5, 3, 0xa1])?;
+    let second = digits(alloc, [9, 4, 2])?.to_uppercase(alloc)?;
+    let text = format!(in alloc;
+        "version = 1\n[[member]]\nkey = \"{first}\"\n[[member]]\nkey = '{second}'\n"
+    )?;
+    let roster = from_toml(alloc, text.as_bytes())?;
+    let bytes = roster.encode(alloc)?;
+    assert_eq!(rt; bytes.len(), 118);
+    assert_eq!(rt; &bytes, &two_keys(alloc, [[5, 3, 0xa1], [9, 4, 2]], b"")?);
+    assert!(rt; decode(alloc, &bytes).is_ok());
+    Ok(())
+}
+
+// Each rule of a document, with its place, in the order in which they are tested.
+#[test]
+fn rules_of_documents(rt: HostRuntime) -> Result<(), Fail> {
+    let alloc = rt.alloc();
+    let key = digits(alloc, [5, 3, 1])?;
+    let other = digits(alloc, [4, 3, 1])?;
+    let cases = [
+        (format!(in alloc; "version = ")?, 0, 9),
+        (format!(in alloc; "more = 1")?, 0, 10),
+        (format!(in alloc; "member = []")?, 0, 11),
+        (format!(in alloc; "version = 1.0")?, 0, 11),
+        (
+            format!(in alloc; "version = 1\n[[member]]\nkey = '{key}'")?,
+            0,
+            12,
+        ),
+        (
+            format!(in alloc; "version = 1\nmember = [{{ key = '{key}' }}, {{ key = '{key}0' }}]")?,
+            2,
+            13,
+        ),
+        (
+            format!(in alloc; "version = 1\nmember = [{{ key = '{key}', x = 1 }}, 7]")?,
+            1,
+            13,
+        ),
+        (
+            format!(in alloc;
+                "version = 1\nmember = [{{ key = '{key}' }}, {{ key = '{other}' }}]"
+            )?,
+            62,
+            6,
+        ),
+        (
+            format!(in alloc; "version = 1\nmember = [{{ key = '{key}' }}, {{ key = '{key}' }}]")?,
+            62,
+            8,
+        ),
+    ];
+    for (text, want_at, want_rule) in cases {
+        match from_toml(alloc, text.as_bytes()) {
+            Err(RosterRefusal::Bad { at, rule }) => {
+                assert!(rt;
+                    at == want_at && rule == want_rule,
+                    "{text}: at {at} rule {rule}"
+                );
+            }
+            _ => assert!(rt; false, "taken: {text}"),
+        }
+    }
+    match from_toml(alloc, b"version = 1 # \xff") {
+        Err(refusal) => {
+            let told = format!(in alloc; "{refusal}")?;
+            assert_eq!(rt; told.as_str(), "rule 9 is broken at 0");
+        }
+        Ok(_) => assert!(rt; false, "taken"),
+    }
     Ok(())
 }

@@ -188,7 +188,7 @@ pub fn check_parts(roster: &Roster, round: u64, parts: Parts<'_>) -> Result<Head
             found: header.version,
         });
     }
-    if header.group != roster.group() {
+    if header.group != roster.id() {
         return Err(PostRefusal::Group {
             found: header.group,
         });
