@@ -1,0 +1,5 @@
+pub mod PartLemmas
+pub mod SpellingLemmas
+pub mod MakingLemmas
+pub mod FittingLemmas
+pub mod CodeLemmas

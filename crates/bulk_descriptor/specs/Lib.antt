@@ -1,0 +1,11 @@
+pub mod Descriptor
+pub mod Fields
+pub mod SlotState
+pub mod Laws
+pub use Rattle.wire_core.specs.Hash
+pub use Rattle.wire_core.specs.Bytes
+pub use Rattle.pad_stream.specs.Stream
+pub use Rattle.pad_stream.specs.ExclusiveOr
+pub use Rattle.ring_encrypt.specs.Capsule
+pub use Rattle.ring_encrypt.specs.Opening
+pub use Rattle.ring_encrypt.specs.Reduced
