@@ -3,7 +3,7 @@
 use Rattle.std.proofs.Common.{◌≡◌, inl, inr, refl, sym, ◌∙◌, ap, ℕ, ◌≤◌, List, Option, Result, Ok, Err, subst, arith}
 use Rattle.dissent.specs.declared.status.Status.{Status}
 use Rattle.dissent.specs.declared.status.Status.TheVariants.{OutOfMemory}
-use Rattle.transcript_form.specs.declared.refusal.FailedCheck.{FailedCheck}
+use Rattle.transcript_form.specs.Refusals.{Failure}
 use Rattle.transcript_form.specs.declared.refusal.Refused.{Refused}
 use Rattle.transcript_form.specs.declared.refusal.Refused.TheVariants.{Check, Memory as JudgeMemory}
 use Rattle.group_roster.specs.declared.roster.RosterRefusal.{RosterRefusal}
@@ -19,7 +19,7 @@ abbrev pub Reads : Type 0 → Option Held → List ℕ → ℕ → Result (List 
 Reads fault told name limit answer = (file : Option (List ℕ)) × Shows told name file × Yields fault (within limit file) answer
 
 -- a command over any reader of rosters, any judge of a second file of at most this many bytes, and any line of what passes
-abbrev pub outcome_by : (V A : Type 0) → ℕ → (A → List ℕ) → (List ℕ → Result V (ℕ × ℕ)) → (V → List ℕ → Result A FailedCheck)
+abbrev pub outcome_by : (V A : Type 0) → ℕ → (A → List ℕ) → (List ℕ → Result V (ℕ × ℕ)) → (V → List ℕ → Result A Failure)
     → Option (List ℕ) → Option (List ℕ) → Result (List ℕ) Status
 outcome_by V A limit line read_roster judge_bytes roster_file second_file =
     and_then (within 4096 roster_file) (λ bytes.
@@ -44,7 +44,7 @@ has_file fault told name limit bytes (file, shows, inr (inl is)) = cc
 has_file fault told name limit bytes (file, shows, inr (inr (is, rose))) = cc
 
 module _ (V A : Type 0) (limit : ℕ) (line : A → List ℕ) (read_roster : List ℕ → Result V (ℕ × ℕ))
-    (judge_bytes : V → List ℕ → Result A FailedCheck) where
+    (judge_bytes : V → List ℕ → Result A Failure) where
   -- the whole command has this answer
   abbrev pub Judges : Type 0 → Option Held → List ℕ → List ℕ → Result (List ℕ) Status → Type 0
   Judges fault told roster transcript answer =

@@ -5,11 +5,11 @@ use Rattle.dissent.specs.declared.status.Status.TheVariants.{Done, Usage, Refuse
 use Rattle.judge_core.specs.declared.judging.Accepted.{Accepted}
 use Rattle.dissent.specs.Outside.{Held, Shows, IsMissing, Gains}
 use Rattle.dissent.specs.Command.{Request, judge, show, keygen}
-use Rattle.transcript_form.specs.declared.refusal.FailedCheck.{FailedCheck}
+use Rattle.transcript_form.specs.Refusals.{Failure}
 use Rattle.group_roster.specs.declared.roster.Roster.{Roster}
 use Rattle.group_roster.specs.Roster.{roster_read, IsRosterFile, roster_spelling}
 use Rattle.phase_message.specs.declared.content.Content.{Content}
-use Rattle.judge_core.specs.Checks.{judged}
+use Rattle.judge_core.specs.Checks.{printed_judgement_of}
 use Rattle.signed_post.specs.Admission.{IsPostFile}
 use Rattle.dissent.specs.Show.{file_checked, shown_line}
 use Rattle.dissent.specs.Outcome.{Yields, YieldsOr, Answers, RequestMisses, within, and_then, or_bad_roster, or_refused, judge_outcome, show_outcome, keygen_outcome, accepted_line}
@@ -22,7 +22,7 @@ use Rattle.transcript_form.specs.declared.refusal.Refused.{Refused as JudgeRefus
 use Rattle.transcript_form.specs.declared.refusal.Refused.TheVariants.{Check, Memory as JudgeMemory}
 use Rattle.dissent.specs.Refusals.{roster_status, judge_status}
 use Rattle.judge_core.specs.Accepts.{Accepts}
-use Rattle.judge_core.specs.Framing.{OnePerSlot, ListsSaid}
+use Rattle.judge_core.specs.Framing.{GivesNoGround, ListsSaid}
 
 -- The statuses that a command may be refused with.
 
@@ -46,13 +46,13 @@ bad_cases : {V : Type 0} (answer : Result V (ℕ × ℕ)) (P : Status → Type 0
 bad_cases (Ok value) P bad status h = cc
 bad_cases (Err offence) P bad status h = let e : BadRoster offence.0 offence.1 ≡ status = cc in subst P e (bad offence.0 offence.1)
 
-refused_cases : {A : Type 0} (line : A → List ℕ) (answer : Result A FailedCheck) (P : Status → Type 0) → ((check post at : ℕ) → P (Refused check post at))
+refused_cases : {A : Type 0} (line : A → List ℕ) (answer : Result A Failure) (P : Status → Type 0) → ((check post at : ℕ) → P (Refused check post at))
     → (status : Status) → or_refused line answer ≡ Err status → P status
 refused_cases line (Ok passed) P refused status h = cc
 refused_cases line (Err at) P refused status h =
     let e : Refused at.check at.post at.at ≡ status = cc in subst P e (refused at.check at.post at.at)
 
-outcome_cases : (V A : Type 0) (most : ℕ) (line : A → List ℕ) (read_roster : List ℕ → Result V (ℕ × ℕ)) (judge_bytes : V → List ℕ → Result A FailedCheck)
+outcome_cases : (V A : Type 0) (most : ℕ) (line : A → List ℕ) (read_roster : List ℕ → Result V (ℕ × ℕ)) (judge_bytes : V → List ℕ → Result A Failure)
     (file second : Option (List ℕ)) (P : Status → Type 0) → (file ≡ None → P ReadFault) → (second ≡ None → P ReadFault)
     → ((limit : ℕ) → P (TooLong limit)) → ((at rule : ℕ) → P (BadRoster at rule)) → ((check post at : ℕ) → P (Refused check post at))
     → (status : Status) → outcome_by V A most line read_roster judge_bytes file second ≡ Err status → P status
@@ -180,7 +180,7 @@ answer_cases read_fault disk_fault told master None status P usage memory read d
     let e : Usage ≡ status = cc in subst P e (usage refl)
 answer_cases read_fault disk_fault told master (Some (judge roster transcript)) status P usage memory read disk long bad refused (file, second, shows, shows', h) =
     by_cases ReadFault read_fault (judge_outcome file second) status P
-    (outcome_cases Roster Accepted 134217728 accepted_line roster_read judged file second P (λ none. read (inr (inl (is_missing told roster file none shows))))
+    (outcome_cases Roster Accepted 134217728 accepted_line roster_read printed_judgement_of file second P (λ none. read (inr (inl (is_missing told roster file none shows))))
     (λ none. read (inr (inr (is_missing told transcript second none shows')))) long bad refused status)
     memory (λ rose. read (inl rose)) h
 answer_cases read_fault disk_fault told master (Some (show roster round post)) status P usage memory read disk long bad refused (file, second, shows, shows', h) =
@@ -265,7 +265,7 @@ promised_other_words read_fault disk_fault write_fault told master old new reque
 pub convicted : (told told' : Option Held) (roster transcript bytes bytes' read read' text : List ℕ) (value : Roster) (accepted : Accepted)
     → Shows told roster (Some bytes) → told' ≡ told → Shows told' transcript (Some read) → bytes' ≡ bytes → read' ≡ read
     → IsRosterFile value × (bytes' ≡ roster_spelling value) → Accepts value read' accepted.accused accepted.claim
-    → ((sent : List (List ℕ)) → OnePerSlot sent → ListsSaid value read' accepted.accused sent → ⊥)
+    → ((sent : List (List ℕ)) → GivesNoGround accepted.claim sent → ListsSaid value read' accepted.accused sent → ⊥)
     → text ≡ accepted_line accepted → FilesConvict told roster transcript text
 convicted told told' roster transcript bytes bytes' read read' text value accepted shows same shows' e e' spelled accepts no_framing printed =
     let At : Option Held → Type 0 = λ t. Shows t transcript (Some read) in (
@@ -283,7 +283,7 @@ convicted told told' roster transcript bytes bytes' read read' text value accept
         spelled = (spelled.0, sym e ∙ spelled.1);
         accepts = subst (λ (b : List ℕ). Accepts value b accepted.accused accepted.claim) e' accepts;
         printed = printed;
-        no_framing = subst (λ (b : List ℕ). (sent : List (List ℕ)) → OnePerSlot sent → ListsSaid value b accepted.accused sent → ⊥) e' no_framing;
+        no_framing = subst (λ (b : List ℕ). (sent : List (List ℕ)) → GivesNoGround accepted.claim sent → ListsSaid value b accepted.accused sent → ⊥) e' no_framing;
       },
     )
 

@@ -13,9 +13,9 @@ use Rattle.judge_core.specs.declared.judging.Accepted.{Accepted}
 use Rattle.dissent.specs.Command.{Request, judge, show, keygen}
 use Rattle.dissent.specs.Outside.{Held, Shows, IsMissing}
 use Rattle.group_roster.specs.Roster.{roster_read}
-use Rattle.transcript_form.specs.declared.refusal.FailedCheck.{FailedCheck}
-use Rattle.judge_core.specs.Checks.{judged}
-use Rattle.transcript_form.specs.Transcript.{claim_name}
+use Rattle.transcript_form.specs.Refusals.{Failure}
+use Rattle.judge_core.specs.Checks.{printed_judgement_of}
+use Rattle.transcript_form.specs.Claim.{claim_name}
 use Rattle.dissent.specs.Show.{file_checked, shown_line}
 use Rattle.dissent.specs.Status.{line_of}
 
@@ -40,7 +40,7 @@ accepted_line accepted =
     line_of (codes "accepted member " ∷ decimal accepted.accused ∷ codes " claim " ∷ claim_name accepted.claim ∷ [])
 
 -- what is printed for a file that passes, or the status of the check that fails
-abbrev pub or_refused : {A : Type 0} → (A → List ℕ) → Result A FailedCheck → Result (List ℕ) Status
+abbrev pub or_refused : {A : Type 0} → (A → List ℕ) → Result A Failure → Result (List ℕ) Status
 or_refused line (Ok passed) = Ok (line passed)
 or_refused line (Err failed) = Err (Refused failed.check failed.post failed.at)
 
@@ -50,7 +50,7 @@ judge_outcome roster_file transcript_file =
     and_then (within 4096 roster_file) (λ roster_bytes.
     and_then (or_bad_roster (roster_read roster_bytes)) (λ roster.
     and_then (within 134217728 transcript_file) (λ transcript.
-    or_refused accepted_line (judged roster transcript))))
+    or_refused accepted_line (printed_judgement_of roster transcript))))
 
 -- `show`: the roster is read and decoded, and then the post is read and checked
 abbrev pub show_outcome : ℕ → Option (List ℕ) → Option (List ℕ) → Result (List ℕ) Status

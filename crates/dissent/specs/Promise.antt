@@ -9,7 +9,7 @@ use Rattle.group_roster.specs.declared.roster.Roster.{Roster}
 use Rattle.judge_core.specs.declared.judging.Accepted.{Accepted}
 use Rattle.group_roster.specs.Roster.{IsRosterFile, roster_spelling}
 use Rattle.judge_core.specs.Accepts.{Accepts}
-use Rattle.judge_core.specs.Framing.{OnePerSlot, ListsSaid}
+use Rattle.judge_core.specs.Framing.{GivesNoGround, ListsSaid}
 use Rattle.phase_message.specs.declared.content.Content.{Content}
 use Rattle.signed_post.specs.Admission.{IsPostFile}
 use Rattle.dissent.specs.Show.{shown_line}
@@ -63,7 +63,7 @@ pub record IsConviction (roster_file transcript_file : Option (List ℕ)) (outpu
   pub spelled : IsRosterFile roster × (roster_bytes ≡ roster_spelling roster)
   pub accepts : Accepts roster bytes accepted.accused accepted.claim
   pub printed : output ≡ accepted_line accepted
-  pub no_framing : (sent : List (List ℕ)) → OnePerSlot sent → ListsSaid roster bytes accepted.accused sent → ⊥
+  pub no_framing : (sent : List (List ℕ)) → GivesNoGround accepted.claim sent → ListsSaid roster bytes accepted.accused sent → ⊥
 
 -- the files of these names convict
 abbrev pub FilesConvict : Option Held → List ℕ → List ℕ → List ℕ → Type 0

@@ -5,9 +5,9 @@ use Rattle.group_roster.specs.declared.roster.RosterRefusal.{RosterRefusal}
 use Rattle.group_roster.specs.declared.roster.RosterRefusal.TheVariants.{Bad, Memory as RosterMemory}
 use Rattle.transcript_form.specs.declared.refusal.Refused.{Refused}
 use Rattle.transcript_form.specs.declared.refusal.Refused.TheVariants.{Check, Memory as JudgeMemory}
-use Rattle.transcript_form.specs.declared.refusal.FailedCheck.{FailedCheck}
+use Rattle.transcript_form.specs.Refusals.{Failure}
 use Rattle.group_roster.specs.Roster.{offence_told}
-use Rattle.transcript_form.specs.Transcript.{check_told}
+use Rattle.transcript_form.specs.Refusals.{failure_of_refusal}
 use Rattle.dissent.specs.declared.status.Status.{Status}
 use Rattle.dissent.specs.declared.status.Status.TheVariants.{BadRoster, Refused as IsRefused, OutOfMemory}
 
@@ -26,5 +26,5 @@ abbrev pub RefusesRoster : {V : Type 0} → Result V (ℕ × ℕ) → RosterRefu
 RefusesRoster answer refusal = IsFault (offence_told refusal) answer
 
 -- a refusal of a transcript names the first check that fails
-abbrev pub RefusesTranscript : {V : Type 0} → Result V FailedCheck → Refused → Type 0
-RefusesTranscript answer refusal = IsFault (check_told refusal) answer
+abbrev pub RefusesTranscript : {V : Type 0} → Result V Failure → Refused → Type 0
+RefusesTranscript answer refusal = IsFault (failure_of_refusal refusal) answer

@@ -8,7 +8,7 @@ use Rattle.phase_message.specs.declared.content.Content.{Content}
 use Rattle.group_roster.specs.declared.roster.Roster.{Roster}
 use Rattle.signed_post.specs.declared.post.PostRefusal.{PostRefusal}
 use Rattle.signed_post.specs.declared.post.PostRefusal.TheVariants.{Frame, Memory}
-use Rattle.transcript_form.specs.declared.refusal.FailedCheck.{FailedCheck}
+use Rattle.transcript_form.specs.Refusals.{Failure}
 use Rattle.signed_post.specs.Frame.{framed}
 use Rattle.signed_post.specs.Admission.{checked, refusal_number, refusal_place}
 use Rattle.dissent.specs.Status.{line_of}
@@ -16,16 +16,16 @@ use Rattle.dissent.specs.Status.{line_of}
 -- ---- the check of a file
 
 -- a file has one post, and a refusal of it is told by its number and its place
-abbrev pub failed_check : PostRefusal → FailedCheck
+abbrev pub failed_check : PostRefusal → Failure
 failed_check refusal = record { check = refusal_number refusal; post = 1; at = refusal_place refusal }
 
 -- the content of the post that bytes spell for a round, or the first check that refuses them
-unfoldable pub file_checked : ℕ → Roster → List ℕ → Result Content FailedCheck
+unfoldable pub file_checked : ℕ → Roster → List ℕ → Result Content Failure
 file_checked round roster bytes =
     fault_as failed_check (fault_as (λ at. Frame at) (framed bytes) >>= λ post. checked roster round post)
 
 -- which refusals are told; want of memory tells none
-abbrev pub failure_told : PostRefusal → Option FailedCheck
+abbrev pub failure_told : PostRefusal → Option Failure
 failure_told Memory = None
 failure_told refusal = Some (failed_check refusal)
 

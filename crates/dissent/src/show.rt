@@ -2,7 +2,7 @@
 ghost use Rattle.std.specs.Prelude.{◌≡◌, IfOk};
 ghost use Rattle.wire_core.specs.Answers.{Gives};
 ghost use Rattle.group_roster.specs.Roster.{IsRosterForm};
-ghost use Rattle.transcript_form.specs.Transcript.{check_told};
+ghost use Rattle.transcript_form.specs.Refusals.{failure_of_refusal};
 ghost use Rattle.signed_post.specs.Admission.{IsPostFile};
 ghost use Rattle.dissent.specs.Show.{failure_told, file_checked, kind_name, shown_line};
 
@@ -21,7 +21,7 @@ pub(crate) fn check_file(
     bytes: &[u8],
 ) -> Result<Content, Refused>
     requires form { IsRosterForm roster.now }
-    ensures exact { Gives check_told (λ content. content) result (file_checked round roster.now bytes.now) }
+    ensures exact { Gives failure_of_refusal (λ content. content) result (file_checked round roster.now bytes.now) }
     ensures passes { IfOk result (λ content. IsPostFile roster.now round bytes.now content) }
 {
     let post = match read(alloc, bytes) {
@@ -37,7 +37,7 @@ pub(crate) fn check_file(
 
 // A file has one post.
 fn refused(refusal: PostRefusal) -> Refused
-    ensures { check_told result ≡ failure_told refusal }
+    ensures { failure_of_refusal result ≡ failure_told refusal }
 {
     match refusal {
         PostRefusal::Memory => Refused::Memory,

@@ -1,11 +1,12 @@
 -- What convicts a member.
-use Rattle.std.specs.Prelude.{◌≡◌, ◌≢◌, ℕ, List, [], ◌∷◌, length}
+use Rattle.std.specs.Prelude.{◌≡◌, ◌≢◌, ℕ, List, [], ◌∷◌}
 use Rattle.phase_message.specs.declared.header.Header.{Header}
 use Rattle.group_roster.specs.declared.roster.Roster.{Roster}
+use Rattle.group_roster.specs.Roster.{shape_of_roster}
+use Rattle.signed_post.specs.Admission.{Says}
 use Rattle.transcript_form.specs.declared.claim.Claim.{Claim}
 use Rattle.transcript_form.specs.declared.claim.Claim.TheVariants.{Equivocation}
 use Rattle.transcript_form.specs.declared.transcript.Transcript.{Transcript}
-use Rattle.signed_post.specs.Admission.{Says}
 use Rattle.transcript_form.specs.Transcript.{IsTranscript, transcript_spelling}
 
 -- Equivocation: the transcript lists two posts of the accused in one slot, whose contents differ.
@@ -24,15 +25,16 @@ pub record Equivocates (roster : Roster) (t : Transcript) : Type 0 where
   pub one_stage : second_header.stage ≡ first_header.stage
   pub differ : first_content ≢ second_content
 
--- what a claim asks of the listed posts
+-- what a claim asks of the listed posts; no other claim is decided yet
 abbrev pub Convicts : Roster → Transcript → Claim → Type 0
 Convicts roster t Equivocation = Equivocates roster t
+Convicts roster t claim = ⊥
 
 -- bytes convict a member under a roster: they spell a transcript with that accused and claim, and its
 -- posts are what the claim asks
 pub record Accepts (roster : Roster) (bytes : List ℕ) (accused : ℕ) (claim : Claim) : Type 0 where
   pub transcript : Transcript
-  pub form : IsTranscript (length roster.keys) transcript
+  pub form : IsTranscript (shape_of_roster roster) transcript
   pub spelled : bytes ≡ transcript_spelling transcript
   pub accused_is : transcript.accused ≡ accused
   pub claim_is : transcript.claim ≡ claim

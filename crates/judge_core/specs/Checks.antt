@@ -1,61 +1,118 @@
 -- The first check that the bytes of a transcript fail.
-use Rattle.std.specs.Prelude.{◌≡◌, ◌↔◌, ℕ, List, [], length, bytes_eq, not, ◌&&◌, ◌==◌, Option, Result, Ok}
-use Rattle.std.specs.List.{slice_index_or}
-use Rattle.std.specs.Result.{result_err}
+use Rattle.std.specs.Prelude.{◌≡◌, ◌↔◌, ℕ, ◌+◌, List, [], ◌∷◌, bytes_eq, Bool, true, false, not, ◌&&◌, ◌==◌, Option, Some, None, unwrap_or, Result, Ok}
 use Rattle.wire_core.specs.Bytes.{IsBytes}
 use Rattle.wire_core.specs.Reading.{◌>>=◌, fault_as, unless}
 use Rattle.phase_message.specs.declared.header.Header.{Header}
 use Rattle.group_roster.specs.declared.roster.Roster.{Roster}
-use Rattle.signed_post.specs.declared.post.PostRefusal.{PostRefusal}
+use Rattle.wire_core.specs.Answers.{fault_unless, value_unless}
+use Rattle.group_roster.specs.Roster.{IsRosterForm, shape_of_roster}
+use Rattle.signed_post.specs.Admission.{admit_bytes}
 use Rattle.transcript_form.specs.declared.claim.Claim.{Claim}
-use Rattle.judge_core.specs.declared.judging.Accepted.{Accepted}
-use Rattle.transcript_form.specs.declared.refusal.FailedCheck.{FailedCheck}
+use Rattle.transcript_form.specs.declared.claim.Claim.TheVariants.{Equivocation}
+use Rattle.transcript_form.specs.declared.refusal.FailedForm.TheVariants.{Form as WrongForm}
 use Rattle.transcript_form.specs.declared.transcript.Transcript.{Transcript}
-use Rattle.group_roster.specs.Roster.{IsRosterForm}
-use Rattle.signed_post.specs.Admission.{admit_bytes, refusal_number}
-use Rattle.transcript_form.specs.Transcript.{transcript_read}
+use Rattle.transcript_form.specs.Form.{claim_read, transcript_read}
+use Rattle.judge_core.specs.declared.failed_check.FailedCheck.{FailedCheck}
+use Rattle.judge_core.specs.declared.failed_check.FailedCheck.TheVariants.{Form, Post, Slot, Same}
+use Rattle.judge_core.specs.declared.judging.Accepted.{Accepted}
+use Rattle.judge_core.specs.declared.judging.Case.{Case as GivenCase}
+use Rattle.judge_core.specs.declared.judging.Said.{Said as GivenSaid}
+use Rattle.transcript_form.specs.Refusals.{Failure}
 use Rattle.judge_core.specs.Accepts.{Accepts}
+use Rattle.judge_core.specs.Failures.{failure_of_check}
 
--- check 4 fails with the number of the refusal, check 5 with the stage, check 8 at 0
-abbrev pub post_fault : ℕ → PostRefusal → FailedCheck
-post_fault number refusal = record { check = 4; post = number; at = refusal_number refusal }
+-- what a judge knows before the first post: the roster, the claim, the accused and the round
+pub record Case : Type 0 where
+  pub roster : Roster
+  pub claim : Claim
+  pub accused : ℕ
+  pub round : ℕ
 
-abbrev pub slot_fault : ℕ → Header → FailedCheck
-slot_fault number header = record { check = 5; post = number; at = header.stage }
+-- a listed post that passes the seven checks before its body: its header and its content
+pub record Said : Type 0 where
+  pub header : Header
+  pub content : List ℕ
 
-abbrev pub same_fault : FailedCheck
-same_fault = record { check = 8; post = 2; at = 0 }
+-- the same of what the code holds
+abbrev pub case_of : GivenCase → Case
+case_of given = record { roster = given.roster.now; claim = given.claim; accused = given.accused; round = given.round }
 
--- the header and the content of a listed post, by its number from 1
-unfoldable pub spoken : Roster → ℕ → ℕ → List ℕ → Result (Header × List ℕ) FailedCheck
-spoken roster round number bytes = fault_as (post_fault number) (admit_bytes roster round bytes)
+abbrev pub said_of : GivenSaid → Said
+said_of given = record { header = given.header; content = given.content.now }
 
--- what two listed posts come to
-unfoldable pub equivocation_judged : Roster → ℕ → ℕ → List ℕ → List ℕ → Result (Unit {0}) FailedCheck
-equivocation_judged roster round accused first_post second_post = do
-  first ← spoken roster round 1 first_post
-  of_accused ← unless (not (first.0.sender == accused)) (slot_fault 1 first.0) (tt {0})
-  second ← spoken roster round 2 second_post
-  of_slot ← unless (not (second.0.sender == accused && (second.0.stage == first.0.stage))) (slot_fault 2 second.0) (tt {0})
-  unless (bytes_eq first.1 second.1) same_fault (tt {0})
+-- the case of a transcript
+abbrev pub case_of_transcript : Roster → Transcript → Case
+case_of_transcript roster t = record { roster = roster; claim = t.claim; accused = t.accused; round = t.round }
 
--- a listed post, from 0 on
-abbrev pub listed_post : Transcript → ℕ → List ℕ
-listed_post t k = slice_index_or t.posts k []
+-- ---- the claims that are decided
 
--- what the bytes of a transcript come to: who is convicted of what, or the first check that fails
-unfoldable pub judged : Roster → List ℕ → Result Accepted FailedCheck
-judged roster bytes = do
-  t ← transcript_read (length roster.keys) bytes
-  convicts ← equivocation_judged roster t.round t.accused (listed_post t 0) (listed_post t 1)
+-- whether a claim is decided: Equivocation alone so far
+abbrev pub is_decided : Claim → Bool
+is_decided Equivocation = true
+is_decided claim = false
+
+-- any other claim fails the form, at its byte
+abbrev pub undecided : FailedCheck
+undecided = Form (WrongForm 5)
+
+-- ---- each listed post
+
+-- whether the claim asks for a post with this header, behind a first one: it is of the accused, and in
+-- Equivocation the second is of the first one's stage
+abbrev pub is_asked : Claim → ℕ → Option Header → Header → Bool
+is_asked Equivocation accused (Some first) header = header.sender == accused && (header.stage == first.stage)
+is_asked claim accused first header = header.sender == accused
+
+-- what is heard of a listed post, by its number from 1: it passes check 4 and check 5
+unfoldable pub heard_of : Case → Option Header → ℕ → List ℕ → Result Said FailedCheck
+heard_of case first number bytes = do
+  post ← fault_as (λ refusal. Post number refusal) (admit_bytes case.roster case.round bytes)
+  unless (not (is_asked case.claim case.accused first post.0)) (Slot number post.0.stage) (record { header = post.0; content = post.1 })
+
+-- what is heard of the listed posts, one after the other, from the one of this number on
+unfoldable pub hearing_of : Case → Option Header → ℕ → List (List ℕ) → Result (List Said) FailedCheck
+hearing_of case first number [] = Ok []
+hearing_of case first number (post ∷ posts) = do
+  said ← heard_of case first number post
+  others ← hearing_of case (Some (unwrap_or first said.header)) (number + 1) posts
+  Ok (said ∷ others)
+
+-- ---- the claim's own checks
+
+-- whether two posts say the same
+abbrev pub is_one_content : List Said → Bool
+is_one_content (first ∷ second ∷ []) = bytes_eq first.content second.content
+is_one_content said = true
+
+-- the first of a claim's own checks that fails: in Equivocation the contents are equal
+abbrev pub own_failure : Claim → List Said → Option FailedCheck
+own_failure Equivocation said = fault_unless (not (is_one_content said)) Same
+own_failure claim said = Some undecided
+
+-- what the listed posts come to
+unfoldable pub conviction_of : Case → List (List ℕ) → Result (Unit {0}) FailedCheck
+conviction_of case posts = do
+  said ← hearing_of case None 1 posts
+  value_unless (own_failure case.claim said) (tt {0})
+
+-- ---- the whole
+
+-- what the bytes of a transcript come to: who is convicted of what, or the first check that fails. A claim
+-- that is not decided fails before what follows it is looked at
+unfoldable pub judgement_of : Roster → List ℕ → Result Accepted FailedCheck
+judgement_of roster bytes = do
+  claim ← fault_as (λ failed. Form failed) (claim_read bytes)
+  decided ← unless (not (is_decided claim)) undecided claim
+  t ← fault_as (λ failed. Form failed) (transcript_read (shape_of_roster roster) bytes)
+  convicts ← conviction_of (case_of_transcript roster t) t.posts
   Ok (record { accused = t.accused; claim = t.claim })
 
--- the check that refuses the bytes of a transcript, if one does
-abbrev pub refused_by : Roster → List ℕ → Option FailedCheck
-refused_by roster bytes = result_err (judged roster bytes)
+-- the same with the failed check in its three numbers, as it is printed
+abbrev pub printed_judgement_of : Roster → List ℕ → Result Accepted Failure
+printed_judgement_of roster bytes = fault_as failure_of_check (judgement_of roster bytes)
 
 -- the judge accepts exactly what convicts
 abbrev pub AcceptsExactly : Type 0
 AcceptsExactly = (roster : Roster) (bytes : List ℕ) (accused : ℕ) (claim : Claim)
     → IsRosterForm roster → IsBytes bytes
-    → (judged roster bytes ≡ Ok (record { accused = accused; claim = claim })) ↔ Accepts roster bytes accused claim
+    → (judgement_of roster bytes ≡ Ok (record { accused = accused; claim = claim })) ↔ Accepts roster bytes accused claim

@@ -3,11 +3,13 @@ use Rattle.std.specs.Prelude.{◌≡◌, ℕ, List, Contains, Ok}
 use Rattle.phase_message.specs.declared.header.Header.{Header}
 use Rattle.phase_message.specs.Header.{header_of}
 use Rattle.group_roster.specs.declared.roster.Roster.{Roster}
-use Rattle.transcript_form.specs.declared.claim.Claim.{Claim}
-use Rattle.transcript_form.specs.declared.transcript.Transcript.{Transcript}
+use Rattle.group_roster.specs.Roster.{shape_of_roster}
 use Rattle.signed_post.specs.Admission.{Says}
+use Rattle.transcript_form.specs.declared.claim.Claim.{Claim}
+use Rattle.transcript_form.specs.declared.claim.Claim.TheVariants.{Equivocation}
+use Rattle.transcript_form.specs.declared.transcript.Transcript.{Transcript}
+use Rattle.transcript_form.specs.Transcript.{IsTranscript, transcript_spelling}
 use Rattle.judge_core.specs.Accepts.{Accepts}
-use Rattle.transcript_form.specs.Transcript.{transcript_spelling}
 
 -- a member's contents, of which no two stand in one slot of one round
 abbrev pub OnePerSlot : List (List ℕ) → Type 0
@@ -15,18 +17,24 @@ OnePerSlot sent = (a b : List ℕ) (h g : Header)
     → Contains sent a → Contains sent b → header_of a ≡ Ok h → header_of b ≡ Ok g
     → h.round ≡ g.round → h.stage ≡ g.stage → h.sender ≡ g.sender → a ≡ b
 
+-- a member's contents that give no ground for a claim; of a claim that is not decided nothing is asked
+abbrev pub GivesNoGround : Claim → List (List ℕ) → Type 0
+GivesNoGround Equivocation sent = OnePerSlot sent
+GivesNoGround claim sent = Unit {0}
+
 -- whatever these posts say for the accused in the round, it sent
 abbrev pub SaidBy : Roster → ℕ → ℕ → List (List ℕ) → List (List ℕ) → Type 0
 SaidBy roster round accused posts sent = (bytes content : List ℕ) (header : Header)
     → Contains posts bytes → Says roster round bytes content header → header.sender ≡ accused
     → Contains sent content
 
--- the same of the posts that the bytes of a transcript list
+-- the same of the posts of the transcript that bytes spell
 abbrev pub ListsSaid : Roster → List ℕ → ℕ → List (List ℕ) → Type 0
 ListsSaid roster bytes accused sent = (t : Transcript)
-    → bytes ≡ transcript_spelling t → SaidBy roster t.round accused t.posts sent
+    → IsTranscript (shape_of_roster roster) t → bytes ≡ transcript_spelling t → SaidBy roster t.round accused t.posts sent
 
--- nothing convicts a member of which every listed post is one that it sent, with one content per slot
+-- nothing convicts a member of which every listed post is one that it sent, and whose contents give no
+-- ground for the claim
 abbrev pub NobodyIsFramed : Type 0
 NobodyIsFramed = (roster : Roster) (bytes : List ℕ) (accused : ℕ) (claim : Claim) (sent : List (List ℕ))
-    → OnePerSlot sent → ListsSaid roster bytes accused sent → Accepts roster bytes accused claim → ⊥
+    → GivesNoGround claim sent → ListsSaid roster bytes accused sent → Accepts roster bytes accused claim → ⊥

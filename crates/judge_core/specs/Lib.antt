@@ -1,3 +1,4 @@
 pub mod Accepts
 pub mod Checks
+pub mod Failures
 pub mod Framing

@@ -12,7 +12,7 @@ use signed_post::{check, check_header, read};
 use std::alloc::{AllocError, Global};
 use std::process::Abort;
 use std::test::Fail;
-use transcript_form::{Claim, Refused, read_transcript};
+use transcript_form::{Claim, Refused};
 use wire_core::{Mem, Register, Tag, put_bytes, put_u8, put_u32, put_u64};
 
 // The key of H5 and W4 that is made from a member's number, with this leaf as the next.
@@ -110,32 +110,32 @@ fn no_cut_convicts(rt: &impl Abort, alloc: Global, roster: &Roster, bytes: &[u8]
     requires form { IsRosterForm roster.now }
     requires size { length bytes.now ≡ 4885 }
 {
-    for size in 0..4885 {
-        let want = if size < 5 { 1 } else { 2 };
-        let refused = judge(alloc, roster, &bytes[..size]);
-        assert!(rt;
-            matches!(refused, Err(Refused::Check { check, post: 0, at })
-            if check == want && at as usize == size)
-        );
+    for size in 0..4885u32 {
+        let refused = Refused::Check {
+            check: if size < 5 { 1 } else { 2 },
+            post: 0,
+            at: size,
+        };
+        assert_eq!(rt; judge(alloc, roster, &bytes[..size as usize]), Err(refused));
     }
 }
 
-// The judge refuses the transcript of these two posts by this check.
+// The judge refuses the transcript of these two posts by this check, at this post and place.
 fn refused(
     rt: &impl Abort,
     alloc: Global,
     roster: &Roster,
     posts: (&[u8], &[u8]),
-    want: (u32, u32, u32),
+    failure: (u32, u32, u32),
 ) -> Result<(), AllocError>
     requires { IsRosterForm roster.now }
 {
+    let (check, post, at) = failure;
     let bytes = transcript_of(alloc, posts.0, posts.1)?;
     assert_eq!(rt; bytes.len(), 4885);
-    let refused = judge(alloc, roster, &bytes);
-    assert!(rt;
-        matches!(refused, Err(Refused::Check { check, post, at })
-        if check == want.0 && post == want.1 && at == want.2)
+    assert_eq!(rt;
+        judge(alloc, roster, &bytes),
+        Err(Refused::Check { check, post, at })
     );
     Ok(())
 }
@@ -155,20 +155,11 @@ fn votes_are_judged(
     let no = second.post(alloc, 3, 1)?;
     let bytes = transcript_of(alloc, &yes, &no)?;
     assert_eq!(rt; bytes.len(), 4885);
-    let accepted = judge(alloc, roster, &bytes);
-    assert!(rt;
-        matches!(
-            accepted,
-            Ok(Accepted {
-                accused: 3,
-                claim: Claim::Equivocation
-            })
-        )
-    );
-    let listed = read_transcript(alloc, 4, &bytes);
-    assert!(rt;
-        matches!(&listed, Ok(t) if t.accused == 3 && t.round == 1 && t.posts.items().len() == 2)
-    );
+    let accepted = Accepted {
+        accused: 3,
+        claim: Claim::Equivocation,
+    };
+    assert_eq!(rt; judge(alloc, roster, &bytes), Ok(accepted));
     let again = first.post(alloc, 3, 2)?;
     refused(rt, alloc, roster, (&yes, &again), (8, 2, 0))
 }
@@ -272,6 +263,28 @@ fn wrong_posts_convict_nobody(rt: HostRuntime) -> Result<(), Fail> {
     Ok(())
 }
 
+// Each claim that is not decided yet fails at its byte, before what follows it is looked at.
+fn undecided_claims(rt: &impl Abort, alloc: Global, roster: &Roster)
+    requires { IsRosterForm roster.now }
+{
+    let refused = Refused::Check {
+        check: 2,
+        post: 0,
+        at: 5,
+    };
+    for bytes in [
+        b"DSTR\x01\x02",
+        b"DSTR\x01\x03",
+        b"DSTR\x01\x04",
+        b"DSTR\x01\x05",
+        b"DSTR\x01\x06",
+        b"DSTR\x01\x07",
+        b"DSTR\x01\0",
+    ] {
+        assert_eq!(rt; judge(alloc, roster, bytes), Err(refused));
+    }
+}
+
 // The stored evidence convicts, and no cut of it does.
 #[test]
 fn stored_evidence_convicts_whole(rt: HostRuntime) -> Result<(), Fail> {
@@ -283,11 +296,15 @@ fn stored_evidence_convicts_whole(rt: HostRuntime) -> Result<(), Fail> {
         return Err(Fail::from("no transcript"));
     };
     assert_eq!(rt; transcript.len(), 4885);
+    let accepted = Accepted {
+        accused: 3,
+        claim: Claim::Equivocation,
+    };
     match decode(alloc, &roster) {
         Ok(roster) => {
-            let accepted = judge(alloc, &roster, &transcript);
-            assert!(rt; matches!(accepted, Ok(Accepted { accused: 3, .. })));
+            assert_eq!(rt; judge(alloc, &roster, &transcript), Ok(accepted));
             no_cut_convicts(&rt, alloc, &roster, &transcript);
+            undecided_claims(&rt, alloc, &roster);
         }
         Err(_) => assert!(rt; false, "no roster"),
     }

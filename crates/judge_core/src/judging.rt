@@ -1,19 +1,20 @@
 //! The judge of transcripts: whoever reads one comes to the same answer.
 
-ghost use Rattle.std.specs.Prelude.{◌≡◌, ◌≢◌, ◌↔◌, ◌<◌, ◌^◌, ℕ, List, length, Some, None, Ok, Err, IfOk};
-ghost use Rattle.std.specs.Result.{result_err};
-ghost use Rattle.wire_core.specs.Reading.{Gives};
-ghost use Rattle.group_roster.specs.Roster.{IsRosterForm};
+ghost use Rattle.std.specs.Prelude.{◌≡◌, ◌≢◌, ◌<◌, ◌^◌, ℕ, List, length, Some, Ok, Err, IfOk, IsTrue};
+ghost use Rattle.wire_core.specs.Answers.{Gives};
+ghost use Rattle.group_roster.specs.Roster.{IsRosterForm, shape_of_roster};
+ghost use Rattle.transcript_form.specs.Claim.{claim_posts};
+ghost use Rattle.transcript_form.specs.Refusals.{failure_of_refusal};
 ghost use Rattle.judge_core.specs.Accepts.{Accepts};
-ghost use Rattle.judge_core.specs.Framing.{OnePerSlot, ListsSaid};
-ghost use Rattle.transcript_form.specs.Transcript.{check_told, claim_name};
-ghost use Rattle.judge_core.specs.Checks.{equivocation_judged, judged, spoken};
+ghost use Rattle.judge_core.specs.Checks.{case_of, conviction_of, heard_of, is_asked, is_decided, judgement_of, printed_judgement_of, said_of};
+ghost use Rattle.judge_core.specs.Framing.{GivesNoGround, ListsSaid};
 
+use crate::failed_check::FailedCheck;
 use group_roster::Roster;
 use phase_message::Header;
-use signed_post::{check_parts, unframed};
+use signed_post::{PostRefusal, check_parts, unframed};
 use std::alloc::Global;
-use transcript_form::{Claim, FailedCheck, Refused, read_listed};
+use transcript_form::{Claim, FailedForm, ListedPosts, Refused, read_claim, read_listed};
 
 /// What a transcript shows.
 #[derive(Clone, Copy, Debug, PartialEq, Eq)]
@@ -23,8 +24,25 @@ pub struct Accepted {
     pub claim: Claim,
 }
 
+// What is known before the first post.
+#[derive(Clone, Copy)]
+struct Case<'a> {
+    roster: &'a Roster,
+    claim: Claim,
+    accused: u8,
+    round: u64,
+}
+
+// A listed post that passes the seven checks before its body.
+#[derive(Clone, Copy)]
+struct Said<'a> {
+    header: Header,
+    content: &'a [u8],
+}
+
 /// Whom the bytes of a transcript convict under a roster, and of what. `Check` names the first check
-/// that they fail. Nothing is copied, and memory is never wanting so far.
+/// that they fail, as `FailedCheck` has them. Equivocation is decided so far: any other claim fails check 2
+/// at 5, before what follows it is looked at. Nothing is copied, and no memory is taken so far.
 ///
 /// It stands on no premise: what convicts is accepted, whoever wrote it down, and nothing else is. A
 /// member that never sent two contents in one slot of a round is not convicted of it, unless its
@@ -32,7 +50,7 @@ pub struct Accepted {
 pub fn judge(_alloc: Global, roster: &Roster, bytes: &[u8]) -> Result<Accepted, Refused>
     requires form { IsRosterForm roster.now }
     requires few { length bytes.now < 2 ^ 32 }
-    ensures exact { Gives check_told (λ a. a) result (judged roster.now bytes.now) }
+    ensures exact { Gives failure_of_refusal (λ a. a) result (printed_judgement_of roster.now bytes.now) }
     ensures memory { result ≢ Err Refused.Memory }
 
     // What is accepted convicts, and what convicts is accepted.
@@ -40,101 +58,119 @@ pub fn judge(_alloc: Global, roster: &Roster, bytes: &[u8]) -> Result<Accepted, 
     ensures only { (accused : ℕ) (claim : Claim) → Accepts roster.now bytes.now accused claim →
         result ≡ Ok record { accused = accused; claim = claim } }
 
-    // Whoever sent each listed post that is its own, and one content for each slot, is not accused.
-    ensures no_framing { IfOk result (λ a. (sent : List (List ℕ)) → OnePerSlot sent →
+    // Whoever sent each listed post that is its own, and no content that gives ground for the claim, is not accused.
+    ensures no_framing { IfOk result (λ a. (sent : List (List ℕ)) → GivesNoGround a.claim sent →
         ListsSaid roster.now bytes.now a.accused sent → ⊥) }
 {
-    match convicted(roster, bytes) {
+    match judgement(roster, bytes) {
         Ok(accepted) => Ok(accepted),
         Err(failed) => Err(Refused::from(failed)),
     }
 }
 
-#[tactic(auto, unfolding(crate::specs::Checks::judged))]
-fn convicted(roster: &Roster, bytes: &[u8]) -> Result<Accepted, FailedCheck>
+#[tactic(auto, unfolding(crate::specs::Checks::judgement_of))]
+fn judgement(roster: &Roster, bytes: &[u8]) -> Result<Accepted, FailedCheck>
     requires form { IsRosterForm roster.now }
     requires few { length bytes.now < 2 ^ 32 }
-    ensures { Gives (λ e. Some e) (λ a. a) result (judged roster.now bytes.now) }
+    ensures { Gives (λ e. Some e) (λ a. a) result (judgement_of roster.now bytes.now) }
 {
-    let listed = read_listed(roster.members(), bytes)?;
-    equivocation(
+    if !is_decided(read_claim(bytes)?) {
+        return Err(FailedCheck::Form(FailedForm::Form { at: 5 }));
+    }
+    let listed = read_listed(roster.shape(), bytes)?;
+    let case = Case {
         roster,
-        listed.round,
-        listed.accused,
-        listed.first,
-        listed.second,
-    )?;
+        claim: listed.claim,
+        accused: listed.accused,
+        round: listed.round,
+    };
+    convict(case, listed.posts)?;
     Ok(Accepted {
         accused: listed.accused,
         claim: listed.claim,
     })
 }
 
-// Whether two posts are of the accused, in one slot, and of different contents.
-#[tactic(auto, unfolding(crate::specs::Checks::equivocation_judged))]
-fn equivocation(
-    roster: &Roster,
-    round: u64,
-    accused: u8,
-    first: &[u8],
-    second: &[u8],
-) -> Result<(), FailedCheck>
-    requires { IsRosterForm roster.now }
-    ensures { Gives (λ e. Some e) (λ x. x) result (equivocation_judged roster.now round accused first.now second.now) }
+fn is_decided(claim: Claim) -> bool
+    ensures { result ≡ is_decided claim }
 {
-    let (first_header, first_content) = listed_post(roster, round, 1, first)?;
-    if first_header.sender != accused {
-        return Err(FailedCheck {
-            check: 5,
-            post: 1,
-            at: u32::from(first_header.stage),
-        });
+    claim == Claim::Equivocation
+}
+
+// Whether the listed posts are what the claim asks.
+fn convict(case: Case<'_>, posts: ListedPosts<'_>) -> Result<(), FailedCheck>
+    requires form { IsRosterForm case.roster.now }
+    requires decided { IsTrue (is_decided case.claim) }
+    requires count { length posts ≡ claim_posts (shape_of_roster case.roster.now) case.claim }
+    ensures { Gives (λ e. Some e) (λ x. x) result (conviction_of (case_of case.entry) posts.entry) }
+{
+    match case.claim {
+        Claim::Equivocation => equivocation(case, posts),
+        _ => unreachable!(),
     }
-    let (second_header, second_content) = listed_post(roster, round, 2, second)?;
-    if second_header.sender != accused || second_header.stage != first_header.stage {
-        return Err(FailedCheck {
-            check: 5,
-            post: 2,
-            at: u32::from(second_header.stage),
-        });
-    }
-    if first_content == second_content {
-        return Err(FailedCheck {
-            check: 8,
-            post: 2,
-            at: 0,
-        });
+}
+
+// Whether two posts are of the accused, in one slot, and of different contents.
+fn equivocation(case: Case<'_>, mut posts: ListedPosts<'_>) -> Result<(), FailedCheck>
+    requires form { IsRosterForm case.roster.now }
+    requires claim { case.claim ≡ Claim.Equivocation }
+    requires two { length posts ≡ 2 }
+    ensures { Gives (λ e. Some e) (λ x. x) result (conviction_of (case_of case.entry) posts.entry) }
+{
+    let (Some(first_post), Some(second_post)) = (posts.next(), posts.next()) else {
+        unreachable!()
+    };
+    let first = hear(case, None, 1, first_post)?;
+    let second = hear(case, Some(first.header), 2, second_post)?;
+    if first.content == second.content {
+        return Err(FailedCheck::Same);
     }
     Ok(())
 }
 
-// The header and the content of a listed post, by its number from 1.
-#[tactic(auto, unfolding(crate::specs::Checks::spoken))]
-fn listed_post<'a>(
-    roster: &Roster,
-    round: u64,
+// A listed post, by its number from 1, behind a first one with that header.
+#[tactic(auto, unfolding(crate::specs::Checks::heard_of))]
+fn hear<'a>(
+    case: Case<'_>,
+    first: Option<Header>,
     number: u32,
     bytes: &'a [u8],
-) -> Result<(Header, &'a [u8]), FailedCheck>
-    requires { IsRosterForm roster.now }
-    ensures { Gives (λ e. Some e) (λ x. (x.0, x.1.now)) result (spoken roster.now round number bytes.now) }
+) -> Result<Said<'a>, FailedCheck>
+    requires form { IsRosterForm case.roster.now }
+    ensures { Gives (λ e. Some e) said_of result (heard_of (case_of case.entry) first number bytes.now) }
 {
+    let refused = |refusal: PostRefusal| FailedCheck::Post {
+        post: number,
+        refusal,
+    };
     let parts = match unframed(bytes) {
         Ok(parts) => parts,
-        Err(_) => {
-            return Err(FailedCheck {
-                check: 4,
-                post: number,
-                at: 1,
-            });
-        }
+        Err(at) => return Err(refused(PostRefusal::Frame { at })),
     };
-    match check_parts(roster, round, parts) {
-        Ok(header) => Ok((header, parts.content)),
-        Err(refusal) => Err(FailedCheck {
-            check: 4,
+    let header = match check_parts(case.roster, case.round, parts) {
+        Ok(header) => header,
+        Err(refusal) => return Err(refused(refusal)),
+    };
+    if !is_asked(case.claim, case.accused, first, header) {
+        return Err(FailedCheck::Slot {
             post: number,
-            at: refusal.number(),
-        }),
+            stage: header.stage,
+        });
+    }
+    Ok(Said {
+        header,
+        content: parts.content,
+    })
+}
+
+// Whether the claim asks for a post with this header.
+fn is_asked(claim: Claim, accused: u8, first: Option<Header>, header: Header) -> bool
+    ensures { result ≡ is_asked claim accused first header }
+{
+    match (claim, first) {
+        (Claim::Equivocation, Some(first)) => {
+            header.sender == accused && header.stage == first.stage
+        }
+        _ => header.sender == accused,
     }
 }

@@ -3,10 +3,12 @@
 
 #[cfg(test)]
 mod evidence;
+mod failed_check;
 mod judging;
 mod laws;
 #[cfg(test)]
 mod stored_evidence;
 
+pub use failed_check::FailedCheck;
 pub use judging::{Accepted, judge};
 pub use laws::{checks_are_exact, nobody_is_framed};

@@ -1,48 +1,144 @@
-use crate::{Refused, read_transcript};
+ghost use Rattle.std.specs.Prelude.{◌<◌, ◌^◌, length};
 
-// The checks 1 to 3 of a transcript for a group of three.
+use super::*;
+use std::alloc::Global;
+use std::test::Fail;
+
+// Bytes of a transcript for a group of three, and the check of the form that they fail, with its offset.
+const FAILURES: [(&[u8], u32, u32); 20] = [
+    (b"", 1, 0),
+    (b"DST", 1, 3),
+    (b"DSTX\x01", 1, 3),
+    (b"DSTR\x02", 1, 4),
+    (b"DSTR\x01", 2, 5),
+    (b"DSTR\x01\0\x01", 2, 5),
+    (b"DSTR\x01\x07\x01", 2, 5),
+    (b"DSTR\x01\x01\0", 2, 6),
+    (b"DSTR\x01\x01\x04", 2, 6),
+    (b"DSTR\x01\x01\x03\0\0\0\0\0\0\0\x01\0", 2, 16),
+    (b"DSTR\x01\x01\x03\0\0\0\0\0\0\0\x01\0\0\0\x01", 3, 15),
+    (b"DSTR\x01\x02\x03\0\0\0\0\0\0\0\x01\0\0\0\x02", 3, 15),
+    (b"DSTR\x01\x03\x03\0\0\0\0\0\0\0\x01\0\0\0\x03", 3, 15),
+    (b"DSTR\x01\x04\x03\0\0\0\0\0\0\0\x01\0\0\0\x02", 3, 15),
+    (b"DSTR\x01\x05\x03\0\0\0\0\0\0\0\x01\0\0\0\x02", 3, 15),
+    // An accusation of 34 bytes stands before the number of posts, which is to be 16.
+    (b"DSTR\x01\x06\x03\0\0\0\0\0\0\0\x01\0\0\0\x10", 2, 19),
+    (
+        b"DSTR\x01\x06\x03\0\0\0\0\0\0\0\x01\x02\x03SeedSeedSeedSeedSeedSeedSeedSeed\0\0\0\x0f",
+        3,
+        49,
+    ),
+    (
+        b"DSTR\x01\x06\x03\0\0\0\0\0\0\0\x01\x02\x03SeedSeedSeedSeedSeedSeedSeedSeed\0\0\0\x10\0\0",
+        2,
+        55,
+    ),
+    (b"DSTR\x01\x01\x03\0\0\0\0\0\0\0\x01\0\0\0\x02\0\0\0", 2, 22),
+    (
+        b"DSTR\x01\x01\x03\0\0\0\0\0\0\0\x01\0\0\0\x02\0\0\0\0\0\0\0\0!",
+        2,
+        27,
+    ),
+];
+
 #[test]
-fn forms_of_transcripts(rt: HostRuntime) {
-    let cases = [
-        (b"DSTX\x01".as_slice(), 1, 3),
-        (b"DSTR\x02".as_slice(), 1, 4),
-        (b"DSTR\x01".as_slice(), 2, 5),
-        (b"DSTR\x01\0\x01".as_slice(), 2, 5),
-        (b"DSTR\x01\x02\x01".as_slice(), 2, 5),
-        (b"DSTR\x01\x07\x01".as_slice(), 2, 5),
-        (b"DSTR\x01\x01\0".as_slice(), 2, 6),
-        (b"DSTR\x01\x01\x04".as_slice(), 2, 6),
-        (b"DSTR\x01\x01\x03\0\0\0\0\0\0\0\x01\0".as_slice(), 2, 16),
-        (
-            b"DSTR\x01\x01\x03\0\0\0\0\0\0\0\x01\0\0\0\x01".as_slice(),
-            3,
-            15,
-        ),
-        (
-            b"DSTR\x01\x01\x03\0\0\0\0\0\0\0\x01\0\0\0\x03".as_slice(),
-            3,
-            15,
-        ),
-        (
-            b"DSTR\x01\x01\x03\0\0\0\0\0\0\0\x01\0\0\0\x02\0\0\0".as_slice(),
-            2,
-            22,
-        ),
-        (
-            b"DSTR\x01\x01\x03\0\0\0\0\0\0\0\x01\0\0\0\x02\0\0\0\0\0\0\0\0!".as_slice(),
-            2,
-            27,
-        ),
-    ];
-    for (bytes, want_check, want_at) in cases {
-        match read_transcript(rt.alloc(), 3, bytes) {
-            Err(Refused::Check { check, post, at }) => {
-                assert!(rt;
-                    check == want_check && post == 0 && at == want_at,
-                    "{check} at {at}"
-                );
-            }
-            _ => assert!(rt; false, "taken"),
+fn the_first_check_of_the_form_is_named(rt: HostRuntime) -> Result<(), Fail> {
+    let shape = Shape::new(1, 3).ok_or("no shape")?;
+    for (bytes, check, at) in FAILURES {
+        match read_transcript(rt.alloc(), shape, bytes) {
+            Err(refused) => assert_eq!(rt; refused, Refused::Check { check, post: 0, at }),
+            Ok(_) => assert!(rt; false, "taken"),
         }
     }
+    Ok(())
+}
+
+// A transcript of each claim for a group of two: the claim, its number and its name, and the bytes. The last lists
+// five posts of each member and one more.
+const CLAIMS: [(Claim, u8, &str, &[u8]); 6] = [
+    (
+        Claim::Equivocation,
+        1,
+        "Equivocation",
+        b"DSTR\x01\x01\x02\0\0\0\0\0\0\0\x09\0\0\0\x02\0\0\0\x03one\0\0\0\0",
+    ),
+    (
+        Claim::Malformed,
+        2,
+        "Malformed",
+        b"DSTR\x01\x02\x01\xff\xff\xff\xff\xff\xff\xff\xff\0\0\0\x01\0\0\0\x03one",
+    ),
+    (
+        Claim::WrongSeed,
+        3,
+        "WrongSeed",
+        b"DSTR\x01\x03\x02\0\0\0\0\0\0\0\x09\0\0\0\x02\0\0\0\x03one\0\0\0\x03two",
+    ),
+    (
+        Claim::BadLog,
+        4,
+        "BadLog",
+        b"DSTR\x01\x04\x02\0\0\0\0\0\0\0\x09\0\0\0\x01\0\0\0\x03one",
+    ),
+    (
+        Claim::Replay,
+        5,
+        "Replay",
+        b"DSTR\x01\x05\x02\0\0\0\0\0\0\0\x09\0\0\0\x02\0\0\0\x03one\0\0\0\x03two",
+    ),
+    (
+        Claim::Pad,
+        6,
+        "Pad",
+        b"DSTR\x01\x06\x02\0\0\0\0\0\0\0\x09\x01\x02SeedSeedSeedSeedSeedSeedSeedSeed\0\0\0\x0b\
+            \0\0\0\x011\0\0\0\x012\0\0\0\x013\0\0\0\x014\0\0\0\x015\0\0\0\x016\0\0\0\x017\0\0\0\x018\0\0\0\x019\
+            \0\0\0\x0210\0\0\0\x0211",
+    ),
+];
+
+// What bytes spell, spelled again.
+fn spelled_again(alloc: Global, shape: Shape, bytes: &[u8]) -> Result<Vec<u8>, Refused>
+    requires { length bytes.now < 2 ^ 32 }
+{
+    let transcript = read_transcript(alloc, shape, bytes)?;
+    Ok(write_transcript(alloc, &transcript)?)
+}
+
+#[test]
+fn a_transcript_of_each_claim_is_read_and_written(rt: HostRuntime) -> Result<(), Fail> {
+    let alloc = rt.alloc();
+    let shape = Shape::new(1, 2).ok_or("no shape")?;
+    for (claim, number, name, bytes) in CLAIMS {
+        assert_eq!(rt; claim.number(), number);
+        assert_eq!(rt; Claim::of_number(number), Some(claim));
+        assert_eq!(rt; claim.to_string(alloc)?.as_str(), name);
+        assert!(rt; bytes.len() < 1000);
+        assert_eq!(rt; read_claim(bytes), Ok(claim));
+        match read_transcript(alloc, shape, bytes) {
+            Ok(transcript) => {
+                assert_eq!(rt; transcript.claim, claim);
+                assert_eq!(rt; transcript.posts.items().len(), claim.posts(shape) as usize);
+                assert_eq!(rt; transcript.detail.is_some(), claim == Claim::Pad);
+            }
+            Err(refused) => assert!(rt; false, "{refused:?}"),
+        }
+        match spelled_again(alloc, shape, bytes) {
+            Ok(again) => assert_eq!(rt; again.as_slice(), bytes),
+            Err(refused) => assert!(rt; false, "{refused:?}"),
+        }
+    }
+    Ok(())
+}
+
+#[test]
+fn an_accusation_has_34_bytes(rt: HostRuntime) {
+    let accusation = Accusation {
+        slot: 1,
+        member: 2,
+        seed: *b"SeedSeedSeedSeedSeedSeedSeedSeed",
+    };
+    let bytes = b"\x01\x02SeedSeedSeedSeedSeedSeedSeedSeed";
+    assert_eq!(rt; accusation.encode(), *bytes);
+    assert_eq!(rt; Accusation::decode(bytes), Some(accusation));
+    assert_eq!(rt; Accusation::decode(&bytes[..33]), None);
 }

@@ -64,6 +64,13 @@ impl<'a> Cursor<'a> {
         self.rest.len() as u32
     }
 
+    /// The bytes to come, which stay to be read.
+    pub fn rest(&self) -> &'a [u8]
+        ensures { result.now ≡ self.now.rest }
+    {
+        self.rest
+    }
+
     /// The next `n` bytes, which are not copied. `Short` where fewer are left.
     pub fn bytes(&mut self, n: u32) -> Result<&'a [u8], Short>
         ensures read { Reads (λ x. x.now) result self.new (bytes_at n self.old) }

@@ -1,6 +1,6 @@
 use Rattle.std.proofs.Common.{arith}
 use Rattle.signed_post.proofs.Frames.{framed-fits}
-use Rattle.judge_core.proofs.judging.listed_post.Goals as goal
+use Rattle.judge_core.proofs.judging.hear.Goals as goal
 
 pub check_parts-requires-clause-least : goal.check_parts-requires-clause-least
 check_parts-requires-clause-least c =

@@ -1,0 +1,82 @@
+//! The checks of a transcript, by name.
+
+ghost use Rattle.std.specs.Prelude.{◌≡◌};
+ghost use Rattle.judge_core.specs.Failures.{failed_at, failed_number, failed_post};
+
+use signed_post::PostRefusal;
+use transcript_form::{FailedForm, Refused};
+
+/// The first check that a transcript fails, with what its numbers are made of.
+#[derive(Clone, Copy, Debug, PartialEq, Eq)]
+pub enum FailedCheck {
+    /// Checks 1 to 3: the bytes are no transcript, or the claim is none that is decided yet.
+    Form(FailedForm),
+    /// Check 4: a listed post is refused before a look at its body. Posts are numbered from 1.
+    Post { post: u32, refusal: PostRefusal },
+    /// Check 5: the sender or the stage of a listed post is not the claim's.
+    Slot { post: u32, stage: u8 },
+    /// Check 8: the contents that are to differ are equal.
+    Same,
+}
+
+impl FailedCheck {
+    /// The number of the check, from 1 to 17.
+    pub fn check(&self) -> u32
+        ensures { result ≡ failed_number self.now }
+    {
+        match self {
+            FailedCheck::Form(form) => form.check(),
+            FailedCheck::Post { .. } => 4,
+            FailedCheck::Slot { .. } => 5,
+            FailedCheck::Same => 8,
+        }
+    }
+
+    /// The number of the listed post where it fails, from 1; 0 where it fails at none.
+    pub fn post(&self) -> u32
+        ensures { result ≡ failed_post self.now }
+    {
+        match self {
+            FailedCheck::Form(form) => form.post(),
+            FailedCheck::Post { post, .. } | FailedCheck::Slot { post, .. } => *post,
+            FailedCheck::Same => 2,
+        }
+    }
+
+    /// Where it fails: for the checks 1 to 3 an offset, for 4 the number of the post's refusal, from 1 to 7,
+    /// for 5 the stage of the post, and for 8 it is 0.
+    pub fn at(&self) -> u32
+        ensures { result ≡ failed_at self.now }
+    {
+        match self {
+            FailedCheck::Form(form) => form.at(),
+            FailedCheck::Post { refusal, .. } => refusal.number(),
+            FailedCheck::Slot { stage, .. } => u32::from(*stage),
+            FailedCheck::Same => 0,
+        }
+    }
+}
+
+impl From<FailedForm> for FailedCheck {
+    ghost use Rattle.judge_core.specs.declared.failed_check.FailedCheck.TheVariants.{Form};
+
+    ghost from_gives = { λ failed e. e ≡ Form failed };
+
+    fn from(failed: FailedForm) -> FailedCheck {
+        FailedCheck::Form(failed)
+    }
+}
+
+impl From<FailedCheck> for Refused {
+    ghost use Rattle.transcript_form.specs.declared.refusal.Refused.TheVariants.{Check};
+
+    ghost from_gives = { λ failed e. e ≡ Check (failed_number failed) (failed_post failed) (failed_at failed) };
+
+    fn from(failed: FailedCheck) -> Refused {
+        Refused::Check {
+            check: failed.check(),
+            post: failed.post(),
+            at: failed.at(),
+        }
+    }
+}
