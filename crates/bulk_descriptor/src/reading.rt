@@ -1,6 +1,6 @@
 //! Reading descriptors.
 
-ghost use Rattle.std.specs.Prelude.{◌≡◌, ◌+◌, ◌*◌, ◌≤◌, ◌++◌, length, drop, take, IfOk, OnErr, OnOk, IsSome, IsTrue, ◌↔◌, nat_le};
+ghost use Rattle.std.specs.Prelude.{◌≡◌, ◌+◌, ◌*◌, ◌≤◌, ◌++◌, length, drop, take, IfOk, OnErr, OnOk, IsSome, IfSome, IsTrue, ◌↔◌, nat_le};
 ghost use Rattle.std.specs.List.{list_all};
 ghost use Rattle.std.specs.Option.{option_map};
 ghost use Rattle.ring_encrypt.specs.Reduced.{is_reduced};
@@ -26,6 +26,7 @@ const CAPSULE_BYTES: usize = 2240;
 /// coefficient of 12289 or more; that takes no memory.
 pub fn decode(alloc: Global, n: u8, bytes: &[u8]) -> Mem<Option<Descriptor>>
     ensures value { IfOk result (λ found. option_map description_of found ≡ descriptor_read n bytes.now) }
+    ensures members { IfOk result (λ found. IfSome found (λ d. length d.pad_hashes ≡ n)) }
     ensures memory { OnErr result (IsSome (descriptor_read n bytes.now)) }
 {
     if !is_descriptor(n, bytes) {

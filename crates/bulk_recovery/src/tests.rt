@@ -1,3 +1,5 @@
+ghost use Rattle.std.specs.Prelude.{◌≡◌, length, IfOk, IfSome};
+
 use super::*;
 use bulk_descriptor::decode;
 use std::alloc::{AllocError, Global};
@@ -14,7 +16,9 @@ const PAD_HASHES: [&[u8; 32]; 2] = [
 ];
 
 // A descriptor of one byte with these hashes, and capsules that nobody opens.
-fn descriptor(alloc: Global, message_hash: &[u8; 32]) -> Result<Option<Descriptor>, AllocError> {
+fn descriptor(alloc: Global, message_hash: &[u8; 32]) -> Result<Option<Descriptor>, AllocError>
+    ensures { IfOk result (λ found. IfSome found (λ d. length d.pad_hashes ≡ 2)) }
+{
     let mut bytes = [0, 0, 0, 1].to_vec(alloc)?;
     bytes.extend_from_slice(message_hash)?;
     bytes.extend_from_slice(PAD_HASHES[0])?;
@@ -24,10 +28,11 @@ fn descriptor(alloc: Global, message_hash: &[u8; 32]) -> Result<Option<Descripto
 }
 
 // The row of a member that sends this byte for the first slot and none for the second.
-fn row(alloc: Global, byte: u8) -> Result<List<List<u8>>, AllocError> {
-    let mut pads = Vec::new(alloc);
-    pads.push(List::of([byte].to_vec(alloc)?))?;
-    pads.push(List::of(Vec::new(alloc)))?;
+fn row(alloc: Global, byte: u8) -> Result<List<List<u8>>, AllocError>
+    ensures { IfOk result (λ row. length row ≡ 2) }
+{
+    let first = List::of([byte].to_vec(alloc)?);
+    let pads = vec![in alloc; first, List::of(Vec::new(alloc))]?;
     Ok(List::of(pads))
 }
 
@@ -36,16 +41,16 @@ fn state(
     alloc: Global,
     first: Option<Descriptor>,
     byte: u8,
-) -> Result<Option<SlotState>, AllocError> {
-    let mut rows = Vec::new(alloc);
-    rows.push(row(alloc, 0x0f)?)?;
-    rows.push(row(alloc, byte)?)?;
+) -> Result<Option<SlotState>, AllocError>
+    requires { IfSome first (λ d. length d.pad_hashes ≡ 2) }
+{
+    let one = row(alloc, 0x0f)?;
+    let two = row(alloc, byte)?;
+    let rows = vec![in alloc; one, two]?;
     let pads = PadTable {
         members: List::of(rows),
     };
-    let mut descriptors = Vec::new(alloc);
-    descriptors.push(first)?;
-    descriptors.push(None)?;
+    let descriptors = vec![in alloc; first, None]?;
     let mut states = recover(alloc, &descriptors, &pads)?;
     let _ = states.pop();
     Ok(states.pop())

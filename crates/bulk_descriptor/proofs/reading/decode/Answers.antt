@@ -1,6 +1,7 @@
-use Rattle.std.proofs.Common.{◌≡◌, ◌*◌, true, take, drop, sym, ap, ◌∙◌, arith}
+use Rattle.std.proofs.Common.{◌≡◌, ◌*◌, true, take, drop, length, List, ℕ, sym, ap, ◌∙◌, arith}
 use Rattle.std.proofs.lemmas.List.{drop-drop}
 use Rattle.bulk_descriptor.specs.Descriptor.{Description, is_descriptor}
+use Rattle.bulk_descriptor.proofs.PartLemmas.{length-parts_of}
 use Rattle.bulk_descriptor.proofs.SpellingLemmas.{Passes, passes, description_is, form_of, read_if_passed}
 use Rattle.bulk_descriptor.proofs.reading.decode.Goals as goal
 
@@ -43,3 +44,6 @@ returns-clause-value c =
     (description_is c.args.n bytes c.hash_in.result c.split_at-2.result.1.now c.split_at-3.result.1.now c.length_of.result c.of.result c.of-2.result c.length_of.ensures
     (c.hash_in.ensures ∙ c.split_at-2.ensures.front ∙ ap (take 32) c.split_at.ensures.back) (c.of.ensures ∙ c.in_ok-read_hashes.ensures)
     (c.split_at-2.ensures.back ∙ ap (drop 32) c.split_at.ensures.back ∙ drop-drop 32 4 bytes) (c.of-2.ensures ∙ c.in_ok-read_capsules.ensures) c.split_at-3.ensures.back)
+
+pub returns-clause-members : goal.returns-clause-members
+returns-clause-members c = ap (λ (l : List (List ℕ)). length l) (c.of.ensures ∙ c.in_ok-read_hashes.ensures) ∙ length-parts_of 32 c.args.n c.split_at-2.result.1.now
