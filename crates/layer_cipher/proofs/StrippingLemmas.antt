@@ -1,9 +1,8 @@
 -- A list with the outermost layer taken off every entry.
-use Rattle.std.proofs.Common.{◌≡◌, ℕ, zero, suc, ◌+◌, ◌<◌, List, [], ◌∷◌, ◌++◌, length, map, get_or, refl, sym, ap, ◌∙◌, arith, Option, Some, None, Any, IsPermutation}
+use Rattle.std.proofs.Common.{◌≡◌, ℕ, zero, suc, ◌<◌, List, [], ◌∷◌, ◌++◌, length, map, get_or, refl, sym, ap, ◌∙◌, arith, Option, Some, None, Any, IsPermutation}
 use Rattle.std.specs.List.{AllZip}
 use Rattle.std.specs.Option.{option_and_then, option_map}
 use Rattle.std.proofs.lemmas.List.Sorted.{IsPermutation-map}
-use Rattle.ring_encrypt.specs.Capsule.{key_of_seed}
 use Rattle.layer_cipher.specs.Layer.{Opens, peeled}
 use Rattle.layer_cipher.specs.Stripping.{stripped, HasBody, IsClosed, StripsExactly, StripsUnlessClosed, StripsAll, StripsInAnyOrder, KeyStrips}
 use Rattle.layer_cipher.proofs.LayerLemmas.{peels_exactly, key_peels}

@@ -1,5 +1,5 @@
 -- Swaps pass through a map, and so do rows of swaps.
-use Rattle.std.proofs.Common.{◌≡◌, ℕ, List, [], ◌∷◌, length, map, set, get_or, refl, sym, ap, ◌∙◌, subst, IsPermutation, swap, Option, Some}
+use Rattle.std.proofs.Common.{◌≡◌, ℕ, List, [], ◌∷◌, map, set, get_or, refl, sym, ap, ◌∙◌, subst, IsPermutation, swap}
 use Rattle.std.proofs.Math.ListN.{get_or-map, length-map}
 use Rattle.std.proofs.lemmas.List.{map-set}
 use Rattle.std.specs.List.Sorted.{apply_swaps, SwapsInRange}

@@ -3,6 +3,7 @@ use Rattle.std.specs.Prelude.{◌≡◌, ℕ, ◌+◌, ◌*◌, List, ◌∷◌,
 use Rattle.std.specs.List.{AllByRecursion}
 use Rattle.ring_encrypt.specs.Capsule.{key_of_seed}
 use Rattle.ring_encrypt.specs.Opening.{IsMessage}
+use Rattle.layer_cipher.specs.declared.sealing.TheConstants.{LAYER_BYTES}
 use Rattle.layer_cipher.specs.Layer.{layer_of, Opens, peeled, wrapping_of, opened_through}
 
 -- a seed finds exactly what makes the bytes a layer under its key
@@ -15,11 +16,11 @@ KeyPeels = (seed seed' layer : List ℕ) → key_of_seed seed ≡ key_of_seed se
 
 -- each layer adds 2,272 bytes
 abbrev pub LayerAdds : Type 0
-LayerAdds = (key m body : List ℕ) → length (layer_of key m body) ≡ length body + 2272
+LayerAdds = (key m body : List ℕ) → length (layer_of key m body) ≡ length body + LAYER_BYTES
 
 abbrev pub WrappingAdds : Type 0
 WrappingAdds = (keys ms : List (List ℕ)) (blob : List ℕ) → length keys ≡ length ms →
-    length (wrapping_of keys ms blob) ≡ length blob + 2272 * length keys
+    length (wrapping_of keys ms blob) ≡ length blob + LAYER_BYTES * length keys
 
 -- the seeds of all keys, in their order, find what each layer carries, and in the end the blob
 abbrev pub WrappedOpens : Type 0

@@ -6,8 +6,10 @@ use Rattle.wire_core.specs.declared.tag.Tag.TheVariants.{LayerStream, LayerTag}
 use Rattle.wire_core.specs.Hash.{hash_of}
 use Rattle.pad_stream.specs.Stream.{stream_of}
 use Rattle.pad_stream.specs.ExclusiveOr.{exclusive_or}
+use Rattle.ring_encrypt.specs.declared.TheConstants.{CAPSULE_BYTES}
 use Rattle.ring_encrypt.specs.Capsule.{key_of_seed, capsule_of}
 use Rattle.ring_encrypt.specs.Opening.{IsMessage, opened}
+use Rattle.layer_cipher.specs.declared.sealing.TheConstants.{LAYER_BYTES}
 
 -- a body under the mask that is drawn from m, or out from under it
 abbrev pub masked : List ℕ → List ℕ → List ℕ
@@ -26,8 +28,8 @@ pub record Opens (seed layer m body : List ℕ) : Type 0 where
 unfoldable pub peeled : List ℕ → List ℕ → Option (List ℕ × List ℕ)
 peeled seed layer =
     option_and_then (λ m.
-    let body = masked m (drop 2272 layer) in
-    if bytes_eq layer (layer_of (key_of_seed seed) m body) then Some (m, body) else None) (opened seed (take 2240 layer))
+    let body = masked m (drop LAYER_BYTES layer) in
+    if bytes_eq layer (layer_of (key_of_seed seed) m body) then Some (m, body) else None) (opened seed (take CAPSULE_BYTES layer))
 
 -- layer upon layer, the first key outermost
 unfoldable pub wrapping_of : List (List ℕ) → List (List ℕ) → List ℕ → List ℕ

@@ -6,13 +6,11 @@ ghost use Rattle.layer_cipher.specs.Peeling.{returned, Finds};
 
 use crate::mask::{check_value, mask};
 use crate::sealing::LAYER_BYTES;
-use ring_encrypt::{KeySeed, read_capsule};
+use ring_encrypt::{CAPSULE_BYTES, KeySeed, read_capsule};
 use std::alloc::{AllocError, Global};
 use wire_core::List;
 
-// How many bytes of a layer are its capsule, and its check value.
-const CAPSULE_BYTES: usize = 2240;
-
+// How many bytes of a layer are its check value.
 const CHECK_BYTES: usize = 32;
 
 /// What a seed finds in bytes.

@@ -39,7 +39,7 @@ pub fn wrap(
     blob: &[u8],
 ) -> Result<Vec<u8>, AllocError>
     requires as_many { vec_len keys.now ≡ vec_len seeds.now }
-    requires length { length blob.now + 2272 * vec_len keys.now < 2 ^ 32 }
+    requires length { length blob.now + LAYER_BYTES * vec_len keys.now < 2 ^ 32 }
     ensures { IfOk result (λ layers. layers.items ≡ wrapping_of keys.now.items seeds.now.items blob.now) }
 {
     let mut layers = Vec::from_slice(alloc, blob)?;

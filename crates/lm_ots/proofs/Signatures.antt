@@ -176,7 +176,8 @@ own_candidate key message =
     ap (λ (c : List ℕ). sha256 (key_string key.identifier key.q (chain_ends key.width key.identifier key.q (signed_string key.width (message_hash key.identifier key.q c message)) sig (chain_count key.width)))) (signature-laid_out key message).c_is
     ∙ ap (λ (x : List ℕ). sha256 (key_string key.identifier key.q x)) (own_chain_ends key message (chain_count key.width) (omega arith))
 
-type_number_small : (width : OtsType) → type_number width < 2 ^ 32
+-- the number of a type fits a word
+pub type_number_small : (width : OtsType) → type_number width < 2 ^ 32
 type_number_small W1 = omega arith
 type_number_small W2 = omega arith
 type_number_small W4 = omega arith

@@ -6,6 +6,7 @@ use Rattle.lm_ots.specs.declared.types.OtsType.{OtsType}
 use Rattle.lm_ots.specs.declared.types.OtsType.TheVariants.{W1, W2, W4, W8}
 use Rattle.lm_ots.specs.OneTime.{head_word, type_number, type_of_number, u32str}
 use Rattle.lm_ots.proofs.Words.{head_word-u32str, length-u32str, u32str-head_word}
+use Rattle.lm_ots.proofs.Signatures.{type_number_small}
 use Rattle.lms_tree.proofs.FourParts.{PartsAre, in_four_parts, of_four_parts}
 use Rattle.lms_tree.specs.declared.keys.KeyRefusal.{KeyRefusal}
 use Rattle.lms_tree.specs.declared.keys.KeyRefusal.TheVariants.{OtsKind}
@@ -40,12 +41,6 @@ tree_number_small H10 = omega arith
 tree_number_small H15 = omega arith
 tree_number_small H20 = omega arith
 tree_number_small H25 = omega arith
-
-pub type_number_small : (t : OtsType) → type_number t < 2 ^ 32
-type_number_small W1 = omega arith
-type_number_small W2 = omega arith
-type_number_small W4 = omega arith
-type_number_small W8 = omega arith
 
 -- the end of a string, as a slice gives it
 pub mid_to_end : (s : List ℕ) (at size : ℕ) → length s ≡ at + size → mid_of at size s ≡ drop at s

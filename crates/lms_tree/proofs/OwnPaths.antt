@@ -10,6 +10,7 @@ use Rattle.lm_ots.proofs.Signatures.{length-ots_signature, own_candidate, word-o
 use Rattle.lms_tree.specs.Secret.{OwnSignaturesAreValid, SecretParts, leaf_key, leaves, own_node, own_path, own_public, sibling}
 use Rattle.lms_tree.specs.Tree.{below, beside, height, leaf_string, node_string, root_of}
 use Rattle.lms_tree.proofs.Climbs.{climb_is_descent, on_way_up, root_is_one, side_is_bit}
+use Rattle.lms_tree.proofs.OwnTrees.{sibling_of_even, sibling_of_odd}
 
 -- ---- lengths
 
@@ -88,19 +89,13 @@ own_node-leaf s q node here =
     rw (here, place) refl
 
 -- a node over its two children, by one of these
-sibling_of_left : (child : ℕ) → child % 2 ≡ 0 → sibling child ≡ child + 1
-sibling_of_left child even = rw even refl
-
-sibling_of_right : (child : ℕ) → child % 2 ≡ 1 → sibling child ≡ child - 1
-sibling_of_right child odd = rw odd refl
-
 own_node-left : (s : SecretParts) (level child : ℕ) → child % 2 ≡ 0
     → own_node s (level + 1) (child / 2)
     ≡ sha256 (node_string s.identifier (child / 2) (own_node s level child) (own_node s level (sibling child)))
 unfolding own_node
 own_node-left s level child even =
     let left : 2 * (child / 2) ≡ child = omega arith in
-    rw (add-one, sibling_of_left child even, left) refl
+    rw (add-one, sibling_of_even child even, left) refl
 
 own_node-right : (s : SecretParts) (level child : ℕ) → child % 2 ≡ 1
     → own_node s (level + 1) (child / 2)
@@ -109,7 +104,7 @@ unfolding own_node
 own_node-right s level child odd =
     let right : 2 * (child / 2) + 1 ≡ child = omega arith in
     let left : 2 * (child / 2) ≡ child - 1 = omega arith in
-    rw (add-one, sibling_of_right child odd, right, left) refl
+    rw (add-one, sibling_of_odd child odd, right, left) refl
 
 -- the node of the path that stands beside a child of the way
 beside-own_way : (s : SecretParts) (q level child : ℕ) → level < height s.lms_type

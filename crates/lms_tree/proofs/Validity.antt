@@ -7,7 +7,8 @@ use Rattle.lm_ots.specs.declared.chains.OtsRefusal.{OtsRefusal}
 use Rattle.lm_ots.specs.declared.types.OtsType.{OtsType}
 use Rattle.lm_ots.specs.OneTime.{IsKind, candidate, head_word, ots_candidate, signature_bytes, type_number, u32str}
 use Rattle.lm_ots.proofs.Words.{head_word-take, head_word-u32str, length-u32str, u32str-head_word}
-use Rattle.lms_tree.proofs.KeyBytes.{tree_number_small, type_number_small}
+use Rattle.lm_ots.proofs.Signatures.{type_number_small}
+use Rattle.lms_tree.proofs.KeyBytes.{tree_number_small}
 use Rattle.lms_tree.proofs.FourParts.{PartsAre, in_four_parts, of_four_parts}
 use Rattle.lms_tree.specs.declared.keys.LmsPublic.{LmsPublic}
 use Rattle.lms_tree.specs.declared.verifier.LmsRefusal.{LmsRefusal}

@@ -1,6 +1,6 @@
 //! The verification of a signature (RFC 8554, section 5.4.2).
 
-ghost use Rattle.std.specs.Prelude.{◌≡◌, ◌<◌, ◌^◌, ◌↔◌, IfErr, IsOk, length};
+ghost use Rattle.std.specs.Prelude.{◌≡◌, ◌<◌, ◌≤◌, ◌^◌, ◌↔◌, IfErr, IsOk, IsTrue, length};
 ghost use Rattle.lms_tree.specs.Tree.{AcceptsValid, IsOtsKind, LmsValid, lms_bytes, lms_check, ots_part, path_part, type_part};
 ghost use Rattle.lm_ots.specs.OneTime.{head_word};
 
@@ -50,6 +50,21 @@ fn parts_of<'a>(key: &LmsPublic, sig: &'a [u8]) -> Parts<'a>
     }
 }
 
+// Whether a tree of this height has a leaf `q`.
+fn is_leaf(height: u32, q: u32) -> bool
+    requires { height ≤ 25 }
+    ensures { IsTrue result ↔ (q < 2 ^ height) }
+{
+    q < 1 << height
+}
+
+// Whether a climb led to the root of a key.
+fn is_root(key: &LmsPublic, computed: &[u8; 32]) -> bool
+    ensures { IsTrue result ↔ (computed.now ≡ key.now.root) }
+{
+    *computed == key.root
+}
+
 /// Verifies a signature of a message under a key (RFC 8554, section 5.4.2, algorithm 6). Its length
 /// is tested first, then the LM-OTS type, the LMS type, the leaf's number and the root.
 pub fn verify(key: &LmsPublic, message: &[u8], sig: &[u8]) -> Result<(), LmsRefusal>
@@ -77,11 +92,11 @@ pub fn verify(key: &LmsPublic, message: &[u8], sig: &[u8]) -> Result<(), LmsRefu
         });
     }
     let height = key.lms_type.height();
-    if q >= 1 << height {
+    if !is_leaf(height, q) {
         return Err(LmsRefusal::Leaf { q, height });
     }
     let computed = climb(&key.identifier, height, q, &k, parts.path);
-    if computed != key.root {
+    if !is_root(key, &computed) {
         return Err(LmsRefusal::Root {
             computed,
             kept: key.root,

@@ -2,11 +2,12 @@
 use Rattle.std.specs.Prelude.{ℕ, ◌+◌, ◌*◌, ◌/◌, ◌%◌, List, ℤ, pos, ◌-ℤ◌}
 use Rattle.std.specs.Int.{bit_at}
 pub use Rattle.pad_stream.specs.Stream.{word_of}
+use Rattle.ring_poly.specs.declared.TheConstants.{MODULUS}
 use Rattle.ring_poly.specs.Product.{by_place}
 
 -- a polynomial modulo 12289: each coefficient from a word of its own
 unfoldable pub uniform : List ℕ → List ℕ
-uniform key = by_place (λ c. word_of key c % 12289)
+uniform key = by_place (λ c. word_of key c % MODULUS)
 
 -- the difference of two neighbouring bits of a word: -1, 0 or 1
 abbrev pub trit_of : ℕ → ℕ → ℤ

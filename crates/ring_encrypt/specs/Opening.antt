@@ -3,9 +3,11 @@ use Rattle.std.specs.Prelude.{◌≡◌, ℕ, zero, suc, ◌+◌, ◌*◌, ◌^�
 use Rattle.std.specs.List.{range_with_len}
 use Rattle.std.specs.Str.{bytes_eq}
 use Rattle.wire_core.specs.Bytes.{IsBytes}
+use Rattle.ring_poly.specs.declared.TheConstants.{PACKED_BYTES}
 use Rattle.ring_poly.specs.Residue.{residue}
 use Rattle.ring_poly.specs.Product.{product_of}
 use Rattle.ring_poly.specs.Packing.{unpacked}
+use Rattle.ring_encrypt.specs.declared.TheConstants.{CAPSULE_BYTES}
 use Rattle.ring_encrypt.specs.PublicKey.{IsPublicKey}
 use Rattle.ring_encrypt.specs.Capsule.{secret_of, key_of_seed, capsule_of}
 
@@ -33,7 +35,7 @@ message_of v us = map (λ j. number_of_bits (λ i. opened_bit v us (8 * j + i)) 
 -- what the seed reads in a capsule, without a test
 unfoldable pub decoded : List ℕ → List ℕ → List ℕ
 decoded seed capsule =
-    message_of (unpacked (drop 1792 capsule)) (product_of (unpacked (take 1792 capsule)) (secret_of seed))
+    message_of (unpacked (drop PACKED_BYTES capsule)) (product_of (unpacked (take PACKED_BYTES capsule)) (secret_of seed))
 
 -- What a seed opens a capsule to: what it reads there, if that sealed under its key is this very capsule
 unfoldable pub opened : List ℕ → List ℕ → Option (List ℕ)
@@ -65,4 +67,4 @@ KeyIsPublicKey = (seed : List ℕ) → IsPublicKey (key_of_seed seed)
 
 -- a capsule has 2,240 bytes
 abbrev pub SealedIsAsLong : Type 0
-SealedIsAsLong = (key m : List ℕ) → length (capsule_of key m) ≡ 2240
+SealedIsAsLong = (key m : List ℕ) → length (capsule_of key m) ≡ CAPSULE_BYTES

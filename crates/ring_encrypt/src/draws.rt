@@ -7,16 +7,16 @@ ghost use Rattle.ring_poly.specs.Product.{IsTrit};
 use rand_chacha::ChaCha20Rng;
 use rand_core::SeedableRng;
 use rand_core::utils::NextWord;
-use ring_poly::{Poly, Ternary};
+use ring_poly::{DEGREE, MODULUS, Poly, Ternary};
 
 /// The polynomial that is drawn from a key: each coefficient is a word modulo 12289.
 pub(crate) fn draw_uniform(key: &[u8; 32]) -> Poly
     ensures { result ≡ uniform key.now }
 {
-    let words: [u32; 1024] = draw_words(key, 0);
-    let mut coefficients = [0; 1024];
-    for place in 0..1024 {
-        coefficients[place] = (words[place] % 12289) as u16;
+    let words: [u32; DEGREE] = draw_words(key, 0);
+    let mut coefficients = [0; DEGREE];
+    for place in 0..DEGREE {
+        coefficients[place] = (words[place] % MODULUS as u32) as u16;
     }
     Poly::of(coefficients)
 }
@@ -26,8 +26,8 @@ pub(crate) fn draw_ternary(key: &[u8; 32], place: u32) -> Ternary
     ensures { result ≡ ternary key.now place }
 {
     let words: [u32; 64] = draw_words(key, place);
-    let mut coefficients = [0; 1024];
-    for c in 0..1024 {
+    let mut coefficients = [0; DEGREE];
+    for c in 0..DEGREE {
         coefficients[c] = trit(words[c / 16], c % 16);
     }
     Ternary::of(coefficients)
@@ -35,7 +35,7 @@ pub(crate) fn draw_ternary(key: &[u8; 32], place: u32) -> Ternary
 
 // The words that are drawn from a key, from a place on.
 fn draw_words<const COUNT: usize>(key: &[u8; 32], place: u32) -> [u32; COUNT]
-    requires { COUNT ≤ 1024 }
+    requires { COUNT ≤ DEGREE }
     ensures words { EachIndex result (λ i. slice_index result i ≡ word_of key.now (place + i)) }
     ensures length { length result ≡ COUNT }
 {

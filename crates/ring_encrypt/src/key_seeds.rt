@@ -9,7 +9,7 @@ use crate::capsules::{Capsule, seal_seed};
 use crate::draws::{draw_ternary, draw_uniform};
 use crate::opening::read_message;
 use crate::public_keys::PublicKey;
-use ring_poly::{Ternary, add, mul, unpack, unpack_short};
+use ring_poly::{PACKED_BYTES, Ternary, add, mul, unpack, unpack_short};
 use std::marker::Model;
 use wire_core::{Register, Tag};
 
@@ -80,10 +80,10 @@ impl KeySeed {
         ensures refused { IfNone result ((key m : List ℕ) → c.now ≢ capsule_of key m) }
     {
         let bytes = c.bytes();
-        let Ok(u) = unpack(&bytes[..1792]) else {
+        let Ok(u) = unpack(&bytes[..PACKED_BYTES]) else {
             return None;
         };
-        let Ok(v) = unpack_short(&bytes[1792..]) else {
+        let Ok(v) = unpack_short(&bytes[PACKED_BYTES..]) else {
             return None;
         };
         Some(read_message(&v, &mul(&u, &self.secret)))

@@ -16,7 +16,10 @@ pub use capsules::{Capsule, read_capsule, seal_seed};
 pub use key_seeds::{KeySeed, is_key_of, open_seed, public_of};
 pub use laws::opening_laws;
 pub use public_keys::{PublicKey, read_key};
-pub use ring_poly::CoefficientTooLarge;
+pub use ring_poly::{CoefficientTooLarge, KEY_BYTES};
+
+/// How many bytes a capsule has: two packed lists of coefficients, of 1,024 and of 256.
+pub const CAPSULE_BYTES: usize = 2240;
 
 #[cfg(test)]
 mod tests;

@@ -6,14 +6,14 @@ ghost use Rattle.ring_poly.specs.Packing.{packed, unpacked, first_too_large};
 ghost use Rattle.ring_encrypt.specs.PublicKey.{IsPublicKey};
 
 use crate::bytes::join;
-use ring_poly::{CoefficientTooLarge, Poly, pack, unpack};
+use ring_poly::{CoefficientTooLarge, KEY_BYTES, Poly, pack, unpack};
 use std::marker::Model;
 
 /// A public key: 32 bytes from which a polynomial a is drawn, and 1,792 bytes that spell a
 /// polynomial b, of which each coefficient is below 12289. It may be the key of no seed.
 #[derive(Clone, Copy)]
 pub struct PublicKey {
-    bytes: [u8; 1824],
+    bytes: [u8; KEY_BYTES],
 }
 
 impl Model for PublicKey {
@@ -37,13 +37,13 @@ impl PublicKey {
         requires { IsPolynomial b.now }
         ensures { result ≡ rho.now ++ packed b.now }
     {
-        let mut bytes = [0; 1824];
+        let mut bytes = [0; KEY_BYTES];
         join(rho, &pack(b), &mut bytes);
         PublicKey { bytes }
     }
 
     /// The 1,824 bytes of the key.
-    pub fn bytes(&self) -> &[u8; 1824]
+    pub fn bytes(&self) -> &[u8; KEY_BYTES]
         ensures value { result.now ≡ self.now }
         ensures key { IsPublicKey self.now }
     {
@@ -73,7 +73,7 @@ impl PublicKey {
 /// The public key that 1,824 bytes spell. Refused where a coefficient is 12289 or more, by the
 /// least such coefficient, whose place is counted from 0.
 pub fn read_key(b: &[u8]) -> Result<PublicKey, CoefficientTooLarge>
-    requires { length b.now ≡ 1824 }
+    requires { length b.now ≡ KEY_BYTES }
     ensures ok { IsOk result ↔ IsPublicKey b.now }
     ensures value { IfOk result (λ key. key ≡ b.now) }
     ensures refusal { IfErr result (λ e. first_too_large 0 (unpacked (drop 32 b.now)) ≡ Some e) }
@@ -81,7 +81,7 @@ pub fn read_key(b: &[u8]) -> Result<PublicKey, CoefficientTooLarge>
     if let Err(refusal) = unpack(&b[32..]) {
         return Err(refusal);
     }
-    let mut bytes = [0; 1824];
+    let mut bytes = [0; KEY_BYTES];
     bytes.copy_from_slice(b);
     Ok(PublicKey { bytes })
 }

@@ -1,6 +1,7 @@
 -- Four coefficients of 14 bits in seven bytes.
 use Rattle.std.specs.Prelude.{ℕ, ◌+◌, ◌*◌, ◌/◌, ◌%◌, ◌^◌, List, [], ◌∷◌, ◌++◌, Option, Some, None, Result, Ok, Err, nat_lt, if◌then◌else◌}
 use Rattle.std.specs.Int.{bytes_low_first}
+use Rattle.ring_poly.specs.declared.TheConstants.{MODULUS}
 use Rattle.ring_poly.specs.declared.packing.CoefficientTooLarge.{CoefficientTooLarge}
 
 -- four coefficients as one number of 56 bits, the first lowest
@@ -29,7 +30,7 @@ unpacked _ = []
 abbrev pub first_too_large : ℕ → List ℕ → Option CoefficientTooLarge
 first_too_large place [] = None
 first_too_large place (c ∷ rest) =
-    if nat_lt c 12289 then first_too_large (place + 1) rest else Some (record { place = place; value = c })
+    if nat_lt c MODULUS then first_too_large (place + 1) rest else Some (record { place = place; value = c })
 
 abbrev pub unless_too_large : List ℕ → Option CoefficientTooLarge → Result (List ℕ) CoefficientTooLarge
 unless_too_large coefficients None = Ok coefficients

@@ -2,12 +2,13 @@
 use Rattle.std.specs.Prelude.{◌≡◌, ℕ, zero, suc, ◌+◌, ◌-◌, ◌<◌, ◌≤◌, List, length, map, slice_index, slice_index_or, All, ℤ, pos, ◌+ℤ◌, ◌-ℤ◌, unsigned_abs, neg_ℤ, nat_le, if◌then◌else◌}
 use Rattle.std.specs.List.{range_with_len}
 use Rattle.std.proofs.Math.IntN.{◌*ℤ◌}
+use Rattle.ring_poly.specs.declared.TheConstants.{DEGREE, MODULUS}
 use Rattle.ring_poly.specs.Residue.{residue}
 
 -- 1,024 numbers below 12289
 pub record IsPolynomial (f : List ℕ) : Type 0 where
-  pub length : length f ≡ 1024
-  pub reduced : All (λ c. c < 12289) f
+  pub length : length f ≡ DEGREE
+  pub reduced : All (λ c. c < MODULUS) f
 
 -- -1, 0 or 1
 abbrev pub IsTrit : ℤ → Type 0
@@ -15,12 +16,12 @@ IsTrit c = unsigned_abs c ≤ 1
 
 -- 1,024 numbers of -1, 0 and 1
 pub record IsTernary (g : List ℤ) : Type 0 where
-  pub length : length g ≡ 1024
+  pub length : length g ≡ DEGREE
   pub trits : All IsTrit g
 
 -- the 1,024 values F 0, F 1, .., F 1023
 unfoldable pub by_place : {X : Type 0} → (ℕ → X) → List X
-by_place F = map F (range_with_len 0 1024)
+by_place F = map F (range_with_len 0 DEGREE)
 
 -- the sum F 0 + F 1 + .. + F (n - 1)
 unfoldable pub total : ℕ → (ℕ → ℤ) → ℤ
@@ -37,11 +38,11 @@ convolution f g s = total (s + 1) (λ i. coefficient f (s - i) *ℤ coefficient 
 
 -- Place k of the product, not yet reduced: the sum of f[j] g[i] over i + j = k, less that over i + j = k + 1024.
 abbrev pub product_at : List ℤ → List ℤ → ℕ → ℤ
-product_at f g k = convolution f g k -ℤ convolution f g (k + 1024)
+product_at f g k = convolution f g k -ℤ convolution f g (k + DEGREE)
 
 -- place k of x^i f, for i up to 1,024: what is pushed past the top comes back at the bottom with its sign turned
 abbrev pub turned : List ℤ → ℕ → ℕ → ℤ
-turned f i k = if nat_le i k then coefficient f (k - i) else neg_ℤ (coefficient f (k + 1024 - i))
+turned f i k = if nat_le i k then coefficient f (k - i) else neg_ℤ (coefficient f (k + DEGREE - i))
 
 -- the product modulo 12289
 unfoldable pub product_of : List ℕ → List ℤ → List ℕ

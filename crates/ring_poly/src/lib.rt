@@ -14,5 +14,14 @@ pub use polynomials::{Poly, Ternary, is_ternary, residue_of};
 /// The modulus of the coefficients.
 pub const MODULUS: u16 = 12289;
 
+/// How many coefficients a polynomial has.
+pub const DEGREE: usize = 1024;
+
+/// How many bytes a packed polynomial has.
+pub const PACKED_BYTES: usize = 1792;
+
+/// How many bytes a public key has: 32, from which a polynomial is drawn, and a packed polynomial.
+pub const KEY_BYTES: usize = 1824;
+
 #[cfg(test)]
 mod tests;

@@ -4,8 +4,8 @@ ghost use Rattle.std.specs.Prelude.{◌≡◌, ◌*◌, ◌%◌, ◌^◌, ◌<�
 ghost use Rattle.ring_poly.specs.Product.{IsPolynomial};
 ghost use Rattle.ring_poly.specs.Packing.{packed, unpacked, read_packed, first_too_large, spelled_number};
 
-use crate::MODULUS;
 use crate::polynomials::Poly;
+use crate::{DEGREE, MODULUS, PACKED_BYTES};
 
 /// The least coefficient that is 12289 or more, and where it stands.
 #[derive(Clone, Copy, Debug, PartialEq, Eq)]
@@ -18,18 +18,18 @@ pub struct CoefficientTooLarge {
 
 /// The 1,792 bytes of a polynomial: for every four coefficients c0 to c3 the seven bytes of the number
 /// c0 + c1 * 2^14 + c2 * 2^28 + c3 * 2^42, the lowest byte first.
-pub fn pack(p: &Poly) -> [u8; 1792]
+pub fn pack(p: &Poly) -> [u8; PACKED_BYTES]
     ensures value { result ≡ packed p.now }
-    ensures length { length result ≡ 1792 }
+    ensures length { length result ≡ PACKED_BYTES }
 {
-    let mut bytes = [0; 1792];
+    let mut bytes = [0; PACKED_BYTES];
     pack_groups(p.coefficients(), &mut bytes);
     bytes
 }
 
 /// The 448 bytes of 256 coefficients, packed as those of a polynomial.
 pub fn pack_short(coefficients: &[u16; 256]) -> [u8; 448]
-    requires { All (λ c. c < 12289) coefficients.now }
+    requires { All (λ c. c < MODULUS) coefficients.now }
     ensures value { result ≡ packed coefficients.now }
     ensures length { length result ≡ 448 }
 {
@@ -41,11 +41,11 @@ pub fn pack_short(coefficients: &[u16; 256]) -> [u8; 448]
 /// The polynomial that 1,792 bytes spell. A coefficient of 12289 or more is refused, the least place first, so each
 /// polynomial has one spelling, that of `pack`.
 pub fn unpack(bytes: &[u8]) -> Result<Poly, CoefficientTooLarge>
-    requires { length bytes.now ≡ 1792 }
+    requires { length bytes.now ≡ PACKED_BYTES }
     ensures value { result ≡ read_packed bytes.now }
     ensures polynomial { IfOk result IsPolynomial }
 {
-    let mut coefficients = [0; 1024];
+    let mut coefficients = [0; DEGREE];
     unpack_groups(bytes, &mut coefficients);
     refuse_too_large(&coefficients)?;
     Ok(Poly::of(coefficients))
@@ -56,7 +56,7 @@ pub fn unpack_short(bytes: &[u8]) -> Result<[u16; 256], CoefficientTooLarge>
     requires { length bytes.now ≡ 448 }
     ensures value { result ≡ read_packed bytes.now }
     ensures length { IfOk result (λ c. length c ≡ 256) }
-    ensures reduced { IfOk result (All (λ c. c < 12289)) }
+    ensures reduced { IfOk result (All (λ c. c < MODULUS)) }
 {
     let mut coefficients = [0; 256];
     unpack_groups(bytes, &mut coefficients);
@@ -68,7 +68,7 @@ pub fn unpack_short(bytes: &[u8]) -> Result<[u16; 256], CoefficientTooLarge>
 fn pack_groups(coefficients: &[u16], bytes: &mut [u8])
     requires whole { length coefficients.now % 4 ≡ 0 }
     requires room { 4 * length bytes.old ≡ 7 * length coefficients.now }
-    requires reduced { All (λ c. c < 12289) coefficients.now }
+    requires reduced { All (λ c. c < MODULUS) coefficients.now }
     ensures { bytes.new ≡ packed coefficients.now }
 {
     for group in 0..coefficients.len() / 4 {
@@ -81,7 +81,7 @@ fn pack_groups(coefficients: &[u16], bytes: &mut [u8])
 fn pack_group(coefficients: &[u16], bytes: &mut [u8])
     requires coefficients { length coefficients.now ≡ 4 }
     requires bytes { length bytes.old ≡ 7 }
-    requires reduced { All (λ c. c < 12289) coefficients.now }
+    requires reduced { All (λ c. c < MODULUS) coefficients.now }
     ensures { bytes.new ≡ packed coefficients.now }
 {
     let number = u64::from(coefficients[0])
@@ -131,7 +131,7 @@ fn number_of(bytes: &[u8]) -> u64
 fn refuse_too_large(coefficients: &[u16]) -> Result<(), CoefficientTooLarge>
     requires { length coefficients.now < 2 ^ 32 }
     ensures value { MatchResult result (λ _. first_too_large 0 coefficients.now ≡ None) (λ e. first_too_large 0 coefficients.now ≡ Some e) }
-    ensures reduced { OnOk result (All (λ c. c < 12289) coefficients.now) }
+    ensures reduced { OnOk result (All (λ c. c < MODULUS) coefficients.now) }
 {
     for (place, coefficient) in coefficients.iter().enumerate() {
         if !is_coefficient(*coefficient) {
@@ -146,7 +146,7 @@ fn refuse_too_large(coefficients: &[u16]) -> Result<(), CoefficientTooLarge>
 
 /// Whether a number is below 12289.
 fn is_coefficient(number: u16) -> bool
-    ensures { IsTrue result ↔ (number < 12289) }
+    ensures { IsTrue result ↔ (number < MODULUS) }
 {
     number < MODULUS
 }

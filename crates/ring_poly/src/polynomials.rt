@@ -4,13 +4,13 @@ ghost use Rattle.std.specs.Prelude.{◌≡◌, ◌<◌, ◌≤◌, ◌↔◌, Al
 ghost use Rattle.ring_poly.specs.Residue.{residue};
 ghost use Rattle.ring_poly.specs.Product.{IsPolynomial, IsTernary, IsTrit, coefficient};
 
-use crate::MODULUS;
+use crate::{DEGREE, MODULUS};
 use std::marker::Model;
 
 /// A polynomial: 1,024 coefficients below 12289, the lowest first.
 #[derive(Clone, Copy, Debug, PartialEq, Eq)]
 pub struct Poly {
-    coefficients: [u16; 1024],
+    coefficients: [u16; DEGREE],
 }
 
 impl Model for Poly {
@@ -28,8 +28,8 @@ impl Model for Poly {
 
 impl Poly {
     /// The polynomial with these coefficients.
-    pub fn of(coefficients: [u16; 1024]) -> Poly
-        requires { All (λ c. c < 12289) coefficients }
+    pub fn of(coefficients: [u16; DEGREE]) -> Poly
+        requires { All (λ c. c < MODULUS) coefficients }
         ensures value { result ≡ coefficients }
         ensures polynomial { IsPolynomial result }
     {
@@ -38,16 +38,16 @@ impl Poly {
 
     /// The coefficient at `x^place`, for a place below 1,024.
     pub fn get(&self, place: usize) -> u16
-        requires { place < 1024 }
+        requires { place < DEGREE }
         ensures value { result ≡ slice_index self.now place }
-        ensures reduced { result < 12289 }
+        ensures reduced { result < MODULUS }
         ensures polynomial { IsPolynomial self.now }
     {
         self.coefficients[place]
     }
 
     /// The 1,024 coefficients, the lowest first.
-    pub fn coefficients(&self) -> &[u16; 1024]
+    pub fn coefficients(&self) -> &[u16; DEGREE]
         ensures value { result.now ≡ self.now }
         ensures polynomial { IsPolynomial self.now }
     {
@@ -58,7 +58,7 @@ impl Poly {
 /// A polynomial of 1,024 coefficients of -1, 0 and 1, the lowest first.
 #[derive(Clone, Copy, Debug, PartialEq, Eq)]
 pub struct Ternary {
-    coefficients: [i8; 1024],
+    coefficients: [i8; DEGREE],
 }
 
 impl Model for Ternary {
@@ -76,7 +76,7 @@ impl Model for Ternary {
 
 impl Ternary {
     /// The polynomial with these coefficients, which `is_ternary` tests.
-    pub fn of(coefficients: [i8; 1024]) -> Ternary
+    pub fn of(coefficients: [i8; DEGREE]) -> Ternary
         requires { All IsTrit coefficients }
         ensures value { result ≡ coefficients }
         ensures ternary { IsTernary result }
@@ -86,7 +86,7 @@ impl Ternary {
 
     /// The coefficient at `x^place`, for a place below 1,024.
     pub fn get(&self, place: usize) -> i8
-        requires { place < 1024 }
+        requires { place < DEGREE }
         ensures value { result ≡ coefficient self.now place }
         ensures trit { IsTrit result }
         ensures ternary { IsTernary self.now }
@@ -95,7 +95,7 @@ impl Ternary {
     }
 
     /// The 1,024 coefficients, the lowest first.
-    pub fn coefficients(&self) -> &[i8; 1024]
+    pub fn coefficients(&self) -> &[i8; DEGREE]
         ensures value { result.now ≡ self.now }
         ensures ternary { IsTernary self.now }
     {
@@ -109,8 +109,8 @@ impl Ternary {
         ensures ternary { IsTernary self.now }
     {
         let own = self.coefficients();
-        let mut residues = [0; 1024];
-        for place in 0..1024 {
+        let mut residues = [0; DEGREE];
+        for place in 0..DEGREE {
             residues[place] = residue_of(i32::from(own[place]));
         }
         Poly::of(residues)
@@ -120,13 +120,13 @@ impl Ternary {
 /// The number from 0 to 12288 that differs from `number` by a multiple of 12289.
 pub fn residue_of(number: i32) -> u16
     ensures value { result ≡ residue number }
-    ensures reduced { result < 12289 }
+    ensures reduced { result < MODULUS }
 {
     number.rem_euclid(MODULUS as i32) as u16
 }
 
 /// Whether all of 1,024 numbers are -1, 0 or 1.
-pub fn is_ternary(coefficients: &[i8; 1024]) -> bool
+pub fn is_ternary(coefficients: &[i8; DEGREE]) -> bool
     ensures { IsTrue result ↔ All IsTrit coefficients.now }
 {
     coefficients.iter().all(|c| *c >= -1 && *c <= 1)

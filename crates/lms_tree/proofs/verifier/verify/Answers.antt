@@ -1,6 +1,5 @@
 -- Each answer is what the check gives, and the check decides validity.
 use Rattle.std.proofs.Common.{◌≡◌, arith, drop, length, rules}
-use Rattle.std.proofs.lemmas.Grind.{common_steps}
 use Rattle.std.proofs.lemmas.List.{length-drop, length-take-le}
 use Rattle.lm_ots.specs.OneTime.{signature_bytes}
 use Rattle.lms_tree.proofs.Validity.{decided, refused_by_kind}
@@ -35,22 +34,22 @@ pub returns-then-parts-expected-clause-valid : goal.returns-then-parts-expected-
 returns-then-parts-expected-clause-valid c =
     decided c.args.key.now c.args.message.now c.args.sig.now _ (λ i. (c.type_inv.sig i).fits) (returns-then-parts-expected-clause-answer c)
 
-pub returns-then-q-height-clause-answer : goal.returns-then-q-height-clause-answer
-returns-then-q-height-clause-answer c = search rules
+pub returns-then-not-is_leaf-clause-answer : goal.returns-then-not-is_leaf-clause-answer
+returns-then-not-is_leaf-clause-answer c = search rules
 
-pub returns-then-q-height-clause-valid : goal.returns-then-q-height-clause-valid
-returns-then-q-height-clause-valid c =
-    decided c.args.key.now c.args.message.now c.args.sig.now _ (λ i. (c.type_inv.sig i).fits) (returns-then-q-height-clause-answer c)
+pub returns-then-not-is_leaf-clause-valid : goal.returns-then-not-is_leaf-clause-valid
+returns-then-not-is_leaf-clause-valid c =
+    decided c.args.key.now c.args.message.now c.args.sig.now _ (λ i. (c.type_inv.sig i).fits) (returns-then-not-is_leaf-clause-answer c)
 
-pub returns-then-ne-clause-answer : goal.returns-then-ne-clause-answer
-returns-then-ne-clause-answer c = grind (arith, common_steps)
+pub returns-then-not-is_root-clause-answer : goal.returns-then-not-is_root-clause-answer
+returns-then-not-is_root-clause-answer c = search rules
 
-pub returns-then-ne-clause-valid : goal.returns-then-ne-clause-valid
-returns-then-ne-clause-valid c =
-    decided c.args.key.now c.args.message.now c.args.sig.now _ (λ i. (c.type_inv.sig i).fits) (returns-then-ne-clause-answer c)
+pub returns-then-not-is_root-clause-valid : goal.returns-then-not-is_root-clause-valid
+returns-then-not-is_root-clause-valid c =
+    decided c.args.key.now c.args.message.now c.args.sig.now _ (λ i. (c.type_inv.sig i).fits) (returns-then-not-is_root-clause-answer c)
 
 pub returns-clause-answer : goal.returns-clause-answer
-returns-clause-answer c = grind (arith, common_steps)
+returns-clause-answer c = search rules
 
 pub returns-clause-valid : goal.returns-clause-valid
 returns-clause-valid c =
