@@ -8,10 +8,11 @@ use Rattle.transcript_form.specs.declared.refusal.Refused.{Refused}
 use Rattle.transcript_form.specs.declared.refusal.Refused.TheVariants.{Check, Memory as JudgeMemory}
 use Rattle.group_roster.specs.declared.roster.RosterRefusal.{RosterRefusal}
 use Rattle.group_roster.specs.declared.roster.RosterRefusal.TheVariants.{Bad, Memory as RosterMemory}
-use Rattle.key_store.specs.Disk.{Rose}
+use Rattle.outside.specs.Faults.{Rose, counted}
 use Rattle.dissent.specs.Outside.{Held, Shows}
 use Rattle.dissent.specs.Refusals.{RefusesRoster, RefusesTranscript, roster_status, judge_status}
-use Rattle.dissent.specs.Outcome.{Yields, within, and_then, or_bad_roster, or_refused}
+use Rattle.dissent.specs.Outcome.{Yields, within, or_bad_roster, or_refused}
+use Rattle.wire_core.specs.Answers.{◌>>=◌}
 use Rattle.dissent.proofs.Reading.{some_file}
 
 -- a file was read, or why not
@@ -22,10 +23,10 @@ Reads fault told name limit answer = (file : Option (List ℕ)) × Shows told na
 abbrev pub outcome_by : (V A : Type 0) → ℕ → (A → List ℕ) → (List ℕ → Result V (ℕ × ℕ)) → (V → List ℕ → Result A Failure)
     → Option (List ℕ) → Option (List ℕ) → Result (List ℕ) Status
 outcome_by V A limit line read_roster judge_bytes roster_file second_file =
-    and_then (within 4096 roster_file) (λ bytes.
-    and_then (or_bad_roster (read_roster bytes)) (λ roster.
-    and_then (within limit second_file) (λ read.
-    or_refused line (judge_bytes roster read))))
+    within 4096 roster_file >>= λ bytes.
+    or_bad_roster (read_roster bytes) >>= λ roster.
+    within limit second_file >>= λ read.
+    or_refused line (judge_bytes roster read)
 
 -- a fault of the second call is one of both
 pub rose_earlier : (first second third : ℕ) → first ≤ second → Rose second third → Rose first third
@@ -69,14 +70,14 @@ module _ (V A : Type 0) (limit : ℕ) (line : A → List ℕ) (read_roster : Lis
 
   -- after the roster file was read
   at_roster : (file second : Option (List ℕ)) (bytes : List ℕ) → within 4096 file ≡ Ok bytes
-      → outcome_by V A limit line read_roster judge_bytes file second ≡ and_then (or_bad_roster (read_roster bytes)) (λ value.
-      and_then (within limit second) (λ read. or_refused line (judge_bytes value read)))
+      → outcome_by V A limit line read_roster judge_bytes file second ≡ (or_bad_roster (read_roster bytes) >>= λ value.
+      within limit second >>= λ read. or_refused line (judge_bytes value read))
   at_roster file second bytes is = rw is
 
   -- after the roster was decoded
   at_transcript : (file second : Option (List ℕ)) (bytes : List ℕ) (value : V) → within 4096 file ≡ Ok bytes
       → read_roster bytes ≡ Ok value
-      → outcome_by V A limit line read_roster judge_bytes file second ≡ and_then (within limit second) (λ read. or_refused line (judge_bytes value read))
+      → outcome_by V A limit line read_roster judge_bytes file second ≡ (within limit second >>= λ read. or_refused line (judge_bytes value read))
   at_transcript file second bytes value is decoded = at_roster file second bytes is ∙ (rw decoded)
 
   -- after the transcript was read

@@ -1,10 +1,20 @@
 -- What the promises of each status follow from: an answer that was come to, and its printing.
-use Rattle.std.proofs.Common.{◌≡◌, ◌≢◌, ◌⊎◌, inl, inr, refl, sym, ◌∙◌, ap, subst, ℕ, List, length, Option, Some, None, Result, Ok, Err, IsSomeAnd, IsSome, Bool, true, false, nat_lt, if◌then◌else◌}
+use Rattle.std.proofs.Common.{◌≡◌, ◌≢◌, ◌⊎◌, [], ◌∷◌, inl, inr, refl, sym, ◌∙◌, ap, subst, ℕ, List, length, Option, Some, None, Result, Ok, Err, IsSomeAnd, IsSome, Bool, true, false, nat_lt, if◌then◌else◌}
+use Rattle.std.specs.Prelude.{map, Any, IfSome, IfOk, option_map}
+use Rattle.wire_core.specs.Answers.{◌>>=◌}
+use Rattle.outside.specs.Changes.{Change, Failed}
+use Rattle.dissent.specs.declared.words.Command.TheVariants.{Judge, Show, Keygen}
+use Rattle.dissent.specs.Outside.{Held, Shows, IsMissing, Gains}
+use Rattle.dissent.specs.Command.{Request, requested}
+use Rattle.dissent.specs.Outcome.{Input, inputs_of, reads_of, Yields, YieldsOr, YieldsBy, Tells, MayTell, Stood, known_files, Misses, within, or_bad_roster, or_refused, judge_outcome, show_outcome, keygen_outcome, outcome_of, accepted_line}
+use Rattle.dissent.specs.Delivery.{Delivers, status_of, text_of}
+use Rattle.dissent.specs.Promise.{Asked, request_in, MakesKey, AnswersRequest, Answers, expected_of, expected_in, FaultOf, IsStatusOf, IsWhole, FilesConvict, FilesShow, IsMade, BearsOutRequest, BearsOut, OnOutput, PrintsOutput, IsAnswered, IsPrinted}
+use Rattle.lm_ots.specs.declared.types.OtsType.{OtsType}
+use Rattle.lms_tree.specs.declared.secrets.MadeHeight.{MadeHeight}
+use Rattle.std.proofs.Common.{◌≤◌, arith, lit<}
 use Rattle.dissent.specs.declared.status.Status.{Status}
 use Rattle.dissent.specs.declared.status.Status.TheVariants.{Done, Usage, Refused, ReadFault, WriteFault, DiskFault, BadRoster, TooLong, OutOfMemory}
 use Rattle.judge_core.specs.declared.judging.Accepted.{Accepted}
-use Rattle.dissent.specs.Outside.{Held, Shows, IsMissing, Gains}
-use Rattle.dissent.specs.Command.{Request, judge, show, keygen}
 use Rattle.transcript_form.specs.Refusals.{Failure}
 use Rattle.group_roster.specs.declared.roster.Roster.{Roster}
 use Rattle.group_roster.specs.Roster.{roster_read, IsRosterFile, roster_spelling}
@@ -12,10 +22,7 @@ use Rattle.phase_message.specs.declared.content.Content.{Content}
 use Rattle.judge_core.specs.Checks.{printed_judgement_of}
 use Rattle.signed_post.specs.Admission.{IsPostFile}
 use Rattle.dissent.specs.Show.{file_checked, shown_line}
-use Rattle.dissent.specs.Outcome.{Yields, YieldsOr, Answers, RequestMisses, within, and_then, or_bad_roster, or_refused, judge_outcome, show_outcome, keygen_outcome, accepted_line}
-use Rattle.dissent.specs.Delivery.{Delivers, status_of, text_of}
 use Rattle.dissent.proofs.Commands.{outcome_by}
-use Rattle.dissent.specs.Promise.{IsToldStatus, IsStatusOf, IsWhole, IsComplete, FilesConvict, FilesShow, OnOutput, PrintsOutput}
 use Rattle.group_roster.specs.declared.roster.RosterRefusal.{RosterRefusal}
 use Rattle.group_roster.specs.declared.roster.RosterRefusal.TheVariants.{Bad, Memory as RosterMemory}
 use Rattle.transcript_form.specs.declared.refusal.Refused.{Refused as JudgeRefusal}
@@ -26,10 +33,10 @@ use Rattle.judge_core.specs.Framing.{GivesNoGround, ListsSaid}
 
 -- The statuses that a command may be refused with.
 
-and_then-err : {A B : Type 0} (first : Result A Status) (next : A → Result B Status) (status : Status) → and_then first next ≡ Err status
+bind-err : {A B : Type 0} (first : Result A Status) (next : A → Result B Status) (status : Status) → (first >>= next) ≡ Err status
     → (first ≡ Err status) ⊎ ((value : A) × (next value ≡ Err status))
-and_then-err (Ok value) next status h = inr (value, h)
-and_then-err (Err refusal) next status h = let e : refusal ≡ status = cc in inl (ap Err e)
+bind-err (Ok value) next status h = inr (value, h)
+bind-err (Err refusal) next status h = let e : refusal ≡ status = cc in inl (ap Err e)
 
 long_or_not : (long : Bool) (limit : ℕ) (bytes : List ℕ) (P : Status → Type 0) → P (TooLong limit) → (status : Status)
     → (if long then Err (TooLong limit) else Ok bytes) ≡ Err status → P status
@@ -57,11 +64,11 @@ outcome_cases : (V A : Type 0) (most : ℕ) (line : A → List ℕ) (read_roster
     → ((limit : ℕ) → P (TooLong limit)) → ((at rule : ℕ) → P (BadRoster at rule)) → ((check post at : ℕ) → P (Refused check post at))
     → (status : Status) → outcome_by V A most line read_roster judge_bytes file second ≡ Err status → P status
 outcome_cases V A most line read_roster judge_bytes file second P missing missing' long bad refused status h =
-    elim (and_then-err (within 4096 file) _ status h) [
+    elim (bind-err (within 4096 file) _ status h) [
       | inl e ↦ within_cases 4096 file P missing (long 4096) status e
-      | inr p ↦ elim (and_then-err (or_bad_roster (read_roster p.0)) _ status p.1) [
+      | inr p ↦ elim (bind-err (or_bad_roster (read_roster p.0)) _ status p.1) [
         | inl e ↦ bad_cases (read_roster p.0) P bad status e
-        | inr q ↦ elim (and_then-err (within most second) _ status q.1) [
+        | inr q ↦ elim (bind-err (within most second) _ status q.1) [
           | inl e ↦ within_cases most second P missing' (long most) status e
           | inr r ↦ refused_cases line (judge_bytes q.0 r.0) P refused status r.1
         ]
@@ -74,87 +81,6 @@ err_of : (answer : Result (List ℕ) Status) (status : Status) → status_of ans
 err_of (Ok output) status h other = absurd (other (sym h))
 err_of (Err refusal) status h other = ap Err h
 
--- the answer of a command on files that tell is that of the definition
-judge_yields : (fault : Type 0) (held : Held) (roster transcript : List ℕ) (file second : Option (List ℕ)) (answer : Result (List ℕ) Status)
-    → held roster ≡ file → held transcript ≡ second → Yields fault (judge_outcome file second) answer
-    → Yields fault (judge_outcome (held roster) (held transcript)) answer
-judge_yields fault held roster transcript file second answer shows shows' h =
-    let e : judge_outcome file second ≡ judge_outcome (held roster) (held transcript) = rw (shows, shows') in
-    let P : Result (List ℕ) Status → Type 0 = λ expected. Yields fault expected answer in
-    subst P e h
-
-show_yields : (fault : Type 0) (held : Held) (roster : List ℕ) (round : ℕ) (post : List ℕ) (file second : Option (List ℕ)) (answer : Result (List ℕ) Status)
-    → held roster ≡ file → held post ≡ second → Yields fault (show_outcome round file second) answer
-    → Yields fault (show_outcome round (held roster) (held post)) answer
-show_yields fault held roster round post file second answer shows shows' h =
-    let e : show_outcome round file second ≡ show_outcome round (held roster) (held post) = rw (shows, shows') in
-    let P : Result (List ℕ) Status → Type 0 = λ expected. Yields fault expected answer in
-    subst P e h
-
-told_status : (failed : Status) (fault write_fault : Type 0) (expected answer : Result (List ℕ) Status) (old new : Option (List ℕ)) (status : Status)
-    → YieldsOr failed fault expected answer → Delivers write_fault old new answer status
-    → IsStatusOf failed fault write_fault (status_of expected) status
-told_status failed fault write_fault expected answer old new status y (gained, gains, inl whole) = elim y [
-  | inl e ↦ inl (whole.0 ∙ ap status_of e)
-  | inr others ↦ elim others [
-    | inl e ↦ inr (inl (whole.0 ∙ ap status_of e))
-    | inr failure ↦ inr (inr (inl (whole.0 ∙ ap status_of failure.0, failure.1)))
-  ]
-]
-told_status failed fault write_fault expected answer old new status y (gained, gains, inr (inl unwritten)) =
-    inr (inr (inr (unwritten.0, unwritten.1)))
-told_status failed fault write_fault expected answer old new status y (gained, gains, inr (inr memory)) = inr (inl memory.0)
-
-pub promised_status : (read_fault disk_fault write_fault : Type 0) (told : Option Held) (master : List ℕ) (old new : Option (List ℕ))
-    (request : Option Request) (answer : Result (List ℕ) Status) (status : Status) → Answers read_fault disk_fault told master request answer
-    → Delivers write_fault old new answer status → IsToldStatus read_fault disk_fault write_fault told master request status
-promised_status read_fault disk_fault write_fault None master old new None answer status a d = tt
-promised_status read_fault disk_fault write_fault None master old new (Some (judge roster transcript)) answer status a d = tt
-promised_status read_fault disk_fault write_fault None master old new (Some (show roster round post)) answer status a d = tt
-promised_status read_fault disk_fault write_fault (Some held) master old new None answer status a d =
-    told_status ReadFault read_fault write_fault (Err Usage) answer old new status (inl a) d
-promised_status read_fault disk_fault write_fault (Some held) master old new (Some (judge roster transcript)) answer status (file, second, shows, shows', h) d =
-    told_status ReadFault read_fault write_fault (judge_outcome (held roster) (held transcript)) answer old new status
-    (judge_yields read_fault held roster transcript file second answer shows shows' h) d
-promised_status read_fault disk_fault write_fault (Some held) master old new (Some (show roster round post)) answer status (file, second, shows, shows', h) d =
-    told_status ReadFault read_fault write_fault (show_outcome round (held roster) (held post)) answer old new status
-    (show_yields read_fault held roster round post file second answer shows shows' h) d
-promised_status read_fault disk_fault write_fault told master old new (Some (keygen key height width)) answer status a d =
-    told_status DiskFault disk_fault write_fault (keygen_outcome master height width) answer old new status a d
-
-complete : (failed : Status) (fault write_fault : Type 0) (expected answer : Result (List ℕ) Status) (old new : Option (List ℕ)) (status : Status)
-    → YieldsOr failed fault expected answer → Delivers write_fault old new answer status
-    → IsWhole fault write_fault old new status expected
-complete failed fault write_fault (Err refusal) answer old new status y d = tt
-complete failed fault write_fault (Ok output) answer old new status y (gained, gains, inl whole) = λ no_fault no_write. elim y [
-  | inl e ↦ (let P : List ℕ → Type 0 = λ text. Gains old new text in
-      inl (whole.0 ∙ ap status_of e, subst P (whole.1 ∙ ap text_of e) gains))
-  | inr others ↦ elim others [
-    | inl e ↦ inr (whole.0 ∙ ap status_of e)
-    | inr failure ↦ absurd (no_fault failure.1)
-  ]
-]
-complete failed fault write_fault (Ok output) answer old new status y (gained, gains, inr (inl unwritten)) =
-    λ no_fault no_write. absurd (no_write unwritten.1)
-complete failed fault write_fault (Ok output) answer old new status y (gained, gains, inr (inr memory)) =
-    λ no_fault no_write. inr memory.0
-
-pub promised_complete : (read_fault disk_fault write_fault : Type 0) (told : Option Held) (master : List ℕ) (old new : Option (List ℕ))
-    (request : Option Request) (answer : Result (List ℕ) Status) (status : Status) → Answers read_fault disk_fault told master request answer
-    → Delivers write_fault old new answer status → IsComplete read_fault disk_fault write_fault told master old new request status
-promised_complete read_fault disk_fault write_fault None master old new None answer status a d = tt
-promised_complete read_fault disk_fault write_fault None master old new (Some (judge roster transcript)) answer status a d = tt
-promised_complete read_fault disk_fault write_fault None master old new (Some (show roster round post)) answer status a d = tt
-promised_complete read_fault disk_fault write_fault (Some held) master old new None answer status a d = tt
-promised_complete read_fault disk_fault write_fault (Some held) master old new (Some (judge roster transcript)) answer status (file, second, shows, shows', h) d =
-    complete ReadFault read_fault write_fault (judge_outcome (held roster) (held transcript)) answer old new status
-    (judge_yields read_fault held roster transcript file second answer shows shows' h) d
-promised_complete read_fault disk_fault write_fault (Some held) master old new (Some (show roster round post)) answer status (file, second, shows, shows', h) d =
-    complete ReadFault read_fault write_fault (show_outcome round (held roster) (held post)) answer old new status
-    (show_yields read_fault held roster round post file second answer shows shows' h) d
-promised_complete read_fault disk_fault write_fault told master old new (Some (keygen key height width)) answer status a d =
-    complete DiskFault disk_fault write_fault (keygen_outcome master height width) answer old new status a d
-
 no_bytes : (file : Option (List ℕ)) → file ≡ None → IsSome file → ⊥
 no_bytes None none some = cc
 no_bytes (Some bytes) none some = cc
@@ -163,102 +89,268 @@ is_missing : (told : Option Held) (name : List ℕ) (file : Option (List ℕ)) �
 is_missing None name file none shows = absurd (no_bytes file none shows)
 is_missing (Some held) name file none shows = shows ∙ none
 
--- a status that a definition gives, or that tells of memory or of a fault
-by_cases : (failed : Status) (fault : Type 0) (expected : Result (List ℕ) Status) (status : Status) (P : Status → Type 0)
-    → (expected ≡ Err status → P status) → P OutOfMemory → (fault → P failed) → YieldsOr failed fault expected (Err status) → P status
-by_cases failed fault expected status P given memory fails (inl e) = given (sym e)
-by_cases failed fault expected status P given memory fails (inr (inl e)) = let e' : OutOfMemory ≡ status = cc in subst P e' memory
-by_cases failed fault expected status P given memory fails (inr (inr (e, rose))) = let e' : failed ≡ status = cc in subst P e' (fails rose)
+-- ---- what stood at the names
 
--- an answer of the definition, or want of memory, or a fault of the files or of the disk
-answer_cases : (read_fault disk_fault : Type 0) (told : Option Held) (master : List ℕ) (request : Option Request) (status : Status) (P : Status → Type 0)
-    → (request ≡ None → P Usage) → P OutOfMemory → (read_fault ⊎ IsSomeAnd request (RequestMisses told) → P ReadFault)
-    → (disk_fault → P DiskFault)
-    → ((limit : ℕ) → P (TooLong limit)) → ((at rule : ℕ) → P (BadRoster at rule)) → ((check post at : ℕ) → P (Refused check post at))
-    → Answers read_fault disk_fault told master request (Err status) → P status
-answer_cases read_fault disk_fault told master None status P usage memory read disk long bad refused h =
+stood_held : (held : Held) (inputs : List Input) (contents : List (Option (List ℕ))) → Stood (Some held) inputs contents
+    → contents ≡ map (λ i. held i.name) inputs
+stood_held held [] [] stood = refl
+stood_held held [] (file ∷ files) stood = absurd stood
+stood_held held (input ∷ inputs) [] stood = absurd stood
+stood_held held (input ∷ inputs) (file ∷ files) (shows, stood) =
+    let same : held input.name ≡ file = shows in
+    let others : files ≡ map (λ i. held i.name) inputs = stood_held held inputs files stood in
+    rw (same, ← others) refl
+
+-- what stood is what is known to stand
+stood_known : (told : Option Held) (inputs : List Input) (contents known : List (Option (List ℕ))) → Stood told inputs contents
+    → known_files inputs told ≡ Some known → contents ≡ known
+stood_known told [] [] known stood e = let same : [] ≡ known = cc in same
+stood_known told [] (file ∷ files) known stood e = absurd stood
+stood_known None (input ∷ inputs) contents known stood e = absurd cc
+stood_known (Some held) (input ∷ inputs) contents known stood e =
+    let same : map (λ i. held i.name) (input ∷ inputs) ≡ known = cc in stood_held held (input ∷ inputs) contents stood ∙ same
+
+-- ---- the status and the output of an answer
+
+told_status : (fault : Status → Type 0) (expected answer : Result (List ℕ) Status) (sink : Change (Option (List ℕ))) (status : Status)
+    → YieldsBy fault expected answer → Delivers sink answer status → IsStatusOf expected fault (Failed sink) status
+told_status fault expected answer sink status y (gained, gains, inl whole) = elim y [
+  | inl e ↦ inl (whole.0 ∙ ap status_of e)
+  | inr others ↦ elim others [
+    | inl e ↦ inr (inl (whole.0 ∙ ap status_of e))
+    | inr failure ↦ inr (inr (inl (subst fault (sym (whole.0 ∙ ap status_of failure.1)) failure.2)))
+  ]
+]
+told_status fault expected answer sink status y (gained, gains, inr (inl unwritten)) = inr (inr (inr (unwritten.0, unwritten.1)))
+told_status fault expected answer sink status y (gained, gains, inr (inr memory)) = inr (inl memory.0)
+
+whole : (fault : Status → Type 0) (expected answer : Result (List ℕ) Status) (sink : Change (Option (List ℕ))) (status : Status)
+    → YieldsBy fault expected answer → Delivers sink answer status → IsWhole fault sink status expected
+whole fault (Err refusal) answer sink status y d = tt
+whole fault (Ok output) answer sink status y (gained, gains, inl all) = λ no_fault no_write. elim y [
+  | inl e ↦ (let P : List ℕ → Type 0 = λ text. Gains sink.before sink.now text in
+      inl (all.0 ∙ ap status_of e, subst P (all.1 ∙ ap text_of e) gains))
+  | inr others ↦ elim others [
+    | inl e ↦ inr (all.0 ∙ ap status_of e)
+    | inr failure ↦ absurd (no_fault failure.0 failure.2)
+  ]
+]
+whole fault (Ok output) answer sink status y (gained, gains, inr (inl unwritten)) = λ no_fault no_write. absurd (no_write unwritten.1)
+whole fault (Ok output) answer sink status y (gained, gains, inr (inr memory)) = λ no_fault no_write. inr memory.0
+
+-- an answer to a request yields what is known of it
+yields_known : (fresh : List ℕ) (files : Change (Option Held)) (disk : Change (Option (List ℕ))) (request : Option Request)
+    (answer expected : Result (List ℕ) Status) → AnswersRequest fresh files disk request answer
+    → expected_of fresh files.before request ≡ Some expected → YieldsBy (FaultOf files disk request) expected answer
+yields_known fresh files disk None answer expected a e = let same : Err Usage ≡ expected = cc in inl (a ∙ same)
+yields_known fresh files disk (Some request) answer expected (contents, stood, y) e =
+    by_known (known_files (inputs_of request) files.before) refl e
+  where
+    by_known : (known : Option (List (Option (List ℕ)))) → known_files (inputs_of request) files.before ≡ known
+        → option_map (outcome_of fresh request) known ≡ Some expected → YieldsBy (FaultOf files disk (Some request)) expected answer
+    by_known None k e = absurd cc
+    by_known (Some known) k e =
+        let same : contents ≡ known = stood_known files.before (inputs_of request) contents known stood k in
+        let is : outcome_of fresh request known ≡ expected = cc in
+        let P : Result (List ℕ) Status → Type 0 = λ r. YieldsBy (FaultOf files disk (Some request)) r answer in
+        subst P (ap (outcome_of fresh request) same ∙ is) y
+
+-- ---- the statuses of each command
+
+-- the statuses that a command comes to over its files
+outcome_refused : (fresh : List ℕ) (told : Option Held) (request : Request) (contents : List (Option (List ℕ))) (status : Status)
+    (P : Status → Type 0) → (Misses told request → P ReadFault) → ((limit : ℕ) → P (TooLong limit)) → ((at rule : ℕ) → P (BadRoster at rule))
+    → ((check post at : ℕ) → P (Refused check post at)) → Stood told (inputs_of request) contents
+    → outcome_of fresh request contents ≡ Err status → P status
+outcome_refused fresh told (Judge roster transcript) (file ∷ second ∷ []) status P missing long bad refused (shows, (shows', done)) h =
+    outcome_cases Roster Accepted 134217728 accepted_line roster_read printed_judgement_of file second P
+    (λ none. missing (0, record { name = roster; limit = 4096 }, lit< tt, refl, is_missing told roster file none shows))
+    (λ none. missing (1, record { name = transcript; limit = 134217728 }, lit< tt, refl, is_missing told transcript second none shows')) long bad refused status h
+outcome_refused fresh told (Judge roster transcript) [] status P missing long bad refused stood h = absurd stood
+outcome_refused fresh told (Judge roster transcript) (file ∷ []) status P missing long bad refused stood h = absurd stood.1
+outcome_refused fresh told (Judge roster transcript) (file ∷ second ∷ third ∷ more) status P missing long bad refused stood h = absurd stood.1.1
+outcome_refused fresh told (Show roster round post) (file ∷ second ∷ []) status P missing long bad refused (shows, (shows', done)) h =
+    outcome_cases Roster Content 16777216 shown_line roster_read (file_checked round) file second P
+    (λ none. missing (0, record { name = roster; limit = 4096 }, lit< tt, refl, is_missing told roster file none shows))
+    (λ none. missing (1, record { name = post; limit = 16777216 }, lit< tt, refl, is_missing told post second none shows')) long bad refused status h
+outcome_refused fresh told (Show roster round post) [] status P missing long bad refused stood h = absurd stood
+outcome_refused fresh told (Show roster round post) (file ∷ []) status P missing long bad refused stood h = absurd stood.1
+outcome_refused fresh told (Show roster round post) (file ∷ second ∷ third ∷ more) status P missing long bad refused stood h = absurd stood.1.1
+outcome_refused fresh told (Keygen key height width) [] status P missing long bad refused stood h = absurd cc
+outcome_refused fresh told (Keygen key height width) (file ∷ more) status P missing long bad refused stood h = absurd stood
+
+-- the faults that a command may tell
+fault_told : (request : Request) (files_fault disk_fault : Type 0) (status : Status) (P : Status → Type 0) → (files_fault → P ReadFault)
+    → (disk_fault → P DiskFault) → MayTell request files_fault disk_fault status → P status
+fault_told (Judge roster transcript) files_fault disk_fault status P read disk t = subst P (sym t.0) (read t.1)
+fault_told (Show roster round post) files_fault disk_fault status P read disk t = subst P (sym t.0) (read t.1)
+fault_told (Keygen key height width) files_fault disk_fault status P read disk t = subst P (sym t.0) (disk t.1)
+
+-- the statuses that an answer may be
+answer_cases : (fresh : List ℕ) (files : Change (Option Held)) (disk : Change (Option (List ℕ))) (request : Option Request) (status : Status)
+    (P : Status → Type 0) → (request ≡ None → P Usage) → P OutOfMemory → (Failed files ⊎ IsSomeAnd request (Misses files.before) → P ReadFault)
+    → (Failed disk → P DiskFault) → ((limit : ℕ) → P (TooLong limit)) → ((at rule : ℕ) → P (BadRoster at rule))
+    → ((check post at : ℕ) → P (Refused check post at)) → AnswersRequest fresh files disk request (Err status) → P status
+answer_cases fresh files disk None status P usage memory read disk_fails long bad refused h =
     let e : Usage ≡ status = cc in subst P e (usage refl)
-answer_cases read_fault disk_fault told master (Some (judge roster transcript)) status P usage memory read disk long bad refused (file, second, shows, shows', h) =
-    by_cases ReadFault read_fault (judge_outcome file second) status P
-    (outcome_cases Roster Accepted 134217728 accepted_line roster_read printed_judgement_of file second P (λ none. read (inr (inl (is_missing told roster file none shows))))
-    (λ none. read (inr (inr (is_missing told transcript second none shows')))) long bad refused status)
-    memory (λ rose. read (inl rose)) h
-answer_cases read_fault disk_fault told master (Some (show roster round post)) status P usage memory read disk long bad refused (file, second, shows, shows', h) =
-    by_cases ReadFault read_fault (show_outcome round file second) status P
-    (outcome_cases Roster Content 16777216 shown_line roster_read (file_checked round) file second P (λ none. read (inr (inl (is_missing told roster file none shows))))
-    (λ none. read (inr (inr (is_missing told post second none shows')))) long bad refused status)
-    memory (λ rose. read (inl rose)) h
-answer_cases read_fault disk_fault told master (Some (keygen key height width)) status P usage memory read disk long bad refused h =
-    by_cases DiskFault disk_fault (keygen_outcome master height width) status P (λ e. cc) memory disk h
+answer_cases fresh files disk (Some request) status P usage memory read disk_fails long bad refused (contents, stood, inl e) =
+    outcome_refused fresh files.before request contents status P (λ missing. read (inr missing)) long bad refused stood (sym e)
+answer_cases fresh files disk (Some request) status P usage memory read disk_fails long bad refused (contents, stood, inr (inl e)) =
+    let e' : OutOfMemory ≡ status = cc in subst P e' memory
+answer_cases fresh files disk (Some request) status P usage memory read disk_fails long bad refused (contents, stood, inr (inr (failed, e, t))) =
+    let e' : failed ≡ status = cc in
+    subst P e' (fault_told request (Failed files) (Failed disk) failed P (λ rose. read (inl rose)) disk_fails t)
 
 -- the answer that is printed whole, under its status
-answer_at : (read_fault disk_fault : Type 0) (told : Option Held) (master : List ℕ) (request : Option Request) (answer : Result (List ℕ) Status) (status : Status)
-    → status_of answer ≡ status → status ≢ Done → Answers read_fault disk_fault told master request answer
-    → Answers read_fault disk_fault told master request (Err status)
-answer_at read_fault disk_fault told master request answer status is other h =
-    let P : Result (List ℕ) Status → Type 0 = λ a. Answers read_fault disk_fault told master request a in
-    subst P (err_of answer status is other) h
+answer_at : (asked : Asked) (files : Change (Option Held)) (disk : Change (Option (List ℕ))) (answer : Result (List ℕ) Status) (status : Status)
+    → status_of answer ≡ status → status ≢ Done → Answers asked files disk answer → Answers asked files disk (Err status)
+answer_at asked files disk answer status is other h =
+    let P : Result (List ℕ) Status → Type 0 = λ a. Answers asked files disk a in subst P (err_of answer status is other) h
 
-pub promised_usage : (read_fault disk_fault write_fault : Type 0) (told : Option Held) (master : List ℕ) (old new : Option (List ℕ))
-    (request : Option Request) (answer : Result (List ℕ) Status) (status : Status) → Answers read_fault disk_fault told master request answer
-    → Delivers write_fault old new answer status → status ≡ Usage → request ≡ None
-promised_usage read_fault disk_fault write_fault told master old new request answer status a (gained, gains, inl whole) e =
-    answer_cases read_fault disk_fault told master request Usage (λ s. s ≡ Usage → request ≡ None)
-    (λ none _. none) (λ e. cc) (λ _ e. cc) (λ _ e. cc) (λ _ e. cc) (λ _ _ e. cc) (λ _ _ _ e. cc)
-    (answer_at read_fault disk_fault told master request answer Usage (sym whole.0 ∙ e) (λ e. cc) a) refl
-promised_usage read_fault disk_fault write_fault told master old new request answer status a (gained, gains, inr (inl unwritten)) e =
-    let f : WriteFault ≡ Usage = sym unwritten.0 ∙ e in cc
-promised_usage read_fault disk_fault write_fault told master old new request answer status a (gained, gains, inr (inr memory)) e =
-    let f : OutOfMemory ≡ Usage = sym memory.0 ∙ e in cc
+-- ---- the promises, of an answer that was come to and printed
 
-pub promised_read_fault : (read_fault disk_fault write_fault : Type 0) (told : Option Held) (master : List ℕ) (old new : Option (List ℕ))
-    (request : Option Request) (answer : Result (List ℕ) Status) (status : Status) → Answers read_fault disk_fault told master request answer
-    → Delivers write_fault old new answer status → status ≡ ReadFault
-    → read_fault ⊎ IsSomeAnd request (RequestMisses told)
-promised_read_fault read_fault disk_fault write_fault told master old new request answer status a (gained, gains, inl whole) e =
-    answer_cases read_fault disk_fault told master request ReadFault (λ s. s ≡ ReadFault → read_fault ⊎ IsSomeAnd request (RequestMisses told))
-    (λ _ e. cc) (λ e. cc) (λ why _. why) (λ _ e. cc) (λ _ e. cc) (λ _ _ e. cc) (λ _ _ _ e. cc)
-    (answer_at read_fault disk_fault told master request answer ReadFault (sym whole.0 ∙ e) (λ e. cc) a) refl
-promised_read_fault read_fault disk_fault write_fault told master old new request answer status a (gained, gains, inr (inl unwritten)) e =
-    let f : WriteFault ≡ ReadFault = sym unwritten.0 ∙ e in cc
-promised_read_fault read_fault disk_fault write_fault told master old new request answer status a (gained, gains, inr (inr memory)) e =
-    let f : OutOfMemory ≡ ReadFault = sym memory.0 ∙ e in cc
+module _ (asked : Asked) (files : Change (Option Held)) (disk sink : Change (Option (List ℕ))) (answer : Result (List ℕ) Status) (status : Status)
+    (answered : IsAnswered asked files disk answer) (printed : IsPrinted sink answer status) where
+  pub follows : IfSome (expected_in asked files) (λ expected. IsStatusOf expected (FaultOf files disk (request_in asked)) (Failed sink) status)
+  follows = by_expected (expected_in asked files) refl
+    where
+      by_expected : (found : Option (Result (List ℕ) Status)) → expected_in asked files ≡ found
+          → IfSome found (λ expected. IsStatusOf expected (FaultOf files disk (request_in asked)) (Failed sink) status)
+      by_expected None e = tt
+      by_expected (Some expected) e =
+          told_status (FaultOf files disk (request_in asked)) expected answer sink status
+          (yields_known asked.fresh files disk (request_in asked) answer expected answered.answers e) printed.delivers
 
-pub promised_disk_fault : (read_fault disk_fault write_fault : Type 0) (told : Option Held) (master : List ℕ) (old new : Option (List ℕ))
-    (request : Option Request) (answer : Result (List ℕ) Status) (status : Status) → Answers read_fault disk_fault told master request answer
-    → Delivers write_fault old new answer status → status ≡ DiskFault → disk_fault
-promised_disk_fault read_fault disk_fault write_fault told master old new request answer status a (gained, gains, inl whole) e =
-    answer_cases read_fault disk_fault told master request DiskFault (λ s. s ≡ DiskFault → disk_fault)
-    (λ _ e. cc) (λ e. cc) (λ _ e. cc) (λ rose _. rose) (λ _ e. cc) (λ _ _ e. cc) (λ _ _ _ e. cc)
-    (answer_at read_fault disk_fault told master request answer DiskFault (sym whole.0 ∙ e) (λ e. cc) a) refl
-promised_disk_fault read_fault disk_fault write_fault told master old new request answer status a (gained, gains, inr (inl unwritten)) e =
-    let f : WriteFault ≡ DiskFault = sym unwritten.0 ∙ e in cc
-promised_disk_fault read_fault disk_fault write_fault told master old new request answer status a (gained, gains, inr (inr memory)) e =
-    let f : OutOfMemory ≡ DiskFault = sym memory.0 ∙ e in cc
+  pub complete : IfSome (expected_in asked files) (IsWhole (FaultOf files disk (request_in asked)) sink status)
+  complete = by_expected (expected_in asked files) refl
+    where
+      by_expected : (found : Option (Result (List ℕ) Status)) → expected_in asked files ≡ found
+          → IfSome found (IsWhole (FaultOf files disk (request_in asked)) sink status)
+      by_expected None e = tt
+      by_expected (Some expected) e =
+          whole (FaultOf files disk (request_in asked)) expected answer sink status
+          (yields_known asked.fresh files disk (request_in asked) answer expected answered.answers e) printed.delivers
 
-pub promised_write_fault : (read_fault disk_fault write_fault : Type 0) (told : Option Held) (master : List ℕ) (old new : Option (List ℕ))
-    (request : Option Request) (answer : Result (List ℕ) Status) (status : Status) → Answers read_fault disk_fault told master request answer
-    → Delivers write_fault old new answer status → status ≡ WriteFault → write_fault
-promised_write_fault read_fault disk_fault write_fault told master old new request answer status a (gained, gains, inl whole) e =
-    answer_cases read_fault disk_fault told master request WriteFault (λ s. s ≡ WriteFault → write_fault)
-    (λ _ e. cc) (λ e. cc) (λ _ e. cc) (λ _ e. cc) (λ _ e. cc) (λ _ _ e. cc) (λ _ _ _ e. cc)
-    (answer_at read_fault disk_fault told master request answer WriteFault (sym whole.0 ∙ e) (λ e. cc) a) refl
-promised_write_fault read_fault disk_fault write_fault told master old new request answer status a (gained, gains, inr (inl unwritten)) e =
-    unwritten.1
-promised_write_fault read_fault disk_fault write_fault told master old new request answer status a (gained, gains, inr (inr memory)) e =
-    let f : OutOfMemory ≡ WriteFault = sym memory.0 ∙ e in cc
+  -- a status other than Done that was printed whole, or that another cause has
+  by_status : (P : Status → Type 0) → P OutOfMemory → (Failed sink → P WriteFault) → P Done → (request_in asked ≡ None → P Usage)
+      → (Failed files ⊎ IsSomeAnd (request_in asked) (Misses files.before) → P ReadFault) → (Failed disk → P DiskFault)
+      → ((limit : ℕ) → P (TooLong limit)) → ((at rule : ℕ) → P (BadRoster at rule)) → ((check post at : ℕ) → P (Refused check post at))
+      → P status
+  by_status P memory write done usage read disk_fails long bad refused = by_delivery printed.delivers
+    where
+      by_answer : (a : Result (List ℕ) Status) → Answers asked files disk a → P (status_of a)
+      by_answer (Ok output) h = done
+      by_answer (Err refusal) h =
+          answer_cases asked.fresh files disk (request_in asked) refusal P usage memory read disk_fails long bad refused h
 
-other_words : (read_fault disk_fault : Type 0) (told : Option Held) (master : List ℕ) (request : Option Request)
-    (answer : Result (List ℕ) Status) → request ≡ None → Answers read_fault disk_fault told master request answer → answer ≡ Err Usage
-other_words read_fault disk_fault told master None answer none a = a
-other_words read_fault disk_fault told master (Some request) answer none a = cc
+      by_delivery : Delivers sink answer status → P status
+      by_delivery (gained, gains, inl all) = subst P (sym all.0) (by_answer answer answered.answers)
+      by_delivery (gained, gains, inr (inl unwritten)) = subst P (sym unwritten.0) (write unwritten.1)
+      by_delivery (gained, gains, inr (inr gone)) = subst P (sym gone.0) memory
 
-pub promised_other_words : (read_fault disk_fault write_fault : Type 0) (told : Option Held) (master : List ℕ) (old new : Option (List ℕ))
-    (request : Option Request) (answer : Result (List ℕ) Status) (status : Status) → Answers read_fault disk_fault told master request answer
-    → Delivers write_fault old new answer status → request ≡ None → IsStatusOf ReadFault ⊥ write_fault Usage status
-promised_other_words read_fault disk_fault write_fault told master old new request answer status a d none =
-    told_status ReadFault ⊥ write_fault (Err Usage) answer old new status
-    (inl (other_words read_fault disk_fault told master request answer none a)) d
+  pub usage : status ≡ Usage → request_in asked ≡ None
+  usage = by_status (λ s. s ≡ Usage → request_in asked ≡ None) (λ e. absurd cc) (λ _ e. absurd cc) (λ e. absurd cc) (λ none _. none)
+      (λ _ e. absurd cc) (λ _ e. absurd cc) (λ _ e. absurd cc) (λ _ _ e. absurd cc) (λ _ _ _ e. absurd cc)
+
+  pub read_fault : status ≡ ReadFault → Failed files ⊎ IsSomeAnd (request_in asked) (Misses files.before)
+  read_fault = by_status (λ s. s ≡ ReadFault → Failed files ⊎ IsSomeAnd (request_in asked) (Misses files.before))
+      (λ e. absurd cc) (λ _ e. absurd cc) (λ e. absurd cc) (λ _ e. absurd cc)
+      (λ why _. why) (λ _ e. absurd cc) (λ _ e. absurd cc) (λ _ _ e. absurd cc) (λ _ _ _ e. absurd cc)
+
+  pub disk_fault : status ≡ DiskFault → Failed disk
+  disk_fault = by_status (λ s. s ≡ DiskFault → Failed disk) (λ e. absurd cc) (λ _ e. absurd cc) (λ e. absurd cc) (λ _ e. absurd cc)
+      (λ _ e. absurd cc) (λ rose _. rose) (λ _ e. absurd cc) (λ _ _ e. absurd cc) (λ _ _ _ e. absurd cc)
+
+  pub write_fault : status ≡ WriteFault → Failed sink
+  write_fault = by_status (λ s. s ≡ WriteFault → Failed sink) (λ e. absurd cc) (λ rose _. rose) (λ e. absurd cc) (λ _ e. absurd cc)
+      (λ _ e. absurd cc) (λ _ e. absurd cc) (λ _ e. absurd cc) (λ _ _ e. absurd cc) (λ _ _ _ e. absurd cc)
+
+  pub borne_out : status ≡ Done → PrintsOutput (BearsOut asked files disk) sink
+  borne_out e = by_delivery printed.delivers
+    where
+      by_answer : (a : Result (List ℕ) Status) (gained : List ℕ) → OnOutput (BearsOut asked files disk) a → status_of a ≡ Done → gained ≡ text_of a
+          → Gains sink.before sink.now gained → PrintsOutput (BearsOut asked files disk) sink
+      by_answer (Ok output) gained bears done is gains =
+          let At : List ℕ → Type 0 = λ text. Gains sink.before sink.now text in (output, bears, subst At is gains)
+      by_answer (Err refusal) gained other done is gains = absurd (other done)
+
+      by_delivery : Delivers sink answer status → PrintsOutput (BearsOut asked files disk) sink
+      by_delivery (gained, gains, inl all) = by_answer answer gained answered.borne_out (sym all.0 ∙ e) all.1 gains
+      by_delivery (gained, gains, inr (inl unwritten)) = let f : WriteFault ≡ Done = sym unwritten.0 ∙ e in absurd cc
+      by_delivery (gained, gains, inr (inr gone)) = let f : OutOfMemory ≡ Done = sym gone.0 ∙ e in absurd cc
+
+-- ---- the answer of each command
+
+widened : (failed : Status) (fault : Type 0) (expected answer : Result (List ℕ) Status) → YieldsOr failed fault expected answer
+    → YieldsBy (Tells failed fault) expected answer
+widened failed fault expected answer (inl e) = inl e
+widened failed fault expected answer (inr (inl e)) = inr (inl e)
+widened failed fault expected answer (inr (inr t)) = inr (inr (failed, t.0, (refl, t.1)))
+
+-- a request of files alone that was answered
+over_files : (asked : Asked) (files : Change (Option Held)) (disk : Change (Option (List ℕ))) (request : Option Request)
+    (answer : Result (List ℕ) Status) → request_in asked ≡ request → AnswersRequest asked.fresh files disk request answer
+    → OnOutput (BearsOutRequest asked.fresh files.before disk.now request) answer → files.now ≡ files.before
+    → files.faults_before ≤ files.faults_now → disk.now ≡ disk.before → disk.faults_now ≡ disk.faults_before
+    → IsAnswered asked files disk answer
+over_files asked files disk request answer e answers bears kept count disk_kept disk_count =
+    let At : Option Request → Type 0 = λ r. AnswersRequest asked.fresh files disk r answer in
+    let Borne : Option Request → Type 0 = λ r. OnOutput (BearsOutRequest asked.fresh files.before disk.now r) answer in record {
+      answers = subst At (sym e) answers;
+      borne_out = subst Borne (sym e) bears;
+      files_kept = kept;
+      files_count = count;
+      disk_kept = λ _. (disk_kept, disk_count);
+      disk_count = omega (arith, disk_count);
+    }
+
+pub usage_answered : (asked : Asked) (files : Change (Option Held)) (disk : Change (Option (List ℕ))) → request_in asked ≡ None
+    → files.now ≡ files.before → files.faults_now ≡ files.faults_before → disk.now ≡ disk.before → disk.faults_now ≡ disk.faults_before
+    → IsAnswered asked files disk (Err Usage)
+usage_answered asked files disk e kept count disk_kept disk_count =
+    over_files asked files disk None (Err Usage) e refl (λ f. absurd cc) kept (omega (arith, count)) disk_kept disk_count
+
+pub judge_answered : (asked : Asked) (files : Change (Option Held)) (disk : Change (Option (List ℕ))) (roster transcript : List ℕ)
+    (answer : Result (List ℕ) Status) → request_in asked ≡ Some (Judge roster transcript)
+    → ((roster_file transcript_file : Option (List ℕ)) × Shows files.before roster roster_file × Shows files.before transcript transcript_file
+    × Yields (Failed files) (judge_outcome (within 4096 roster_file) (within 134217728 transcript_file)) answer)
+    → OnOutput (FilesConvict files.before roster transcript) answer → files.now ≡ files.before
+    → files.faults_before ≤ files.faults_now → disk.now ≡ disk.before → disk.faults_now ≡ disk.faults_before
+    → IsAnswered asked files disk answer
+judge_answered asked files disk roster transcript answer e (file, second, shows, shows', y) bears kept count disk_kept disk_count =
+    over_files asked files disk (Some (Judge roster transcript)) answer e
+    (file ∷ second ∷ [], (shows, (shows', tt)), widened ReadFault (Failed files) (judge_outcome (within 4096 file) (within 134217728 second)) answer y)
+    bears kept count disk_kept disk_count
+
+pub show_answered : (asked : Asked) (files : Change (Option Held)) (disk : Change (Option (List ℕ))) (roster : List ℕ) (round : ℕ) (post : List ℕ)
+    (answer : Result (List ℕ) Status) → request_in asked ≡ Some (Show roster round post)
+    → ((roster_file post_file : Option (List ℕ)) × Shows files.before roster roster_file × Shows files.before post post_file
+    × Yields (Failed files) (show_outcome round (within 4096 roster_file) (within 16777216 post_file)) answer)
+    → OnOutput (FilesShow files.before roster round post) answer → files.now ≡ files.before
+    → files.faults_before ≤ files.faults_now → disk.now ≡ disk.before → disk.faults_now ≡ disk.faults_before
+    → IsAnswered asked files disk answer
+show_answered asked files disk roster round post answer e (file, second, shows, shows', y) bears kept count disk_kept disk_count =
+    over_files asked files disk (Some (Show roster round post)) answer e
+    (file ∷ second ∷ [], (shows, (shows', tt)), widened ReadFault (Failed files) (show_outcome round (within 4096 file) (within 16777216 second)) answer y)
+    bears kept count disk_kept disk_count
+
+pub keygen_answered : (asked : Asked) (files : Change (Option Held)) (disk : Change (Option (List ℕ))) (key : List ℕ) (height : MadeHeight) (width : OtsType)
+    (answer : Result (List ℕ) Status) → request_in asked ≡ Some (Keygen key height width)
+    → YieldsOr DiskFault (Failed disk) (keygen_outcome asked.fresh height width) answer
+    → OnOutput (IsMade height width asked.fresh disk.now) answer → disk.faults_before ≤ disk.faults_now
+    → files.now ≡ files.before → files.faults_now ≡ files.faults_before → IsAnswered asked files disk answer
+keygen_answered asked files disk key height width answer e y bears disk_count kept count =
+    let request = Some (Keygen key height width) in
+    let At : Option Request → Type 0 = λ r. AnswersRequest asked.fresh files disk r answer in
+    let Borne : Option Request → Type 0 = λ r. OnOutput (BearsOutRequest asked.fresh files.before disk.now r) answer in
+    let Kept : Option Request → Type 0 = λ r. ¬ MakesKey r → (disk.now ≡ disk.before) × (disk.faults_now ≡ disk.faults_before) in record {
+      answers = subst At (sym e) ([], tt, widened DiskFault (Failed disk) (keygen_outcome asked.fresh height width) answer y);
+      borne_out = subst Borne (sym e) bears;
+      files_kept = kept;
+      files_count = omega (arith, count);
+      disk_kept = subst Kept (sym e) (λ other. absurd (other refl));
+      disk_count = disk_count;
+    }
 
 -- The conviction that `judge` prints.
 
@@ -319,13 +411,3 @@ roster_status-not_done RosterMemory = λ e. cc
 pub judge_status-not_done : (refusal : JudgeRefusal) → judge_status refusal ≢ Done
 judge_status-not_done (Check check post at) = λ e. cc
 judge_status-not_done JudgeMemory = λ e. cc
-
-pub promised_borne_out : (fault : Type 0) (P : List ℕ → Type 0) (old new : Option (List ℕ)) (answer : Result (List ℕ) Status) (status : Status)
-    → OnOutput P answer → Delivers fault old new answer status → status ≡ Done → PrintsOutput P old new
-promised_borne_out fault P old new (Ok output) status a (gained, gains, inl whole) e =
-    let At : List ℕ → Type 0 = λ text. Gains old new text in (output, a, subst At whole.1 gains)
-promised_borne_out fault P old new (Err refusal) status a (gained, gains, inl whole) e = absurd (a (sym whole.0 ∙ e))
-promised_borne_out fault P old new answer status a (gained, gains, inr (inl unwritten)) e =
-    let f : WriteFault ≡ Done = sym unwritten.0 ∙ e in cc
-promised_borne_out fault P old new answer status a (gained, gains, inr (inr memory)) e =
-    let f : OutOfMemory ≡ Done = sym memory.0 ∙ e in cc

@@ -1,5 +1,5 @@
 -- The words of a command line, and the command that they ask for.
-use Rattle.std.specs.Prelude.{ℕ, ◌^◌, nat_lt, List, [], ◌∷◌, Bool, false, not, ◌&&◌, ◌==◌, if◌then◌else◌, Option, Some, None, option_map, option_and_then, map, slice_index, String, string_bytes, bytes_eq, codes}
+use Rattle.std.specs.Prelude.{ℕ, ◌^◌, nat_lt, List, [], ◌∷◌, Bool, true, false, not, ◌&&◌, ◌==◌, if◌then◌else◌, Option, Some, None, option_map, option_and_then, map, slice_index, String, string_bytes, bytes_eq, codes}
 use Rattle.std.specs.Str.{all_ascii_digits}
 use Rattle.std.specs.Str.Parse.{digits_value}
 use Rattle.std.specs.declared.alloc.Global.{Global}
@@ -10,11 +10,20 @@ use Rattle.lms_tree.specs.declared.secrets.MadeHeight.TheVariants.{H5, H10}
 use Rattle.dissent.specs.declared.words.Command.{Command}
 use Rattle.dissent.specs.declared.words.Command.TheVariants.{Judge, Show, Keygen}
 
--- a command with its values, as bytes
-pub data Request : Type 0 where
-  judge : (roster transcript : List ℕ) → Request
-  show : (roster : List ℕ) (round : ℕ) (post : List ℕ) → Request
-  keygen : (key : List ℕ) (height : MadeHeight) (width : OtsType) → Request
+-- a command with its names as bytes
+abbrev pub Request : Type 0
+Request = Command (List ℕ)
+
+-- a command whose names have these bytes
+abbrev pub request_of : {N : Type 0} → Command N → (N → List ℕ) → Request
+request_of (Judge roster transcript) bytes = Judge (bytes roster) (bytes transcript)
+request_of (Show roster round post) bytes = Show (bytes roster) round (bytes post)
+request_of (Keygen key height width) bytes = Keygen (bytes key) height width
+
+-- a command makes a key file
+abbrev pub makes_key : Option Request → Bool
+makes_key (Some (Keygen key height width)) = true
+makes_key request = false
 
 -- the bytes of each word
 abbrev pub texts : List (String Global) → List (List ℕ)
@@ -31,22 +40,21 @@ number_of word =
     if nat_lt 48 (slice_index word 0) && all_ascii_digits word && nat_lt (digits_value 10 word) (2 ^ 64)
     then Some (digits_value 10 word) else None
 
--- the words `judge`, `--roster` and `--transcript`
-abbrev pub has_judge_form : List ℕ → List ℕ → List ℕ → Bool
-has_judge_form command first_option second_option =
-    bytes_eq command (codes "judge") && bytes_eq first_option (codes "--roster") && bytes_eq second_option (codes "--transcript")
+-- the words of each command that are no values: its name, and then its options
+abbrev pub judge_form : List (List ℕ)
+judge_form = codes "judge" ∷ codes "--roster" ∷ codes "--transcript" ∷ []
 
--- the words `show`, `--roster`, `--round` and `--post`
-abbrev pub has_show_form : List ℕ → List ℕ → List ℕ → List ℕ → Bool
-has_show_form command first_option second_option third_option =
-    bytes_eq command (codes "show") && bytes_eq first_option (codes "--roster")
-    && bytes_eq second_option (codes "--round") && bytes_eq third_option (codes "--post")
+abbrev pub show_form : List (List ℕ)
+show_form = codes "show" ∷ codes "--roster" ∷ codes "--round" ∷ codes "--post" ∷ []
 
--- the words `keygen`, `--key`, `--height` and `--width`
-abbrev pub has_keygen_form : List ℕ → List ℕ → List ℕ → List ℕ → Bool
-has_keygen_form command first_option second_option third_option =
-    bytes_eq command (codes "keygen") && bytes_eq first_option (codes "--key")
-    && bytes_eq second_option (codes "--height") && bytes_eq third_option (codes "--width")
+abbrev pub keygen_form : List (List ℕ)
+keygen_form = codes "keygen" ∷ codes "--key" ∷ codes "--height" ∷ codes "--width" ∷ []
+
+-- whether words are those of a form, each at its place
+abbrev pub has_form : List (List ℕ) → List (List ℕ) → Bool
+has_form [] [] = true
+has_form (word ∷ words) (part ∷ parts) = bytes_eq word part && has_form words parts
+has_form words parts = false
 
 -- the height that a word spells: 5 or 10
 abbrev pub height_of : List ℕ → Option MadeHeight
@@ -58,29 +66,23 @@ width_of word =
     if bytes_eq word (codes "1") then Some W1 else (if bytes_eq word (codes "2") then Some W2 else
     (if bytes_eq word (codes "4") then Some W4 else (if bytes_eq word (codes "8") then Some W8 else None)))
 
--- what the values of `show` ask for
+-- what the values of each command ask for
+abbrev pub judge_values : List ℕ → List ℕ → Option Request
+judge_values roster transcript = if is_value roster && is_value transcript then Some (Judge roster transcript) else None
+
 abbrev pub show_values : List ℕ → List ℕ → List ℕ → Option Request
 show_values roster round post =
-    if is_value roster && is_value post then option_map (λ number. show roster number post) (number_of round) else None
+    if is_value roster && is_value post then option_map (λ number. Show roster number post) (number_of round) else None
 
--- what the values of `keygen` ask for
 abbrev pub keygen_values : List ℕ → List ℕ → List ℕ → Option Request
 keygen_values key height width =
-    if is_value key then option_and_then (λ h. option_map (λ w. keygen key h w) (width_of width)) (height_of height) else None
+    if is_value key then option_and_then (λ h. option_map (λ w. Keygen key h w) (width_of width)) (height_of height) else None
 
--- what the words ask for: they are exactly those of a command, in order, as `judge --roster FILE --transcript FILE`,
--- `show --roster FILE --round R --post FILE` or `keygen --key FILE --height H --width W`
+-- what the words ask for: they are exactly those of a command's form, each option with its value behind it
 abbrev pub requested : List (List ℕ) → Option Request
-requested (command ∷ first_option ∷ roster ∷ second_option ∷ transcript ∷ []) =
-    if has_judge_form command first_option second_option && is_value roster && is_value transcript
-    then Some (judge roster transcript) else None
+requested (command ∷ first_option ∷ first ∷ second_option ∷ second ∷ []) =
+    if has_form (command ∷ first_option ∷ second_option ∷ []) judge_form then judge_values first second else None
 requested (command ∷ first_option ∷ first ∷ second_option ∷ second ∷ third_option ∷ third ∷ []) =
-    if has_show_form command first_option second_option third_option then show_values first second third else
-    (if has_keygen_form command first_option second_option third_option then keygen_values first second third else None)
+    if has_form (command ∷ first_option ∷ second_option ∷ third_option ∷ []) show_form then show_values first second third else
+    (if has_form (command ∷ first_option ∷ second_option ∷ third_option ∷ []) keygen_form then keygen_values first second third else None)
 requested words = None
-
--- the request that a command stands for
-abbrev pub named : Command → Request
-named (Judge roster transcript) = judge (string_bytes roster.now) (string_bytes transcript.now)
-named (Show roster round post) = show (string_bytes roster.now) round (string_bytes post.now)
-named (Keygen key height width) = keygen (string_bytes key.now) height width

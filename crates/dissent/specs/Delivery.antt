@@ -1,6 +1,7 @@
 -- What is printed of an answer, and the status that the program then ends with.
 use Rattle.std.specs.Prelude.{◌≡◌, ◌≢◌, ◌⊎◌, ℕ, List, ◌++◌, Option, Result, Ok, Err, Vec, vec_items}
 use Rattle.std.specs.declared.alloc.Global.{Global}
+use Rattle.outside.specs.Changes.{Change, Failed}
 use Rattle.dissent.specs.declared.status.Status.{Status}
 use Rattle.dissent.specs.declared.status.Status.TheVariants.{Done, WriteFault, OutOfMemory}
 use Rattle.dissent.specs.Outside.{Gains, IsFirstOf}
@@ -34,9 +35,9 @@ abbrev pub DeliversText : Type 0 → Option (List ℕ) → Option (List ℕ) →
 DeliversText fault old new expected text status =
     (gained : List ℕ) × Gains old new gained × Prints fault expected text gained status
 
--- the same of an answer
-abbrev pub Delivers : Type 0 → Option (List ℕ) → Option (List ℕ) → Result (List ℕ) Status → Status → Type 0
-Delivers fault old new answer status = DeliversText fault old new (status_of answer) (text_of answer) status
+-- an answer was printed into a sink, with this status
+abbrev pub Delivers : Change (Option (List ℕ)) → Result (List ℕ) Status → Status → Type 0
+Delivers sink answer status = DeliversText (Failed sink) sink.before sink.now (status_of answer) (text_of answer) status
 
 -- an answer with its bytes
 abbrev pub answer_bytes : Result (Vec ℕ Global) Status → Result (List ℕ) Status

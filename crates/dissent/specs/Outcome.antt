@@ -1,5 +1,6 @@
--- What each command comes to, as a function of its words and of the bytes of its files.
-use Rattle.std.specs.Prelude.{◌≡◌, ◌⊎◌, ℕ, List, [], ◌∷◌, nat_lt, if◌then◌else◌, length, Option, Some, None, Result, Ok, Err, MatchOption, codes, decimal}
+-- What each command comes to, as a function of its words and of the bytes of its files. A command has a row in each of
+-- three tables: the files that it reads, what it comes to over them, and the faults that it may end with.
+use Rattle.std.specs.Prelude.{◌≡◌, ◌⊎◌, ⊤, ℕ, List, [], ◌∷◌, map, Any, nat_lt, if◌then◌else◌, length, Option, Some, None, Result, Ok, Err, codes, decimal}
 use Rattle.dissent.specs.declared.status.Status.{Status}
 use Rattle.dissent.specs.declared.status.Status.TheVariants.{Usage, Refused, ReadFault, DiskFault, BadRoster, TooLong, OutOfMemory}
 use Rattle.hex.specs.Hex.{encode_lower}
@@ -10,7 +11,9 @@ use Rattle.lms_tree.specs.Tree.{key_bytes}
 use Rattle.lms_tree.specs.Secret.{SecretParts, own_public, parts_of_master}
 use Rattle.lms_tree.specs.States.{made_type}
 use Rattle.judge_core.specs.declared.judging.Accepted.{Accepted}
-use Rattle.dissent.specs.Command.{Request, judge, show, keygen}
+use Rattle.dissent.specs.declared.words.Command.TheVariants.{Judge, Show, Keygen}
+use Rattle.dissent.specs.Command.{Request}
+use Rattle.wire_core.specs.Answers.{◌>>=◌}
 use Rattle.dissent.specs.Outside.{Held, Shows, IsMissing}
 use Rattle.group_roster.specs.Roster.{roster_read}
 use Rattle.transcript_form.specs.Refusals.{Failure}
@@ -19,15 +22,31 @@ use Rattle.transcript_form.specs.Claim.{claim_name}
 use Rattle.dissent.specs.Show.{file_checked, shown_line}
 use Rattle.dissent.specs.Status.{line_of}
 
--- the first step and then the second, which takes what the first gives; a refusal ends both
-abbrev pub and_then : {A B E : Type 0} → Result A E → (A → Result B E) → Result B E
-and_then (Ok value) next = next value
-and_then (Err refusal) next = Err refusal
+-- ---- files that are read
 
--- a file that a command reads is there, and has at most this many bytes
+-- a file that a command reads: its name, and the most bytes that it may have
+pub record Input : Type 0 where
+  pub name : List ℕ
+  pub limit : ℕ
+
+-- the files that each command reads, in their order
+abbrev pub inputs_of : Request → List Input
+inputs_of (Judge roster transcript) =
+    (record { name = roster; limit = 4096 }) ∷ (record { name = transcript; limit = 134217728 }) ∷ []
+inputs_of (Show roster round post) = (record { name = roster; limit = 4096 }) ∷ (record { name = post; limit = 16777216 }) ∷ []
+inputs_of (Keygen key height width) = []
+
+-- a file that is read is there, and has at most this many bytes
 abbrev pub within : ℕ → Option (List ℕ) → Result (List ℕ) Status
 within limit None = Err ReadFault
 within limit (Some bytes) = if nat_lt limit (length bytes) then Err (TooLong limit) else Ok bytes
+
+-- files, each read within its limit
+abbrev pub reads_of : List Input → List (Option (List ℕ)) → List (Result (List ℕ) Status)
+reads_of (input ∷ inputs) (file ∷ files) = within input.limit file ∷ reads_of inputs files
+reads_of inputs files = []
+
+-- ---- what each command comes to
 
 -- the status of a roster file that is outside its grammar
 abbrev pub or_bad_roster : {V : Type 0} → Result V (ℕ × ℕ) → Result V Status
@@ -45,20 +64,20 @@ or_refused line (Ok passed) = Ok (line passed)
 or_refused line (Err failed) = Err (Refused failed.check failed.post failed.at)
 
 -- `judge`: the roster is read and decoded, and then the transcript is read and judged
-abbrev pub judge_outcome : Option (List ℕ) → Option (List ℕ) → Result (List ℕ) Status
-judge_outcome roster_file transcript_file =
-    and_then (within 4096 roster_file) (λ roster_bytes.
-    and_then (or_bad_roster (roster_read roster_bytes)) (λ roster.
-    and_then (within 134217728 transcript_file) (λ transcript.
-    or_refused accepted_line (printed_judgement_of roster transcript))))
+abbrev pub judge_outcome : (roster_file transcript_file : Result (List ℕ) Status) → Result (List ℕ) Status
+judge_outcome roster_file transcript_file = do
+  roster_bytes ← roster_file
+  roster ← or_bad_roster (roster_read roster_bytes)
+  transcript ← transcript_file
+  or_refused accepted_line (printed_judgement_of roster transcript)
 
 -- `show`: the roster is read and decoded, and then the post is read and checked
-abbrev pub show_outcome : ℕ → Option (List ℕ) → Option (List ℕ) → Result (List ℕ) Status
-show_outcome round roster_file post_file =
-    and_then (within 4096 roster_file) (λ roster_bytes.
-    and_then (or_bad_roster (roster_read roster_bytes)) (λ roster.
-    and_then (within 16777216 post_file) (λ bytes.
-    or_refused shown_line (file_checked round roster bytes))))
+abbrev pub show_outcome : ℕ → (roster_file post_file : Result (List ℕ) Status) → Result (List ℕ) Status
+show_outcome round roster_file post_file = do
+  roster_bytes ← roster_file
+  roster ← or_bad_roster (roster_read roster_bytes)
+  bytes ← post_file
+  or_refused shown_line (file_checked round roster bytes)
 
 -- the secret that `keygen` makes of a master
 abbrev pub made_parts : MadeHeight → OtsType → List ℕ → SecretParts
@@ -72,43 +91,56 @@ key_line key = line_of (encode_lower (key_bytes key) ∷ [])
 abbrev pub keygen_outcome : List ℕ → MadeHeight → OtsType → Result (List ℕ) Status
 keygen_outcome master height width = Ok (key_line (own_public (made_parts height width master)))
 
--- the output of a command that comes to its end, or the status that ends it; `keygen` takes the master
-abbrev pub request_outcome : List ℕ → Held → Request → Result (List ℕ) Status
-request_outcome master held (judge roster transcript) = judge_outcome (held roster) (held transcript)
-request_outcome master held (show roster round post) = show_outcome round (held roster) (held post)
-request_outcome master held (keygen key height width) = keygen_outcome master height width
+-- what each command comes to over its files as they were read, in their order; `keygen` takes the fresh bytes
+abbrev pub outcome_over : List ℕ → Request → List (Result (List ℕ) Status) → Result (List ℕ) Status
+outcome_over fresh (Judge roster transcript) (roster_file ∷ transcript_file ∷ []) = judge_outcome roster_file transcript_file
+outcome_over fresh (Show roster round post) (roster_file ∷ post_file ∷ []) = show_outcome round roster_file post_file
+outcome_over fresh (Keygen key height width) [] = keygen_outcome fresh height width
+outcome_over fresh request files = Err Usage
 
--- the same of what the words ask for, which may be nothing
-abbrev pub outcome_of : List ℕ → Held → Option Request → Result (List ℕ) Status
-outcome_of master held None = Err Usage
-outcome_of master held (Some request) = request_outcome master held request
+-- the same over what stood at the names
+abbrev pub outcome_of : List ℕ → Request → List (Option (List ℕ)) → Result (List ℕ) Status
+outcome_of fresh request files = outcome_over fresh request (reads_of (inputs_of request) files)
+
+-- ---- faults
+
+-- a fault of this kind, which this status tells
+abbrev pub Tells : Status → Type 0 → Status → Type 0
+Tells failed fault status = (status ≡ failed) × fault
+
+-- the faults that each command may end with
+abbrev pub MayTell : Request → (files_fault disk_fault : Type 0) → Status → Type 0
+MayTell (Judge roster transcript) files_fault disk_fault = Tells ReadFault files_fault
+MayTell (Show roster round post) files_fault disk_fault = Tells ReadFault files_fault
+MayTell (Keygen key height width) files_fault disk_fault = Tells DiskFault disk_fault
+
+-- ---- answers
 
 -- an answer is the one that a definition gives, but for want of memory, and for a fault, which a status tells
+abbrev pub YieldsBy : (fault : Status → Type 0) → Result (List ℕ) Status → Result (List ℕ) Status → Type 0
+YieldsBy fault expected answer =
+    (answer ≡ expected) ⊎ (answer ≡ Err OutOfMemory) ⊎ ((status : Status) × (answer ≡ Err status) × fault status)
+
+-- the same where a fault has one status
 abbrev pub YieldsOr : Status → Type 0 → Result (List ℕ) Status → Result (List ℕ) Status → Type 0
 YieldsOr failed fault expected answer = (answer ≡ expected) ⊎ (answer ≡ Err OutOfMemory) ⊎ ((answer ≡ Err failed) × fault)
 
--- the same where the fault is one of the files
+-- the same where the fault is one of the files that are read
 abbrev pub Yields : Type 0 → Result (List ℕ) Status → Result (List ℕ) Status → Type 0
 Yields fault expected answer = YieldsOr ReadFault fault expected answer
 
--- an answer to a request, whatever its files hold
-abbrev pub AnswersRequest : (read_fault disk_fault : Type 0) → Option Held → List ℕ → Result (List ℕ) Status → Request → Type 0
-AnswersRequest read_fault disk_fault told master answer (judge roster transcript) =
-    (roster_file transcript_file : Option (List ℕ)) × Shows told roster roster_file × Shows told transcript transcript_file
-    × Yields read_fault (judge_outcome roster_file transcript_file) answer
-AnswersRequest read_fault disk_fault told master answer (show roster round post) =
-    (roster_file post_file : Option (List ℕ)) × Shows told roster roster_file × Shows told post post_file
-    × Yields read_fault (show_outcome round roster_file post_file) answer
-AnswersRequest read_fault disk_fault told master answer (keygen key height width) =
-    YieldsOr DiskFault disk_fault (keygen_outcome master height width) answer
+-- what stood at the names of inputs when they were read, a file for each
+abbrev pub Stood : Option Held → List Input → List (Option (List ℕ)) → Type 0
+Stood told [] [] = ⊤
+Stood told (input ∷ inputs) (file ∷ files) = Shows told input.name file × Stood told inputs files
+Stood told inputs files = ⊥
 
--- an answer to these words
-abbrev pub Answers : (read_fault disk_fault : Type 0) → Option Held → List ℕ → Option Request → Result (List ℕ) Status → Type 0
-Answers read_fault disk_fault told master request answer =
-    MatchOption request (answer ≡ Err Usage) (AnswersRequest read_fault disk_fault told master answer)
+-- what stands at the names of inputs, where that is known: where the files tell it, or where there are no inputs
+abbrev pub known_files : List Input → Option Held → Option (List (Option (List ℕ)))
+known_files [] told = Some []
+known_files (input ∷ inputs) None = None
+known_files (input ∷ inputs) (Some held) = Some (map (λ i. held i.name) (input ∷ inputs))
 
 -- a file that the words name to be read is missing
-abbrev pub RequestMisses : Option Held → Request → Type 0
-RequestMisses told (judge roster transcript) = IsMissing told roster ⊎ IsMissing told transcript
-RequestMisses told (show roster round post) = IsMissing told roster ⊎ IsMissing told post
-RequestMisses told (keygen key height width) = ⊥
+abbrev pub Misses : Option Held → Request → Type 0
+Misses told request = Any (λ input. IsMissing told input.name) (inputs_of request)

@@ -1,7 +1,7 @@
 -- The outside of the program as its contracts see it: files by name, a sink of bytes, and counts of faults.
-use Rattle.std.specs.Prelude.{◌≡◌, ◌≢◌, ℕ, List, ◌++◌, ⊤, Option, Some, None, IsSome, IfSome, IsSomeAnd, vec_items}
-use Rattle.dissent.specs.declared.outside.FileRead.{FileRead}
-use Rattle.dissent.specs.declared.outside.FileRead.TheVariants.{Bytes, TooLong, Failed, OutOfMemory}
+use Rattle.std.specs.Prelude.{◌≡◌, ◌≢◌, ℕ, List, ◌++◌, ⊤, Option, Some, None, IsSome, IfSome, IsSomeAnd}
+use Rattle.dissent.specs.declared.interfaces.FileRead.{FileRead}
+use Rattle.dissent.specs.declared.interfaces.FileRead.TheVariants.{Bytes, TooLong, Failed, OutOfMemory}
 
 -- what files hold: the bytes of each name, or nothing where the name is missing
 abbrev pub Held : Type 0
@@ -18,7 +18,7 @@ Shows (Some held) name content = held name ≡ content
 
 -- if a read gave bytes, they have P
 abbrev pub IfBytes : FileRead → (List ℕ → Type 0) → Type 0
-IfBytes (Bytes bytes) P = P (vec_items bytes)
+IfBytes (Bytes bytes) P = P bytes
 IfBytes TooLong P = ⊤
 IfBytes Failed P = ⊤
 IfBytes OutOfMemory P = ⊤

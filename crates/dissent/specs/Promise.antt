@@ -1,10 +1,13 @@
--- What the top call promises, in the words of its statuses.
-use Rattle.std.specs.Prelude.{◌≡◌, ◌≢◌, ◌⊎◌, ⊤, ℕ, List, take, Option, None, Some, Result, Ok, Err, IfSome, IfOk}
+-- What the top call promises: a sentence each, over what was asked and over what the files, the disk and the sink held
+-- before the call and hold now.
+use Rattle.std.specs.Prelude.{◌≡◌, ◌≢◌, ◌≤◌, ◌⊎◌, IsTrue, ℕ, List, take, Option, None, Some, option_map, Result, Ok, Err, IfSome, IfOk, IsSomeAnd}
+use Rattle.outside.specs.Changes.{Change, Failed}
 use Rattle.dissent.specs.declared.status.Status.{Status}
-use Rattle.dissent.specs.declared.status.Status.TheVariants.{Done, ReadFault, WriteFault, DiskFault, OutOfMemory}
+use Rattle.dissent.specs.declared.status.Status.TheVariants.{Done, Usage, ReadFault, WriteFault, DiskFault, OutOfMemory}
+use Rattle.dissent.specs.declared.words.Command.TheVariants.{Judge, Show, Keygen}
 use Rattle.dissent.specs.Outside.{Held, Shows, Gains}
-use Rattle.dissent.specs.Command.{Request, judge, show, keygen}
-use Rattle.dissent.specs.Outcome.{Answers, outcome_of, keygen_outcome, made_parts, key_line, accepted_line}
+use Rattle.dissent.specs.Command.{Request, makes_key, requested}
+use Rattle.dissent.specs.Outcome.{Input, inputs_of, outcome_of, MayTell, YieldsBy, Stood, known_files, Misses, made_parts, key_line, accepted_line}
 use Rattle.group_roster.specs.declared.roster.Roster.{Roster}
 use Rattle.judge_core.specs.declared.judging.Accepted.{Accepted}
 use Rattle.group_roster.specs.Roster.{IsRosterFile, roster_spelling}
@@ -19,37 +22,56 @@ use Rattle.lm_ots.specs.declared.types.OtsType.{OtsType}
 use Rattle.lms_tree.specs.declared.secrets.MadeHeight.{MadeHeight}
 use Rattle.key_store.specs.KeyFiles.{key_read, new_content}
 
--- the call came to an answer, and printed it
-abbrev pub AnswersAndPrints : (read_fault disk_fault write_fault : Type 0) → Option Held → List ℕ → Option (List ℕ) → Option (List ℕ)
-    → Option Request → Status → Type 0
-AnswersAndPrints read_fault disk_fault write_fault told master old new request status =
-    (answer : Result (List ℕ) _) × Answers read_fault disk_fault told master request answer × Delivers write_fault old new answer status
+-- what the call was asked: the words, and the bytes that `keygen` makes a key of
+pub record Asked : Type 0 where
+  pub words : List (List ℕ)
+  pub fresh : List ℕ
 
--- a status is the one expected, but for want of memory, for a fault, which a status tells, and for one of the sink
-abbrev pub IsStatusOf : Status → (fault write_fault : Type 0) → Status → Status → Type 0
-IsStatusOf failed fault write_fault expected status =
-    (status ≡ expected) ⊎ (status ≡ OutOfMemory) ⊎ ((status ≡ failed) × fault) ⊎ ((status ≡ WriteFault) × write_fault)
+-- the command that the words ask for
+abbrev pub request_in : Asked → Option Request
+request_in asked = requested asked.words
 
--- The status of `keygen` is Done, whatever files and disk tell. That of another command follows from the words and the
--- files, where the files tell what they hold.
-abbrev pub IsToldStatus : (read_fault disk_fault write_fault : Type 0) → Option Held → List ℕ → Option Request → Status → Type 0
-IsToldStatus read_fault disk_fault write_fault told master (Some (keygen key height width)) status =
-    IsStatusOf DiskFault disk_fault write_fault Done status
-IsToldStatus read_fault disk_fault write_fault told master request status =
-    IfSome told (λ held. IsStatusOf ReadFault read_fault write_fault (status_of (outcome_of master held request)) status)
+-- the words ask for a key file
+abbrev pub MakesKey : Option Request → Type 0
+MakesKey request = IsTrue (makes_key request)
 
--- where no count rose, an output is printed whole
-abbrev pub IsWhole : (fault write_fault : Type 0) → Option (List ℕ) → Option (List ℕ) → Status → Result (List ℕ) Status → Type 0
-IsWhole fault write_fault old new status outcome =
-    IfOk outcome (λ output. ¬ fault → ¬ write_fault → ((status ≡ Done) × Gains old new output) ⊎ (status ≡ OutOfMemory))
+-- ---- answers and statuses
 
--- where no count rose, valid words and files give the whole output, and `keygen` gives it with no word on the files
-abbrev pub IsComplete : (read_fault disk_fault write_fault : Type 0) → Option Held → List ℕ → Option (List ℕ) → Option (List ℕ)
-    → Option Request → Status → Type 0
-IsComplete read_fault disk_fault write_fault told master old new (Some (keygen key height width)) status =
-    IsWhole disk_fault write_fault old new status (keygen_outcome master height width)
-IsComplete read_fault disk_fault write_fault told master old new request status =
-    IfSome told (λ held. IsWhole read_fault write_fault old new status (outcome_of master held request))
+-- an answer to a request over these files and this disk
+abbrev pub AnswersRequest : List ℕ → Change (Option Held) → Change (Option (List ℕ)) → Option Request → Result (List ℕ) Status → Type 0
+AnswersRequest fresh files disk None answer = answer ≡ Err Usage
+AnswersRequest fresh files disk (Some request) answer =
+    (contents : List (Option (List ℕ))) × Stood files.before (inputs_of request) contents
+    × YieldsBy (MayTell request (Failed files) (Failed disk)) (outcome_of fresh request contents) answer
+
+-- the answer to what was asked
+abbrev pub Answers : Asked → Change (Option Held) → Change (Option (List ℕ)) → Result (List ℕ) Status → Type 0
+Answers asked files disk answer = AnswersRequest asked.fresh files disk (request_in asked) answer
+
+-- what a request comes to, where that is known; other words come to Usage
+abbrev pub expected_of : List ℕ → Option Held → Option Request → Option (Result (List ℕ) Status)
+expected_of fresh told None = Some (Err Usage)
+expected_of fresh told (Some request) = option_map (outcome_of fresh request) (known_files (inputs_of request) told)
+
+abbrev pub expected_in : Asked → Change (Option Held) → Option (Result (List ℕ) Status)
+expected_in asked files = expected_of asked.fresh files.before (request_in asked)
+
+-- the faults of files and disk that a request may end with
+abbrev pub FaultOf : Change (Option Held) → Change (Option (List ℕ)) → Option Request → Status → Type 0
+FaultOf files disk None status = ⊥
+FaultOf files disk (Some request) status = MayTell request (Failed files) (Failed disk) status
+
+-- a status is the one expected, but for want of memory, for a fault, which the status tells, and for one of the sink
+abbrev pub IsStatusOf : Result (List ℕ) Status → (fault : Status → Type 0) → (write_fault : Type 0) → Status → Type 0
+IsStatusOf expected fault write_fault status =
+    (status ≡ status_of expected) ⊎ (status ≡ OutOfMemory) ⊎ fault status ⊎ ((status ≡ WriteFault) × write_fault)
+
+-- where there was no fault, an output is printed whole
+abbrev pub IsWhole : (fault : Status → Type 0) → Change (Option (List ℕ)) → Status → Result (List ℕ) Status → Type 0
+IsWhole fault sink status expected = IfOk expected (λ output. ((told : Status) → ¬ fault told) → ¬ Failed sink
+    → ((status ≡ Done) × Gains sink.before sink.now output) ⊎ (status ≡ OutOfMemory))
+
+-- ---- what bears an output out
 
 -- Two files convict a member, and an output says whom and of what. The first spells a roster, and the second convicts
 -- under it. Whoever sent each listed post that is its own, and one content for each slot of a round, is another.
@@ -98,11 +120,14 @@ pub record IsMade (height : MadeHeight) (width : OtsType) (master : List ℕ) (t
 
 -- The outside bears an output out: the files that the words name convict whom `judge` names, or hold what `show` tells;
 -- or the disk holds the key file that `keygen` makes of the master.
-abbrev pub BearsOut : Option Held → (key_file : Option (List ℕ)) → List ℕ → Option Request → List ℕ → Type 0
-BearsOut told key_file master None output = ⊥
-BearsOut told key_file master (Some (judge roster transcript)) output = FilesConvict told roster transcript output
-BearsOut told key_file master (Some (show roster round post)) output = FilesShow told roster round post output
-BearsOut told key_file master (Some (keygen key height width)) output = IsMade height width master key_file output
+abbrev pub BearsOutRequest : List ℕ → Option Held → (key_file : Option (List ℕ)) → Option Request → List ℕ → Type 0
+BearsOutRequest fresh told key_file None output = ⊥
+BearsOutRequest fresh told key_file (Some (Judge roster transcript)) output = FilesConvict told roster transcript output
+BearsOutRequest fresh told key_file (Some (Show roster round post)) output = FilesShow told roster round post output
+BearsOutRequest fresh told key_file (Some (Keygen key height width)) output = IsMade height width fresh key_file output
+
+abbrev pub BearsOut : Asked → Change (Option Held) → Change (Option (List ℕ)) → List ℕ → Type 0
+BearsOut asked files disk output = BearsOutRequest asked.fresh files.before disk.now (request_in asked) output
 
 -- an answer that is an output has P, and one that is a status is not Done
 abbrev pub OnOutput : (List ℕ → Type 0) → Result (List ℕ) Status → Type 0
@@ -110,10 +135,45 @@ OnOutput P (Ok output) = P output
 OnOutput P (Err status) = status ≢ Done
 
 -- an output that has P is what the sink gained
-abbrev pub PrintsOutput : (List ℕ → Type 0) → Option (List ℕ) → Option (List ℕ) → Type 0
-PrintsOutput P old new = (output : List ℕ) × P output × Gains old new output
+abbrev pub PrintsOutput : (List ℕ → Type 0) → Change (Option (List ℕ)) → Type 0
+PrintsOutput P sink = (output : List ℕ) × P output × Gains sink.before sink.now output
 
--- the words ask for a key file
-abbrev pub MakesKey : Option Request → Type 0
-MakesKey (Some (keygen key height width)) = ⊤
-MakesKey request = ⊥
+-- ---- the promises
+
+-- what came of the words, before it is printed
+pub record IsAnswered (asked : Asked) (files : Change (Option Held)) (disk : Change (Option (List ℕ)))
+    (answer : Result (List ℕ) Status) : Type 0 where
+  pub answers : Answers asked files disk answer
+  pub borne_out : OnOutput (BearsOut asked files disk) answer
+  pub files_kept : files.now ≡ files.before
+  pub files_count : files.faults_before ≤ files.faults_now
+  pub disk_kept : ¬ MakesKey (request_in asked) → (disk.now ≡ disk.before) × (disk.faults_now ≡ disk.faults_before)
+  pub disk_count : disk.faults_before ≤ disk.faults_now
+
+-- how an answer was printed
+pub record IsPrinted (sink : Change (Option (List ℕ))) (answer : Result (List ℕ) Status) (status : Status) : Type 0 where
+  pub delivers : Delivers sink answer status
+  pub count : sink.faults_before ≤ sink.faults_now
+
+-- What the call did, and with which status it ended.
+pub record IsRun (asked : Asked) (files : Change (Option Held)) (disk sink : Change (Option (List ℕ))) (status : Status) : Type 0 where
+  -- it came to an answer to what was asked, and printed it
+  pub ends : (answer : Result (List ℕ) Status) × Answers asked files disk answer × Delivers sink answer status
+  -- where it is known what the words come to, the status follows from it, but for memory and for faults that counts tell
+  pub follows : IfSome (expected_in asked files) (λ expected. IsStatusOf expected (FaultOf files disk (request_in asked)) (Failed sink) status)
+  -- and with no fault the whole output is printed
+  pub complete : IfSome (expected_in asked files) (IsWhole (FaultOf files disk (request_in asked)) sink status)
+  -- Done comes of `judge` only where the files convict, and nobody is framed by them; of `show` only where the post passes
+  -- the eight checks; and of `keygen` only where the disk has the key file that the fresh bytes make
+  pub borne_out : status ≡ Done → PrintsOutput (BearsOut asked files disk) sink
+  -- what each status of words and faults tells
+  pub usage : status ≡ Usage → request_in asked ≡ None
+  pub read_fault : status ≡ ReadFault → Failed files ⊎ IsSomeAnd (request_in asked) (Misses files.before)
+  pub disk_fault : status ≡ DiskFault → Failed disk
+  pub write_fault : status ≡ WriteFault → Failed sink
+  -- what stays: the files, and the disk but in `keygen`; and no count falls
+  pub files_kept : files.now ≡ files.before
+  pub disk_kept : ¬ MakesKey (request_in asked) → (disk.now ≡ disk.before) × (disk.faults_now ≡ disk.faults_before)
+  pub files_count : files.faults_before ≤ files.faults_now
+  pub disk_count : disk.faults_before ≤ disk.faults_now
+  pub sink_count : sink.faults_before ≤ sink.faults_now

@@ -4,11 +4,12 @@ ghost use Rattle.std.specs.Prelude.{◌≡◌, ◌≤◌, ◌+◌, ◌-◌, ◌^
 ghost use Rattle.dissent.specs.Outside.{Gains, GainsFirstOf};
 ghost use Rattle.dissent.specs.Host.{within_limit};
 
-use crate::outside::{FileRead, FileWrite, Files, Sink, SinkAnswer};
+use crate::interfaces::{FileRead, FileWrite, Files, Sink, SinkAnswer};
 use std::alloc::Global;
 use std::fs::File;
 use std::io::{ErrorKind, Read, Write};
 use std::{fs, io, rt};
+use wire_core::List;
 
 /// The files of the system.
 #[derive(Drop)]
@@ -46,7 +47,7 @@ impl<'a, R: rt::Files> Files for HostFiles<'a, R> {
             Err(error) => Err(error),
         };
         match answer {
-            Ok(Some(bytes)) => FileRead::Bytes(bytes),
+            Ok(Some(bytes)) => FileRead::Bytes(List::of(bytes)),
             Ok(None) => FileRead::TooLong,
             Err(error) if error.kind() == ErrorKind::OutOfMemory => FileRead::OutOfMemory,
             Err(_) => {

@@ -6,9 +6,9 @@
 mod evidence;
 mod host;
 mod host_disk;
+mod interfaces;
 mod memory;
 mod offline;
-mod outside;
 mod show;
 mod status;
 mod stored;
@@ -18,9 +18,12 @@ mod words;
 
 pub use host::{HostFiles, WriterSink};
 pub use host_disk::HostDisk;
-pub use memory::{MemoryFiles, MemorySink, SteadyFiles, SteadySink};
+pub use interfaces::{FileRead, FileWrite, Files, Sink, SinkAnswer};
+pub use memory::{MemoryFiles, MemorySink};
+use offline::print;
 pub use offline::{POST_FILE_LIMIT, ROSTER_LIMIT, TRANSCRIPT_LIMIT, run_offline};
-pub use outside::{FileRead, FileWrite, Files, Sink, SinkAnswer};
+use rand::TryRng;
+use rand::rngs::SysRng;
 pub use status::Status;
 use std::alloc::{AllocError, Global};
 use std::process::ExitCode;
@@ -28,7 +31,7 @@ use std::random::RandomSource;
 use std::rt::{Env, Runtime};
 use std::thread::Threads;
 use std::{env, io};
-pub use words::{Command, read_words};
+pub use words::{Command, is_keygen, read_words};
 
 fn main(rt: HostRuntime) -> ExitCode {
     ExitCode::from(run(&rt).number())
@@ -36,21 +39,28 @@ fn main(rt: HostRuntime) -> ExitCode {
 
 // Runs the command that the program was started with.
 fn run<R: Runtime<A = Global> + RandomSource + Threads + Sync>(rt: &R) -> Status {
+    let mut out = WriterSink::new(io::writer(rt));
+    match run_given(rt, &mut out) {
+        Ok(status) => status,
+        Err(status) => print(rt.alloc(), Err(status), &mut out),
+    }
+}
+
+// The same, with the status that is still to be printed where words or fresh bytes could not be had. Fresh bytes are
+// drawn only where the words ask for a key file.
+fn run_given<R: Runtime<A = Global> + RandomSource + Threads + Sync, O: Sink>(
+    rt: &R,
+    out: &mut O,
+) -> Result<Status, Status> {
     let alloc = rt.alloc();
-    let words = match given_words(rt) {
-        Ok(words) => words,
-        Err(AllocError) => return Status::OutOfMemory,
-    };
+    let words = given_words(rt)?;
     let mut fresh = [0; 32];
-    match rt.fill_bytes(&mut fresh) {
-        Ok(()) => {}
-        Err(error) if error.kind() == io::ErrorKind::OutOfMemory => return Status::OutOfMemory,
-        Err(_) => return Status::ReadFault,
+    if is_keygen(&words) {
+        draw(rt, &mut fresh)?;
     }
     let mut files = HostFiles::new(rt, alloc);
     let mut disk = HostDisk::new(rt);
-    let mut out = WriterSink::new(io::writer(rt));
-    run_offline(rt, alloc, &words, &mut files, &mut disk, fresh, &mut out)
+    Ok(run_offline(rt, alloc, &words, &mut files, &mut disk, fresh, out))
 }
 
 // The words of the command line without the program's name. Where one is not text, there are none: no command
@@ -60,5 +70,14 @@ fn given_words<R: Env + AllocGlobal>(rt: &R) -> Result<Vec<String>, AllocError> 
         Ok(words) => words.skip(1).collect(rt.alloc()),
         Err(error) if error.kind() == io::ErrorKind::OutOfMemory => Err(AllocError),
         Err(_) => Ok(Vec::new(rt.alloc())),
+    }
+}
+
+// Fills an array with bytes from the system.
+fn draw<S: RandomSource>(source: &S, fresh: &mut [u8; 32]) -> Result<(), Status> {
+    match SysRng::new(source).try_fill_bytes(fresh) {
+        Ok(()) => Ok(()),
+        Err(error) if error.kind() == io::ErrorKind::OutOfMemory => Err(Status::OutOfMemory),
+        Err(_) => Err(Status::ReadFault),
     }
 }

@@ -1,15 +1,15 @@
 //! The commands that use files alone, and the one that makes a key file.
-ghost use Rattle.std.specs.Prelude.{◌≡◌, ◌≢◌, ◌⊎◌, ◌≤◌, None, Some, IfOk, IfErr, IfSome, IsSomeAnd, length, string_bytes};
-ghost use Rattle.key_store.specs.Disk.{Rose};
+ghost use Rattle.std.specs.Prelude.{◌≡◌, ◌≢◌, ◌≤◌, Some, IfOk, IfErr, IfSome, IsSomeAnd, length, string_bytes};
+ghost use Rattle.outside.specs.Faults.{Rose};
+ghost use Rattle.outside.specs.Changes.{change_of};
 ghost use Rattle.dissent.specs.Outside.{Shows, GainsFirstOf};
-ghost use Rattle.dissent.specs.Command.{requested, texts, named};
-ghost use Rattle.dissent.specs.Outcome.{Yields, YieldsOr, Answers, AnswersRequest, RequestMisses, within, judge_outcome, show_outcome, keygen_outcome, made_parts, key_line, accepted_line, or_bad_roster, or_refused};
-ghost use Rattle.dissent.specs.Delivery.{Delivers, DeliversText, answer_bytes, status_of, text_of};
+ghost use Rattle.dissent.specs.Command.{texts};
+ghost use Rattle.dissent.specs.Outcome.{Yields, YieldsOr, within, judge_outcome, show_outcome, keygen_outcome, key_line, accepted_line};
+ghost use Rattle.dissent.specs.Delivery.{DeliversText, answer_bytes, status_of, text_of};
 ghost use Rattle.dissent.specs.Status.{status_line};
-ghost use Rattle.dissent.specs.Promise.{AnswersAndPrints, BearsOut, IsStatusOf, IsToldStatus, IsComplete, IsMade, MakesKey, FilesConvict, FilesShow, OnOutput, PrintsOutput};
-ghost use Rattle.dissent.specs.Refusals.{RefusesRoster, RefusesTranscript};
+ghost use Rattle.dissent.specs.Promise.{IsAnswered, IsMade, IsPrinted, IsRun, FilesConvict, FilesShow, OnOutput};
 
-use crate::outside::{FileRead, Files, Sink, SinkAnswer};
+use crate::interfaces::{FileRead, Files, Sink, SinkAnswer};
 use crate::show::{check_file, shown_text};
 use crate::status::Status;
 use crate::words::{Command, read_words};
@@ -41,42 +41,12 @@ pub fn run_offline<R: Threads + Sync, F: Files, D: Disk, O: Sink>(
     fresh: [u8; 32],
     out: &mut O,
 ) -> Status
-    // The command came to an answer, which is that of its definition but for want of memory and a fault of the
-    // files or, in `keygen`, of the disk, and this answer was printed.
-    ensures ends { AnswersAndPrints (Rose (F.faults files.old) (F.faults files.new))
-        (Rose (D.faults disk.old) (D.faults disk.new)) (Rose (O.faults out.old) (O.faults out.new))
-        (F.told files.old) fresh (O.told out.old) (O.told out.new) (requested (texts words.now.items)) result }
-
-    // Each status: it is the one that follows from the words and, where the files tell, from the files, or a fault
-    // that a count tells, or memory was wanting.
-    ensures status { IsToldStatus (Rose (F.faults files.old) (F.faults files.new))
-        (Rose (D.faults disk.old) (D.faults disk.new)) (Rose (O.faults out.old) (O.faults out.new))
-        (F.told files.old) fresh (requested (texts words.now.items)) result }
-    ensures complete { IsComplete (Rose (F.faults files.old) (F.faults files.new))
-        (Rose (D.faults disk.old) (D.faults disk.new)) (Rose (O.faults out.old) (O.faults out.new))
-        (F.told files.old) fresh (O.told out.old) (O.told out.new) (requested (texts words.now.items)) result }
-
-    // Done comes of `judge` only where the files convict, and nobody is framed by them; of `show` only where the
-    // post passes the eight checks; and of `keygen` only where the disk has the key file that `fresh` makes.
-    ensures borne_out { result ≡ Status.Done → PrintsOutput (BearsOut (F.told files.old) (D.file disk.new)
-        fresh (requested (texts words.now.items))) (O.told out.old) (O.told out.new) }
-
-    ensures usage { result ≡ Status.Usage → requested (texts words.now.items) ≡ None }
-    ensures other_words { requested (texts words.now.items) ≡ None
-        → IsStatusOf Status.ReadFault ⊥ (Rose (O.faults out.old) (O.faults out.new)) Status.Usage result }
-    ensures read_fault { result ≡ Status.ReadFault → Rose (F.faults files.old) (F.faults files.new)
-        ⊎ IsSomeAnd (requested (texts words.now.items)) (RequestMisses (F.told files.old)) }
-    ensures disk_fault { result ≡ Status.DiskFault → Rose (D.faults disk.old) (D.faults disk.new) }
-    ensures write_fault { result ≡ Status.WriteFault → Rose (O.faults out.old) (O.faults out.new) }
-
-    ensures kept { F.told files.new ≡ F.told files.old }
-    ensures no_fall { F.faults files.old ≤ F.faults files.new }
-
-    // Only `keygen` uses the disk.
-    ensures disk_kept { ¬ MakesKey (requested (texts words.now.items)) → D.file disk.new ≡ D.file disk.old }
-    ensures disk_count_kept { ¬ MakesKey (requested (texts words.now.items)) → D.faults disk.new ≡ D.faults disk.old }
-    ensures disk_no_fall { D.faults disk.old ≤ D.faults disk.new }
-    ensures sink_no_fall { O.faults out.old ≤ O.faults out.new }
+    ensures { IsRun
+        (record { words = texts words.now.items; fresh = fresh })
+        (change_of F.faults F.told files.old files.new)
+        (change_of D.faults D.file disk.old disk.new)
+        (change_of O.faults O.told out.old out.new)
+        result }
 {
     let answer = answer_words(alloc, words, files, disk, &fresh);
     print(alloc, answer, out)
@@ -90,15 +60,11 @@ fn answer_words<F: Files, D: Disk>(
     disk: &mut D,
     fresh: &[u8; 32],
 ) -> Result<Vec<u8>, Status>
-    ensures answers { Answers (Rose (F.faults files.old) (F.faults files.new)) (Rose (D.faults disk.old) (D.faults disk.new))
-        (F.told files.old) fresh.now (requested (texts words.now.items)) (answer_bytes result) }
-    ensures borne_out { OnOutput (BearsOut (F.told files.old) (D.file disk.new) fresh.now
-        (requested (texts words.now.items))) (answer_bytes result) }
-    ensures kept { F.told files.new ≡ F.told files.old }
-    ensures no_fall { F.faults files.old ≤ F.faults files.new }
-    ensures disk_kept { ¬ MakesKey (requested (texts words.now.items)) → D.file disk.new ≡ D.file disk.old }
-    ensures disk_count_kept { ¬ MakesKey (requested (texts words.now.items)) → D.faults disk.new ≡ D.faults disk.old }
-    ensures disk_no_fall { D.faults disk.old ≤ D.faults disk.new }
+    ensures { IsAnswered
+        (record { words = texts words.now.items; fresh = fresh.now })
+        (change_of F.faults F.told files.old files.new)
+        (change_of D.faults D.file disk.old disk.new)
+        (answer_bytes result) }
 {
     match read_words(words) {
         Some(Command::Judge { roster, transcript }) => run_judge(alloc, roster, transcript, files),
@@ -125,7 +91,7 @@ fn run_judge<F: Files>(
 ) -> Result<Vec<u8>, Status>
     ensures answers { (roster_file transcript_file : _) × Shows (F.told files.old) (string_bytes roster.now) roster_file
         × Shows (F.told files.old) (string_bytes transcript.now) transcript_file
-        × Yields (Rose (F.faults files.old) (F.faults files.new)) (judge_outcome roster_file transcript_file) (answer_bytes result) }
+        × Yields (Rose (F.faults files.old) (F.faults files.new)) (judge_outcome (within 4096 roster_file) (within 134217728 transcript_file)) (answer_bytes result) }
     ensures convicts { OnOutput (FilesConvict (F.told files.old) (string_bytes roster.now) (string_bytes transcript.now))
         (answer_bytes result) }
     ensures kept { F.told files.new ≡ F.told files.old }
@@ -148,7 +114,7 @@ fn run_show<F: Files>(
 ) -> Result<Vec<u8>, Status>
     ensures answers { (roster_file post_file : _) × Shows (F.told files.old) (string_bytes roster.now) roster_file
         × Shows (F.told files.old) (string_bytes post.now) post_file
-        × Yields (Rose (F.faults files.old) (F.faults files.new)) (show_outcome round roster_file post_file) (answer_bytes result) }
+        × Yields (Rose (F.faults files.old) (F.faults files.new)) (show_outcome round (within 4096 roster_file) (within 16777216 post_file)) (answer_bytes result) }
     ensures shows { OnOutput (FilesShow (F.told files.old) (string_bytes roster.now) round (string_bytes post.now))
         (answer_bytes result) }
     ensures kept { F.told files.new ≡ F.told files.old }
@@ -192,11 +158,13 @@ fn read_within<F: Files>(files: &mut F, name: &String, limit: u32) -> Result<Vec
     ensures bounded { IfOk result (λ bytes. length bytes.items ≤ limit) }
     ensures shown { IfOk result (λ bytes. Shows (F.told files.old) (string_bytes name.now) (Some bytes.items)) }
     ensures status { IfErr result (λ status. status ≢ Status.Done) }
+    ensures memory { result ≡ Err Status.OutOfMemory → IfSome (F.told files.old) (λ held.
+        IsSomeAnd (held (string_bytes name.now)) (λ bytes. length bytes ≤ limit)) }
     ensures kept { F.told files.new ≡ F.told files.old }
     ensures no_fall { F.faults files.old ≤ F.faults files.new }
 {
     match files.read(name, limit) {
-        FileRead::Bytes(bytes) => Ok(bytes),
+        FileRead::Bytes(bytes) => Ok(bytes.into_items()),
         FileRead::TooLong => Err(Status::TooLong { limit }),
         FileRead::Failed => Err(Status::ReadFault),
         FileRead::OutOfMemory => Err(Status::OutOfMemory),
@@ -223,10 +191,8 @@ fn key_text(alloc: Global, key: &LmsPublic) -> Result<Vec<u8>, AllocError>
 }
 
 // Prints the output of a command, or the line of the status that ended it.
-fn print<O: Sink>(alloc: Global, answer: Result<Vec<u8>, Status>, out: &mut O) -> Status
-    ensures delivers { Delivers (Rose (O.faults out.old) (O.faults out.new)) (O.told out.old) (O.told out.new)
-        (answer_bytes answer) result }
-    ensures no_fall { O.faults out.old ≤ O.faults out.new }
+pub(crate) fn print<O: Sink>(alloc: Global, answer: Result<Vec<u8>, Status>, out: &mut O) -> Status
+    ensures { IsPrinted (change_of O.faults O.told out.old out.new) (answer_bytes answer) result }
 {
     // The line that is left to print when memory is gone.
     let Ok(last_line) = Status::OutOfMemory.line(alloc) else {

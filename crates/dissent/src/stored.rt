@@ -3,8 +3,9 @@ ghost use Rattle.std.specs.Prelude.{◌≡◌, ◌<◌, ◌≤◌, ◌∷◌, So
 ghost use Rattle.dissent.specs.Memory.{held_in, IsPut};
 ghost use Rattle.dissent.specs.Outside.{IfBytes};
 
-use crate::outside::FileRead;
+use crate::interfaces::FileRead;
 use std::alloc::{AllocError, Global};
+use wire_core::List;
 
 /// A file with its name.
 #[derive(Debug, Drop)]
@@ -28,6 +29,8 @@ pub fn read_from(alloc: Global, files: &Vec<StoredFile>, name: &String, limit: u
     ensures bytes { IfBytes result (λ bytes. (length bytes ≤ limit) × (held_in files.now.items (string_bytes name.now) ≡ Some bytes)) }
     ensures too_long { result ≡ FileRead.TooLong
         → IsSomeAnd (held_in files.now.items (string_bytes name.now)) (λ bytes. limit < length bytes) }
+    ensures memory { result ≡ FileRead.OutOfMemory
+        → IsSomeAnd (held_in files.now.items (string_bytes name.now)) (λ bytes. length bytes ≤ limit) }
     ensures failed { result ≡ FileRead.Failed → held_in files.now.items (string_bytes name.now) ≡ None }
 {
     let Some(bytes) = first_of(files, name) else {
@@ -37,7 +40,7 @@ pub fn read_from(alloc: Global, files: &Vec<StoredFile>, name: &String, limit: u
         return FileRead::TooLong;
     }
     match bytes.to_vec(alloc) {
-        Ok(copy) => FileRead::Bytes(copy),
+        Ok(copy) => FileRead::Bytes(List::of(copy)),
         Err(AllocError) => FileRead::OutOfMemory,
     }
 }

@@ -4,6 +4,7 @@ use super::*;
 use key_store::{Disk, DiskAnswer, DiskRead, MemoryDisk, SteadyDisk};
 use std::alloc::Global;
 use std::test::Fail;
+use std::thread::Threads;
 
 pub(crate) fn words_of(alloc: Global, words: &[&str]) -> Result<Vec<String>, AllocError> {
     let mut all = Vec::new(alloc);
@@ -20,15 +21,31 @@ const JUDGE: [&str; 5] = ["judge", "--roster", "r", "--transcript", "t"];
 
 const SHOW: [&str; 7] = ["show", "--roster", "r", "--round", "8", "--post", "t"];
 
-// Files of which the roster `r` has this many bytes and the transcript `t` as many.
-fn two_files(alloc: Global, roster: usize, transcript: usize) -> Result<SteadyFiles, AllocError> {
-    let mut files = SteadyFiles::new(alloc);
-    for (name, len) in [("r", roster), ("t", transcript)] {
-        let name = String::from_str(alloc, name)?;
-        let bytes = vec![in alloc; 0u8; len]?;
-        let _ = files.write(&name, &bytes);
+// Files of these names and bytes, of which the calls behind their writing fail that the plan names.
+pub(crate) fn files_of(
+    alloc: Global,
+    failing: Vec<u64>,
+    named: &[(&str, &Vec<u8>)],
+) -> Result<MemoryFiles, AllocError> {
+    let mut files = MemoryFiles::new(alloc, failing);
+    for (name, bytes) in named {
+        let _ = files.write(&String::from_str(alloc, name)?, bytes);
     }
     Ok(files)
+}
+
+// How a command ends over these files, with what it prints. No write fails, and no call of the disk.
+pub(crate) fn run_words<R: Threads + Sync>(
+    rt: &R,
+    alloc: Global,
+    words: &[&str],
+    files: &mut MemoryFiles,
+) -> Result<(Status, MemorySink), AllocError> {
+    let words = words_of(alloc, words)?;
+    let mut disk = SteadyDisk::new(alloc)?;
+    let mut out = MemorySink::new(alloc, Vec::new(alloc));
+    let status = run_offline(rt, alloc, &words, files, &mut disk, FRESH, &mut out);
+    Ok((status, out))
 }
 
 #[test]
@@ -58,11 +75,8 @@ fn other_words_are_usage(rt: HostRuntime) -> Result<(), Fail> {
         ["keygen", "--key", "k", "--height", "5", "--width", "3"].as_slice(),
         ["keygen", "--key", "k", "--width", "8", "--height", "5"].as_slice(),
     ] {
-        let words = words_of(alloc, words)?;
-        let mut files = two_files(alloc, 100, 100)?;
-        let mut out = SteadySink::new(alloc);
-        let mut disk = SteadyDisk::new(alloc)?;
-        let status = run_offline(&rt, alloc, &words, &mut files, &mut disk, FRESH, &mut out);
+        let mut files = files_of(alloc, Vec::new(alloc), &[])?;
+        let (status, out) = run_words(&rt, alloc, words, &mut files)?;
         assert_eq!(rt; status, Status::Usage);
         assert_eq!(rt; status.number(), 1);
         assert_eq!(rt; out.written(), b"usage\n".as_slice());
@@ -73,11 +87,8 @@ fn other_words_are_usage(rt: HostRuntime) -> Result<(), Fail> {
 #[test]
 fn a_missing_roster_is_a_read_fault(rt: HostRuntime) -> Result<(), Fail> {
     let alloc = rt.alloc();
-    let words = words_of(alloc, &JUDGE)?;
-    let mut files = MemoryFiles::new(SteadyFiles::new(alloc), Vec::new(alloc));
-    let mut out = MemorySink::new(alloc, Vec::new(alloc));
-    let mut disk = SteadyDisk::new(alloc)?;
-    let status = run_offline(&rt, alloc, &words, &mut files, &mut disk, FRESH, &mut out);
+    let mut files = files_of(alloc, Vec::new(alloc), &[])?;
+    let (status, out) = run_words(&rt, alloc, &JUDGE, &mut files)?;
     assert_eq!(rt; status.number(), 5);
     assert_eq!(rt; out.written(), b"read fault\n".as_slice());
     Ok(())
@@ -110,19 +121,15 @@ fn post_of_round_7(alloc: Global) -> Result<Vec<u8>, Fail> {
 #[test]
 fn a_cut_post_and_one_of_another_round_are_not_shown(rt: HostRuntime) -> Result<(), Fail> {
     let alloc = rt.alloc();
-    let words = words_of(alloc, &SHOW)?;
+    let roster = roster_of_two(alloc)?;
     let cut = vec![in alloc; 0u8; 3]?;
     let other = post_of_round_7(alloc)?;
     for (post, line) in [
         (&cut, b"refused check 1 post 1 at 3\n".as_slice()),
         (&other, b"refused check 4 post 1 at 0\n".as_slice()),
     ] {
-        let mut files = SteadyFiles::new(alloc);
-        let _ = files.write(&String::from_str(alloc, "r")?, &roster_of_two(alloc)?);
-        let _ = files.write(&String::from_str(alloc, "t")?, post);
-        let mut out = SteadySink::new(alloc);
-        let mut disk = SteadyDisk::new(alloc)?;
-        let status = run_offline(&rt, alloc, &words, &mut files, &mut disk, FRESH, &mut out);
+        let mut files = files_of(alloc, Vec::new(alloc), &[("r", &roster), ("t", post)])?;
+        let (status, out) = run_words(&rt, alloc, &SHOW, &mut files)?;
         assert_eq!(rt; status.number(), 4);
         assert_eq!(rt; out.written(), line);
     }
@@ -132,13 +139,11 @@ fn a_cut_post_and_one_of_another_round_are_not_shown(rt: HostRuntime) -> Result<
 #[test]
 fn a_failed_read_of_the_transcript_is_a_read_fault(rt: HostRuntime) -> Result<(), Fail> {
     let alloc = rt.alloc();
-    let words = words_of(alloc, &JUDGE)?;
-    let mut held = two_files(alloc, 0, 100)?;
-    let _ = held.write(&String::from_str(alloc, "r")?, &roster_of_two(alloc)?);
-    let mut files = MemoryFiles::new(held, vec![in alloc; 2]?);
-    let mut out = SteadySink::new(alloc);
-    let mut disk = SteadyDisk::new(alloc)?;
-    let status = run_offline(&rt, alloc, &words, &mut files, &mut disk, FRESH, &mut out);
+    let roster = roster_of_two(alloc)?;
+    let transcript = vec![in alloc; 0u8; 100]?;
+    let failing = vec![in alloc; 4]?;
+    let mut files = files_of(alloc, failing, &[("r", &roster), ("t", &transcript)])?;
+    let (status, _) = run_words(&rt, alloc, &JUDGE, &mut files)?;
     assert_eq!(rt; status, Status::ReadFault);
     Ok(())
 }
@@ -147,7 +152,7 @@ fn a_failed_read_of_the_transcript_is_a_read_fault(rt: HostRuntime) -> Result<()
 fn a_failed_first_write_is_a_write_fault(rt: HostRuntime) -> Result<(), Fail> {
     let alloc = rt.alloc();
     let words = words_of(alloc, &JUDGE)?;
-    let mut files = two_files(alloc, 100, 100)?;
+    let mut files = files_of(alloc, Vec::new(alloc), &[])?;
     let mut out = MemorySink::new(alloc, vec![in alloc; 1]?);
     let mut disk = SteadyDisk::new(alloc)?;
     let status = run_offline(&rt, alloc, &words, &mut files, &mut disk, FRESH, &mut out);
@@ -159,7 +164,6 @@ fn a_failed_first_write_is_a_write_fault(rt: HostRuntime) -> Result<(), Fail> {
 #[test]
 fn wrong_rosters_have_their_status(rt: HostRuntime) -> Result<(), Fail> {
     let alloc = rt.alloc();
-    let words = words_of(alloc, &JUDGE)?;
     let long = vec![in alloc; 0u8; 4097]?;
     let mut of_one = roster_of_two(alloc)?;
     if let Some(members) = of_one.get_mut(5) {
@@ -169,11 +173,8 @@ fn wrong_rosters_have_their_status(rt: HostRuntime) -> Result<(), Fail> {
         (&long, 13, b"too long limit 4096\n".as_slice()),
         (&of_one, 11, b"bad roster at 5 rule 3\n".as_slice()),
     ] {
-        let mut files = two_files(alloc, 0, 100)?;
-        let _ = files.write(&String::from_str(alloc, "r")?, roster);
-        let mut out = SteadySink::new(alloc);
-        let mut disk = SteadyDisk::new(alloc)?;
-        let status = run_offline(&rt, alloc, &words, &mut files, &mut disk, FRESH, &mut out);
+        let mut files = files_of(alloc, Vec::new(alloc), &[("r", roster)])?;
+        let (status, out) = run_words(&rt, alloc, &JUDGE, &mut files)?;
         assert_eq!(rt; status.number(), number);
         assert_eq!(rt; out.written(), line);
     }
@@ -187,7 +188,7 @@ fn real_files_are_written_and_read(rt: HostRuntime) -> Result<(), Fail> {
     let bytes = vec![in alloc; 7u8; 10]?;
     let mut files = HostFiles::new(&rt, alloc);
     assert_eq!(rt; files.write(&name, &bytes), FileWrite::Written);
-    assert!(rt; matches!(files.read(&name, 10), FileRead::Bytes(read) if read == bytes));
+    assert!(rt; matches!(files.read(&name, 10), FileRead::Bytes(read) if read.items() == &bytes));
     assert!(rt; matches!(files.read(&name, 9), FileRead::TooLong));
     std::fs::remove_file(&rt, name.as_str())?;
     assert!(rt; matches!(files.read(&name, 10), FileRead::Failed));
@@ -200,8 +201,8 @@ const KEYGEN: [&str; 7] = ["keygen", "--key", "k", "--height", "5", "--width", "
 fn a_failed_disk_is_a_disk_fault(rt: HostRuntime) -> Result<(), Fail> {
     let alloc = rt.alloc();
     let words = words_of(alloc, &KEYGEN)?;
-    let mut files = SteadyFiles::new(alloc);
-    let mut out = SteadySink::new(alloc);
+    let mut files = MemoryFiles::new(alloc, Vec::new(alloc));
+    let mut out = MemorySink::new(alloc, Vec::new(alloc));
     let mut disk = MemoryDisk::new(alloc, vec![in alloc; 1]?)?;
     let status = run_offline(&rt, alloc, &words, &mut files, &mut disk, FRESH, &mut out);
     assert_eq!(rt; status.number(), 8);
@@ -219,7 +220,7 @@ fn a_real_key_file_is_made(rt: HostRuntime) -> Result<(), Fail> {
     }
     let _ = std::fs::remove_file(&rt, name.as_str());
     let mut files = HostFiles::new(&rt, alloc);
-    let mut out = SteadySink::new(alloc);
+    let mut out = MemorySink::new(alloc, Vec::new(alloc));
     let mut disk = HostDisk::new(&rt);
     let made = run_offline(&rt, alloc, &words, &mut files, &mut disk, FRESH, &mut out);
     assert_eq!(rt; made, Status::Done);
@@ -229,7 +230,7 @@ fn a_real_key_file_is_made(rt: HostRuntime) -> Result<(), Fail> {
     );
     assert!(rt;
         matches!(files.read(&name, 128), FileRead::Bytes(file)
-        if file.len() == 128 && file.get(64) == Some(&1))
+        if file.items().len() == 128 && file.items().get(64) == Some(&1))
     );
     let again = run_offline(&rt, alloc, &words, &mut files, &mut disk, FRESH, &mut out);
     assert_eq!(rt; again, Status::DiskFault);
@@ -268,4 +269,23 @@ fn the_standard_output_is_written(rt: HostRuntime) -> Result<(), Fail> {
         SinkAnswer::Written
     );
     Ok(())
+}
+
+// A source of ones.
+struct Ones;
+
+impl RandomSource for Ones {
+    fn fill_bytes(&self, bytes: &mut [u8]) -> io::Result<()> {
+        for byte in bytes {
+            *byte = 1;
+        }
+        Ok(())
+    }
+}
+
+#[test]
+fn all_fresh_bytes_are_drawn(rt: HostRuntime) {
+    let mut fresh = [0; 32];
+    assert!(rt; draw(&Ones, &mut fresh).is_ok());
+    assert!(rt; fresh == [1; 32]);
 }

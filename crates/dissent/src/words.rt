@@ -1,26 +1,26 @@
 //! The words of a command line.
-ghost use Rattle.std.specs.Prelude.{◌≡◌, None, Some, MatchOption, IsTrue, ◌↔◌, length, option_map, string_bytes};
-ghost use Rattle.dissent.specs.Command.{requested, named, texts, is_value, number_of, height_of, width_of, has_judge_form, has_show_form, has_keygen_form, show_values, keygen_values};
+ghost use Rattle.std.specs.Prelude.{◌≡◌, None, Some, MatchOption, IsTrue, ◌↔◌, ◌∷◌, [], length, option_map, string_bytes};
+ghost use Rattle.dissent.specs.Command.{requested, makes_key, request_of, texts, is_value, number_of, height_of, width_of, has_form, judge_form, show_form, keygen_form, show_values, keygen_values};
 
 use lms_tree::{MadeHeight, OtsType};
 
-/// A command with the names that its words give.
+/// A command with its names, as its words give them.
 #[derive(Clone, Copy)]
-pub enum Command<'a> {
+pub enum Command<N> {
     /// Judges a transcript under a roster.
     Judge {
-        roster: &'a String,
-        transcript: &'a String,
+        roster: N,
+        transcript: N,
     },
     /// Shows what a post says that passes the checks under a roster for a round.
     Show {
-        roster: &'a String,
+        roster: N,
         round: u64,
-        post: &'a String,
+        post: N,
     },
     /// Makes a key file of a height and a width, and tells the public key.
     Keygen {
-        key: &'a String,
+        key: N,
         height: MadeHeight,
         width: OtsType,
     },
@@ -31,9 +31,9 @@ pub enum Command<'a> {
 /// is empty or begins with `-`, R is a number from 1 to 2^64 - 1 in decimal digits, of which the first is not 0, H is
 /// `5` or `10`, and W is `1`, `2`, `4` or `8`.
 #[tactic(auto, using(crate::proofs::Requests::other_count))]
-pub fn read_words(words: &Vec<String>) -> Option<Command<'_>>
+pub fn read_words(words: &Vec<String>) -> Option<Command<&String>>
     ensures { MatchOption result (requested (texts words.now.items) ≡ None)
-        (λ command. requested (texts words.now.items) ≡ Some (named command)) }
+        (λ command. requested (texts words.now.items) ≡ Some (request_of command (λ name. string_bytes name.now))) }
 {
     match words.len() {
         5 => judge_words(words),
@@ -42,11 +42,18 @@ pub fn read_words(words: &Vec<String>) -> Option<Command<'_>>
     }
 }
 
+/// Whether the words ask for a key file.
+pub fn is_keygen(words: &Vec<String>) -> bool
+    ensures { result ≡ makes_key (requested (texts words.now.items)) }
+{
+    matches!(read_words(words), Some(Command::Keygen { .. }))
+}
+
 // The same for five words, which only `judge` has.
-fn judge_words(words: &Vec<String>) -> Option<Command<'_>>
+fn judge_words(words: &Vec<String>) -> Option<Command<&String>>
     requires { length words.now.items ≡ 5 }
     ensures { MatchOption result (requested (texts words.now.items) ≡ None)
-        (λ command. requested (texts words.now.items) ≡ Some (named command)) }
+        (λ command. requested (texts words.now.items) ≡ Some (request_of command (λ name. string_bytes name.now))) }
 {
     let [
         command,
@@ -69,10 +76,10 @@ fn judge_words(words: &Vec<String>) -> Option<Command<'_>>
 }
 
 // The same for seven words, which `show` and `keygen` have.
-fn seven_words(words: &Vec<String>) -> Option<Command<'_>>
+fn seven_words(words: &Vec<String>) -> Option<Command<&String>>
     requires { length words.now.items ≡ 7 }
     ensures { MatchOption result (requested (texts words.now.items) ≡ None)
-        (λ command. requested (texts words.now.items) ≡ Some (named command)) }
+        (λ command. requested (texts words.now.items) ≡ Some (request_of command (λ name. string_bytes name.now))) }
 {
     let [
         command,
@@ -96,8 +103,12 @@ fn seven_words(words: &Vec<String>) -> Option<Command<'_>>
 }
 
 // The command `show` of these values.
-fn show_words<'a>(roster: &'a String, round: &String, post: &'a String) -> Option<Command<'a>>
-    ensures { option_map named result ≡ show_values (string_bytes roster.now) (string_bytes round.now) (string_bytes post.now) }
+fn show_words<'a>(
+    roster: &'a String,
+    round: &String,
+    post: &'a String,
+) -> Option<Command<&'a String>>
+    ensures { option_map (λ command. request_of command (λ name. string_bytes name.now)) result ≡ show_values (string_bytes roster.now) (string_bytes round.now) (string_bytes post.now) }
 {
     if is_plain(roster) && is_plain(post) {
         let round = read_number(round)?;
@@ -112,8 +123,8 @@ fn show_words<'a>(roster: &'a String, round: &String, post: &'a String) -> Optio
 }
 
 // The command `keygen` of these values.
-fn keygen_words<'a>(key: &'a String, height: &String, width: &String) -> Option<Command<'a>>
-    ensures { option_map named result ≡ keygen_values (string_bytes key.now) (string_bytes height.now) (string_bytes width.now) }
+fn keygen_words<'a>(key: &'a String, height: &String, width: &String) -> Option<Command<&'a String>>
+    ensures { option_map (λ command. request_of command (λ name. string_bytes name.now)) result ≡ keygen_values (string_bytes key.now) (string_bytes height.now) (string_bytes width.now) }
 {
     if is_plain(key) {
         let height = read_height(height)?;
@@ -126,7 +137,8 @@ fn keygen_words<'a>(key: &'a String, height: &String, width: &String) -> Option<
 
 // Whether the words that are no values are those of `judge`.
 fn is_judge_form(command: &String, first_option: &String, second_option: &String) -> bool
-    ensures { result ≡ has_judge_form (string_bytes command.now) (string_bytes first_option.now) (string_bytes second_option.now) }
+    ensures { result ≡ has_form
+        (string_bytes command.now ∷ string_bytes first_option.now ∷ string_bytes second_option.now ∷ []) judge_form }
 {
     command.as_str() == "judge"
         && first_option.as_str() == "--roster"
@@ -140,8 +152,8 @@ fn is_show_form(
     second_option: &String,
     third_option: &String,
 ) -> bool
-    ensures { result ≡ has_show_form (string_bytes command.now) (string_bytes first_option.now)
-        (string_bytes second_option.now) (string_bytes third_option.now) }
+    ensures { result ≡ has_form (string_bytes command.now ∷ string_bytes first_option.now
+        ∷ string_bytes second_option.now ∷ string_bytes third_option.now ∷ []) show_form }
 {
     command.as_str() == "show"
         && first_option.as_str() == "--roster"
@@ -156,8 +168,8 @@ fn is_keygen_form(
     second_option: &String,
     third_option: &String,
 ) -> bool
-    ensures { result ≡ has_keygen_form (string_bytes command.now) (string_bytes first_option.now)
-        (string_bytes second_option.now) (string_bytes third_option.now) }
+    ensures { result ≡ has_form (string_bytes command.now ∷ string_bytes first_option.now
+        ∷ string_bytes second_option.now ∷ string_bytes third_option.now ∷ []) keygen_form }
 {
     command.as_str() == "keygen"
         && first_option.as_str() == "--key"

@@ -1,5 +1,5 @@
 //! Which calls of an object in memory fail.
-ghost use Rattle.std.specs.Prelude.{◌≡◌};
+ghost use Rattle.std.specs.Prelude.{◌≡◌, ◌≤◌};
 ghost use Rattle.outside.specs.Plans.{after_call, call_counted, fails_next, fault_counted, plan_of};
 
 use std::marker::Model;
@@ -36,6 +36,7 @@ impl FaultPlan {
     pub fn fails(&mut self) -> bool
         ensures answer { result ≡ fails_next self.old }
         ensures counted { self.new ≡ after_call self.old }
+        ensures no_fall { self.old.faults ≤ self.new.faults }
     {
         if self.call() {
             self.fault();
@@ -55,7 +56,8 @@ impl FaultPlan {
 
     /// Counts a fault.
     pub fn fault(&mut self)
-        ensures { self.new ≡ fault_counted self.old }
+        ensures counted { self.new ≡ fault_counted self.old }
+        ensures no_fall { self.old.faults ≤ self.new.faults }
     {
         self.faults = self.faults.saturating_add(1);
     }

@@ -1,5 +1,8 @@
 use Rattle.dissent.proofs.Printing.{broken_at_once}
 use Rattle.dissent.proofs.offline.print.Goals as goal
 
-pub returns-clause-delivers : goal.returns-clause-delivers
-returns-clause-delivers g c = rw c.print_last.ensures.status (broken_at_once _ _ _ _ _ (rw c.in-Ok.ensures at c.print_last.ensures.part))
+pub returns : goal.returns
+returns g c = record {
+  delivers = rw c.print_last.ensures.status (broken_at_once _ _ _ _ _ (rw c.in-Ok.ensures at c.print_last.ensures.part));
+  count = c.print_last.ensures.no_fall;
+}

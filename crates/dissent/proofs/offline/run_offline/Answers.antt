@@ -1,26 +1,21 @@
-use Rattle.dissent.proofs.Promised.{promised_status, promised_complete, promised_usage, promised_other_words, promised_read_fault, promised_disk_fault, promised_write_fault, promised_borne_out}
+use Rattle.dissent.proofs.Promised.{follows, complete, borne_out, usage, read_fault, disk_fault, write_fault}
 use Rattle.dissent.proofs.offline.run_offline.Goals as goal
 
-pub returns-clause-status : goal.returns-clause-status
-returns-clause-status g c = promised_status _ _ _ _ _ _ _ _ _ _ c.answer_words-answer.ensures.answers c.print.ensures.delivers
-
-pub returns-clause-complete : goal.returns-clause-complete
-returns-clause-complete g c = promised_complete _ _ _ _ _ _ _ _ _ _ c.answer_words-answer.ensures.answers c.print.ensures.delivers
-
-pub returns-clause-usage : goal.returns-clause-usage
-returns-clause-usage g c = promised_usage _ _ _ _ _ _ _ _ _ _ c.answer_words-answer.ensures.answers c.print.ensures.delivers
-
-pub returns-clause-read_fault : goal.returns-clause-read_fault
-returns-clause-read_fault g c = promised_read_fault _ _ _ _ _ _ _ _ _ _ c.answer_words-answer.ensures.answers c.print.ensures.delivers
-
-pub returns-clause-disk_fault : goal.returns-clause-disk_fault
-returns-clause-disk_fault g c = promised_disk_fault _ _ _ _ _ _ _ _ _ _ c.answer_words-answer.ensures.answers c.print.ensures.delivers
-
-pub returns-clause-write_fault : goal.returns-clause-write_fault
-returns-clause-write_fault g c = promised_write_fault _ _ _ _ _ _ _ _ _ _ c.answer_words-answer.ensures.answers c.print.ensures.delivers
-
-pub returns-clause-other_words : goal.returns-clause-other_words
-returns-clause-other_words g c = promised_other_words _ _ _ _ _ _ _ _ _ _ c.answer_words-answer.ensures.answers c.print.ensures.delivers
-
-pub returns-clause-borne_out : goal.returns-clause-borne_out
-returns-clause-borne_out g c = promised_borne_out _ _ _ _ _ _ c.answer_words-answer.ensures.borne_out c.print.ensures.delivers
+pub returns : goal.returns
+returns g c =
+    let answered = c.answer_words-answer.ensures in
+    let printed = c.print.ensures in record {
+      ends = (_, answered.answers, printed.delivers);
+      follows = follows _ _ _ _ _ _ answered printed;
+      complete = complete _ _ _ _ _ _ answered printed;
+      borne_out = borne_out _ _ _ _ _ _ answered printed;
+      usage = usage _ _ _ _ _ _ answered printed;
+      read_fault = read_fault _ _ _ _ _ _ answered printed;
+      disk_fault = disk_fault _ _ _ _ _ _ answered printed;
+      write_fault = write_fault _ _ _ _ _ _ answered printed;
+      files_kept = answered.files_kept;
+      disk_kept = answered.disk_kept;
+      files_count = answered.files_count;
+      disk_count = answered.disk_count;
+      sink_count = printed.count;
+    }

@@ -1,14 +1,16 @@
 //! The outside as the program sees it: files by name, and a sink for what it prints. What a clause says of
 //! content it says of outside objects that tell it; an adapter over the real thing tells nothing.
-ghost use Rattle.std.specs.Prelude.{◌≡◌, ◌⊎◌, ℕ, ◌≤◌, ◌<◌, List, length, Option, None, Some, IfSome, IsSomeAnd, string_bytes};
-ghost use Rattle.key_store.specs.Disk.{Rose};
+ghost use Rattle.std.specs.Prelude.{◌≡◌, ◌⊎◌, ℕ, ◌≤◌, ◌<◌, List as Items, length, Option, None, Some, IfSome, IsSomeAnd, string_bytes};
+ghost use Rattle.outside.specs.Faults.{Rose};
 ghost use Rattle.dissent.specs.Outside.{IsMissing, Shows, IfBytes, HoldsNow, OthersStay, Gains, GainsFirstOf};
+
+use wire_core::List;
 
 /// What a read of a file answers.
 #[derive(Debug, Drop)]
 pub enum FileRead {
     /// All bytes of the file, which are at most the limit.
-    Bytes(Vec<u8>),
+    Bytes(List<u8>),
     /// The file has more bytes than the limit.
     TooLong,
     /// The file could not be read, or is missing.
@@ -36,13 +38,13 @@ pub enum SinkAnswer {
     OutOfMemory,
 }
 
-/// Files by name.
+/// Files by name. Where they tell what they hold, they go on telling it.
 pub trait Files {
     /// How often reading or writing has failed. The count stays at 2^64 - 1.
     ghost faults: { Self → ℕ };
 
     /// The bytes of each name, where the files tell them.
-    ghost told: { Self → Option (List ℕ → Option (List ℕ)) };
+    ghost told: { Self → Option (Items ℕ → Option (Items ℕ)) };
 
     /// Reads a file of at most `limit` bytes. A missing file is `Failed`, and no fault where the files tell.
     fn read(&mut self, name: &String, limit: u32) -> FileRead
@@ -54,6 +56,9 @@ pub trait Files {
             ⊎ IsMissing (told self.old) (string_bytes name.now) }
         ensures missing { result ≡ FileRead.Failed → IsMissing (told self.old) (string_bytes name.now)
             → faults self.new ≡ faults self.old }
+        // Out of memory hides neither of the two.
+        ensures memory { result ≡ FileRead.OutOfMemory → IfSome (told self.old) (λ held.
+            IsSomeAnd (held (string_bytes name.now)) (λ bytes. length bytes ≤ limit)) }
         ensures no_fall { faults self.old ≤ faults self.new }
         ensures kept { told self.new ≡ told self.old };
 
@@ -66,13 +71,13 @@ pub trait Files {
         ensures no_fall { faults self.old ≤ faults self.new };
 }
 
-/// What is printed goes in here, piece by piece.
+/// What is printed goes in here, piece by piece. A sink that tells what was written goes on telling it.
 pub trait Sink {
     /// How often writing has failed. The count stays at 2^64 - 1.
     ghost faults: { Self → ℕ };
 
     /// All bytes written so far, where the sink tells them.
-    ghost told: { Self → Option (List ℕ) };
+    ghost told: { Self → Option (Items ℕ) };
 
     /// Writes a piece.
     fn write(&mut self, piece: &Vec<u8>) -> SinkAnswer
