@@ -17,7 +17,7 @@ use Rattle.dissent.specs.declared.status.Status.TheVariants.{Done, Usage, Refuse
 use Rattle.judge_core.specs.declared.judging.Accepted.{Accepted}
 use Rattle.transcript_form.specs.Refusals.{Failure}
 use Rattle.group_roster.specs.declared.roster.Roster.{Roster}
-use Rattle.group_roster.specs.Roster.{roster_read, IsRosterFile, roster_spelling}
+use Rattle.group_roster.specs.Roster.{roster_read, IsRosterFile, roster_spelling, shape_of_roster}
 use Rattle.phase_message.specs.declared.content.Content.{Content}
 use Rattle.judge_core.specs.Checks.{printed_judgement_of}
 use Rattle.signed_post.specs.Admission.{IsPostFile}
@@ -357,7 +357,7 @@ keygen_answered asked files disk key height width answer e y bears disk_count ke
 pub convicted : (told told' : Option Held) (roster transcript bytes bytes' read read' text : List ℕ) (value : Roster) (accepted : Accepted)
     → Shows told roster (Some bytes) → told' ≡ told → Shows told' transcript (Some read) → bytes' ≡ bytes → read' ≡ read
     → IsRosterFile value × (bytes' ≡ roster_spelling value) → Accepts value read' accepted.accused accepted.claim
-    → ((sent : List (List ℕ)) → GivesNoGround accepted.claim sent → ListsSaid value read' accepted.accused sent → ⊥)
+    → ((sent : List (List ℕ)) → GivesNoGround (shape_of_roster value) accepted.claim sent → ListsSaid value read' accepted.accused sent → ⊥)
     → text ≡ accepted_line accepted → FilesConvict told roster transcript text
 convicted told told' roster transcript bytes bytes' read read' text value accepted shows same shows' e e' spelled accepts no_framing printed =
     let At : Option Held → Type 0 = λ t. Shows t transcript (Some read) in (
@@ -375,7 +375,7 @@ convicted told told' roster transcript bytes bytes' read read' text value accept
         spelled = (spelled.0, sym e ∙ spelled.1);
         accepts = subst (λ (b : List ℕ). Accepts value b accepted.accused accepted.claim) e' accepts;
         printed = printed;
-        no_framing = subst (λ (b : List ℕ). (sent : List (List ℕ)) → GivesNoGround accepted.claim sent → ListsSaid value b accepted.accused sent → ⊥) e' no_framing;
+        no_framing = subst (λ (b : List ℕ). (sent : List (List ℕ)) → GivesNoGround (shape_of_roster value) accepted.claim sent → ListsSaid value b accepted.accused sent → ⊥) e' no_framing;
       },
     )
 

@@ -10,7 +10,7 @@ use Rattle.dissent.specs.Command.{Request, makes_key, requested}
 use Rattle.dissent.specs.Outcome.{Input, inputs_of, outcome_of, MayTell, YieldsBy, Stood, known_files, Misses, made_parts, key_line, accepted_line}
 use Rattle.group_roster.specs.declared.roster.Roster.{Roster}
 use Rattle.judge_core.specs.declared.judging.Accepted.{Accepted}
-use Rattle.group_roster.specs.Roster.{IsRosterFile, roster_spelling}
+use Rattle.group_roster.specs.Roster.{IsRosterFile, roster_spelling, shape_of_roster}
 use Rattle.judge_core.specs.Accepts.{Accepts}
 use Rattle.judge_core.specs.Framing.{GivesNoGround, ListsSaid}
 use Rattle.phase_message.specs.declared.content.Content.{Content}
@@ -74,7 +74,7 @@ IsWhole fault sink status expected = IfOk expected (λ output. ((told : Status) 
 -- ---- what bears an output out
 
 -- Two files convict a member, and an output says whom and of what. The first spells a roster, and the second convicts
--- under it. Whoever sent each listed post that is its own, and one content for each slot of a round, is another.
+-- under it. Whoever sent each listed post that is its own, and no content that gives ground for the claim, is another.
 pub record IsConviction (roster_file transcript_file : Option (List ℕ)) (output : List ℕ) : Type 0 where
   pub roster_bytes : List ℕ
   pub bytes : List ℕ
@@ -85,7 +85,7 @@ pub record IsConviction (roster_file transcript_file : Option (List ℕ)) (outpu
   pub spelled : IsRosterFile roster × (roster_bytes ≡ roster_spelling roster)
   pub accepts : Accepts roster bytes accepted.accused accepted.claim
   pub printed : output ≡ accepted_line accepted
-  pub no_framing : (sent : List (List ℕ)) → GivesNoGround accepted.claim sent → ListsSaid roster bytes accepted.accused sent → ⊥
+  pub no_framing : (sent : List (List ℕ)) → GivesNoGround (shape_of_roster roster) accepted.claim sent → ListsSaid roster bytes accepted.accused sent → ⊥
 
 -- the files of these names convict
 abbrev pub FilesConvict : Option Held → List ℕ → List ℕ → List ℕ → Type 0

@@ -1,14 +1,21 @@
 -- What the judge accepts convicts, what convicts is accepted, and nobody is framed.
-use Rattle.std.proofs.Common.{◌≡◌, ◌≢◌, ℕ, Bool, true, false, not, ◌&&◌, List, [], ◌∷◌, length, Option, Some, None, Result, Ok, Err, refl, sym, ap, subst, ◌∙◌, arith}
-use Rattle.std.specs.Prelude.{◌==◌, bytes_eq, Contains, IsTrue}
+use Rattle.std.proofs.Common.{◌≡◌, ◌≢◌, ℕ, Bool, true, false, not, ◌&&◌, List, [], ◌∷◌, ◌++◌, length, Option, Some, None, Result, Ok, Err, refl, sym, ap, subst, ◌∙◌, arith}
+use Rattle.std.specs.Prelude.{◌==◌, bytes_eq, Contains, IsTrue, is_ok}
 use Rattle.std.specs.List.{AllByRecursion}
-use Rattle.std.proofs.lemmas.Bool.{eqb-true, eq-eqb, and_parts, not-true, not-false, false_from_ne_true}
+use Rattle.std.specs.Int.{w32, to_be_bytes}
+use Rattle.std.proofs.lemmas.Bool.{eqb-true, eq-eqb, and_parts, both_ways, not-true, not-false, false_from_ne_true}
 use Rattle.std.proofs.lemmas.Slice.Eq.{bytes_eq-Decides}
 use Rattle.wire_core.specs.Bytes.{IsBytes}
-use Rattle.wire_core.specs.Reading.{◌>>=◌, fault_as, unless}
+use Rattle.wire_core.proofs.ByteLists.{IsBytes-front, IsBytes-back}
+use Rattle.wire_core.specs.Answers.{◌>>=◌, fault_as, unless, Gives}
 use Rattle.wire_core.proofs.Readings.{bind_ok, fault_as_ok, guard_ok}
+use Rattle.phase_message.specs.declared.content.Content.{Content}
 use Rattle.phase_message.specs.declared.header.Header.{Header}
 use Rattle.phase_message.specs.declared.post.Post.{Post}
+use Rattle.phase_message.specs.Grammar.{OfGrammar, content_text}
+use Rattle.phase_message.specs.Offence.{Offence, content_read}
+use Rattle.phase_message.specs.Post.{post_spelling}
+use Rattle.phase_message.proofs.Whole.{content-is_spelled, content-is_read}
 use Rattle.phase_message.specs.Shape.{Shape, IsShape}
 use Rattle.group_roster.specs.declared.roster.Roster.{Roster}
 use Rattle.group_roster.specs.Roster.{shape_of_roster, IsRosterForm}
@@ -23,18 +30,21 @@ use Rattle.signed_post.proofs.Admits.{admit-found, admit-again}
 use Rattle.transcript_form.specs.declared.claim.Claim.{Claim}
 use Rattle.transcript_form.specs.declared.claim.Claim.TheVariants.{Equivocation, Malformed, WrongSeed, BadLog, Replay, Pad}
 use Rattle.transcript_form.specs.declared.refusal.FailedForm.{FailedForm}
+use Rattle.transcript_form.specs.declared.refusal.Refused.{Refused}
+use Rattle.transcript_form.specs.Refusals.{failure_of_refusal}
 use Rattle.transcript_form.specs.declared.transcript.Transcript.{Transcript}
 use Rattle.transcript_form.specs.Claim.{claim_posts}
 use Rattle.transcript_form.specs.Form.{claim_read, transcript_read}
 use Rattle.transcript_form.specs.Transcript.{IsTranscript, transcript_spelling}
 use Rattle.transcript_form.proofs.Transcripts.{transcript_read-found, transcript_read-again, claim_read-transcript, transcript-bytes}
 use Rattle.judge_core.specs.declared.failed_check.FailedCheck.{FailedCheck}
-use Rattle.judge_core.specs.declared.failed_check.FailedCheck.TheVariants.{Form, Post as RefusedPost, Slot, Same}
+use Rattle.judge_core.specs.declared.failed_check.FailedCheck.TheVariants.{Form, Post as RefusedPost, Slot, Same, WellFormed}
 use Rattle.judge_core.specs.declared.judging.Accepted.{Accepted}
-use Rattle.judge_core.specs.Accepts.{Equivocates, Convicts, Accepts}
-use Rattle.judge_core.specs.Checks.{Case, Said, case_of_transcript, is_decided, undecided, is_asked, heard_of, hearing_of, own_failure, conviction_of, judgement_of, AcceptsExactly}
-use Rattle.judge_core.specs.Framing.{GivesNoGround, OnePerSlot, SaidBy, NobodyIsFramed}
-use Rattle.judge_core.proofs.Hearings.{BothHeard, both_heard, two-both, verdict, other_contents}
+use Rattle.judge_core.specs.Accepts.{Equivocates, SaysMalformed, Convicts, Accepts}
+use Rattle.judge_core.specs.Checks.{Case, Said, case_of_transcript, is_decided, undecided, is_asked, heard_of, hearing_of, own_failure, conviction_of, judgement_of, printed_judgement_of, AcceptsExactly}
+use Rattle.judge_core.specs.Failures.{failure_of_check}
+use Rattle.judge_core.specs.Framing.{EachOfGrammar, GivesNoGround, OnePerSlot, SaidBy, NobodyIsFramed}
+use Rattle.judge_core.proofs.Hearings.{BothHeard, both_heard, two-both, other_contents, OneHeard, one_heard, one-heard, unformed}
 
 -- ---- a listed post
 
@@ -109,7 +119,7 @@ two-found roster t first second is posts fits_first fits_second heard =
       first_sender = eqb-true _ _ sender;
       second_sender = eqb-true _ _ parts.0;
       one_stage = eqb-true _ _ parts.1;
-      differ = differs heard.a.content heard.b.content (subst (λ (c : Claim). own_failure c (heard.a ∷ heard.b ∷ []) ≡ None) is heard.passes);
+      differ = differs heard.a.content heard.b.content (subst (λ (c : Claim). own_failure (shape_of_roster roster) c (heard.a ∷ heard.b ∷ []) ≡ None) is heard.passes);
     }
 
 two-again : (roster : Roster) (t : Transcript) → t.claim ≡ Equivocation → Equivocates roster t → conviction_of (case_of_transcript roster t) t.posts ≡ Ok tt
@@ -125,7 +135,64 @@ two-again roster t is e =
     let differ : bytes_eq e.first_content e.second_content ≡ false = false_from_ne_true (bytes_eq e.first_content e.second_content) (λ same. e.differ ((bytes_eq-Decides e.first_content e.second_content).0 same)) in
     ap (conviction_of case) e.listed
     ∙ two-both case e.first e.second a b (heard-again case None 1 e.first e.first_content e.first_header e.first_says asked) (heard-again case (Some e.first_header) 2 e.second e.second_content e.second_header e.second_says asked_again)
-    ∙ other_contents t.claim a b is differ
+    ∙ other_contents (shape_of_roster roster) t.claim a b is differ
+
+-- ---- Malformed
+
+one_listed : (posts : List (List ℕ)) → length posts ≡ 1 → (only : List ℕ) × (posts ≡ only ∷ [])
+one_listed (only ∷ []) long = (only, refl)
+one_listed [] long = absurd (omega arith)
+one_listed (only ∷ second ∷ more) long = absurd (omega arith)
+
+-- what is not read is no content of the grammar, and what is none is not read
+is_outside : (shape : Shape) (content : List ℕ) → is_ok (content_read shape content) ≡ false → (c : Content) → OfGrammar shape c → content ≢ content_text c
+is_outside shape content e c is same =
+    let read : content_read shape content ≡ Ok c = ap (content_read shape) same ∙ content-is_read shape c is in
+    both_ways (is_ok (content_read shape content)) e (ap (λ (r : Result Content Offence). is_ok r) read)
+
+is_unread : (shape : Shape) (content : List ℕ) → IsBytes content → ((c : Content) → OfGrammar shape c → content ≢ content_text c) → is_ok (content_read shape content) ≡ false
+is_unread shape content fits outside = unread (content_read shape content) refl
+  where
+    unread : (read : Result Content Offence) → content_read shape content ≡ read → is_ok read ≡ false
+    unread (Ok c) e = let found = content-is_spelled shape content c fits e in absurd (outside c found.1 found.0)
+    unread (Err offence) e = refl
+
+one-found : (roster : Roster) (t : Transcript) (only : List ℕ) → t.claim ≡ Malformed → t.posts ≡ only ∷ [] → IsBytes only
+    → OneHeard (case_of_transcript roster t) only → SaysMalformed roster t
+one-found roster t only is posts fits one =
+    let case = case_of_transcript roster t in
+    let shape = shape_of_roster roster in
+    let heard = heard-found case None 1 only one.a fits one.heard in
+    let sender : (one.a.header.sender == t.accused) ≡ true = subst (λ (c : Claim). is_asked c t.accused None one.a.header ≡ true) is heard.1 in
+    let passes : fault_unless (not (is_ok (content_read shape one.a.content))) WellFormed ≡ None = subst (λ (c : Claim). own_failure shape c (one.a ∷ []) ≡ None) is one.passes in
+    record {
+      post = only;
+      listed = posts;
+      content = one.a.content;
+      header = one.a.header;
+      says = heard.0;
+      sender = eqb-true _ _ sender;
+      outside = is_outside shape one.a.content (not-true (is_ok (content_read shape one.a.content)) (fault_unless-holds (not (is_ok (content_read shape one.a.content))) WellFormed passes));
+    }
+
+one-again : (roster : Roster) (t : Transcript) → t.claim ≡ Malformed → AllByRecursion IsBytes t.posts → SaysMalformed roster t → conviction_of (case_of_transcript roster t) t.posts ≡ Ok tt
+one-again roster t is fits m =
+    let case = case_of_transcript roster t in
+    let shape = shape_of_roster roster in
+    let a : Said = record { header = m.header; content = m.content } in
+    let sender : (m.header.sender == t.accused) ≡ true = eq-eqb _ _ m.sender in
+    let asked : is_asked t.claim t.accused None m.header ≡ true = subst (λ (c : Claim). is_asked c t.accused None m.header ≡ true) (sym is) sender in
+    let post : IsBytes m.post = front_bytes m.post (subst (λ (x : List (List ℕ)). AllByRecursion IsBytes x) m.listed fits) in
+    let content : IsBytes m.content = content_bytes m.content m.says.signature (subst (λ (x : List ℕ). IsBytes x) m.says.spelled post) in
+    ap (conviction_of case) m.listed
+    ∙ one-heard case m.post a (heard-again case None 1 m.post m.content m.header m.says asked)
+    ∙ unformed shape t.claim a is (is_unread shape m.content content m.outside)
+  where
+    front_bytes : (post : List ℕ) → AllByRecursion IsBytes (post ∷ []) → IsBytes post
+    front_bytes post fits = fits.0
+
+    content_bytes : (content signature : List ℕ) → IsBytes (post_spelling (record { content = content; signature = signature })) → IsBytes content
+    content_bytes content signature fits = IsBytes-back (to_be_bytes w32 (length content)) content (IsBytes-front (to_be_bytes w32 (length content) ++ content) signature fits)
 
 -- ---- by claim
 
@@ -138,19 +205,25 @@ convicts-found roster t Equivocation is decided count fits e =
   where
     two_bytes : (a b : List ℕ) → AllByRecursion IsBytes (a ∷ b ∷ []) → IsBytes a × IsBytes b
     two_bytes a b fits = (fits.0, fits.1.0)
-convicts-found roster t Malformed is decided count fits e = absurd cc
+convicts-found roster t Malformed is decided count fits e =
+    let one = one_listed t.posts count in
+    let bytes : IsBytes one.0 = only_bytes one.0 (subst (λ (x : List (List ℕ)). AllByRecursion IsBytes x) one.1 fits) in
+    one-found roster t one.0 is one.1 bytes (one_heard (case_of_transcript roster t) one.0 (sym (ap (conviction_of (case_of_transcript roster t)) one.1) ∙ e))
+  where
+    only_bytes : (a : List ℕ) → AllByRecursion IsBytes (a ∷ []) → IsBytes a
+    only_bytes a fits = fits.0
 convicts-found roster t WrongSeed is decided count fits e = absurd cc
 convicts-found roster t BadLog is decided count fits e = absurd cc
 convicts-found roster t Replay is decided count fits e = absurd cc
 convicts-found roster t Pad is decided count fits e = absurd cc
 
-convicts-again : (roster : Roster) (t : Transcript) (claim : Claim) → t.claim ≡ claim → Convicts roster t claim → (is_decided claim ≡ true) × (conviction_of (case_of_transcript roster t) t.posts ≡ Ok tt)
-convicts-again roster t Equivocation is convicts = (refl, two-again roster t is convicts)
-convicts-again roster t Malformed is convicts = absurd convicts
-convicts-again roster t WrongSeed is convicts = absurd convicts
-convicts-again roster t BadLog is convicts = absurd convicts
-convicts-again roster t Replay is convicts = absurd convicts
-convicts-again roster t Pad is convicts = absurd convicts
+convicts-again : (roster : Roster) (t : Transcript) (claim : Claim) → t.claim ≡ claim → AllByRecursion IsBytes t.posts → Convicts roster t claim → (is_decided claim ≡ true) × (conviction_of (case_of_transcript roster t) t.posts ≡ Ok tt)
+convicts-again roster t Equivocation is fits convicts = (refl, two-again roster t is convicts)
+convicts-again roster t Malformed is fits convicts = (refl, one-again roster t is fits convicts)
+convicts-again roster t WrongSeed is fits convicts = absurd convicts
+convicts-again roster t BadLog is fits convicts = absurd convicts
+convicts-again roster t Replay is fits convicts = absurd convicts
+convicts-again roster t Pad is fits convicts = absurd convicts
 
 -- ---- the whole
 
@@ -192,13 +265,13 @@ judges : (roster : Roster) (bytes : List ℕ) (t : Transcript) → claim_read by
 unfolding judgement_of
 judges roster bytes t e1 e2 e3 e4 = rw (e1, e2, e3, e4) refl
 
-pub judgement-again : (roster : Roster) (bytes : List ℕ) (accused : ℕ) (claim : Claim) → IsRosterForm roster → Accepts roster bytes accused claim → judgement_of roster bytes ≡ Ok (record { accused = accused; claim = claim })
-judgement-again roster bytes accused claim form accepts =
+pub judgement-again : (roster : Roster) (bytes : List ℕ) (accused : ℕ) (claim : Claim) → IsRosterForm roster → IsBytes bytes → Accepts roster bytes accused claim → judgement_of roster bytes ≡ Ok (record { accused = accused; claim = claim })
+judgement-again roster bytes accused claim form fits accepts =
     let t = accepts.transcript in
     let shape = shape_of_roster roster in
     let is_shape : IsShape shape.version shape.members = record { first = form.version; least = form.least; most = form.most } in
     let read : transcript_read shape bytes ≡ Ok t = ap (transcript_read shape) accepts.spelled ∙ transcript_read-again shape t is_shape accepts.form in
-    let convicts = convicts-again roster t claim accepts.claim_is accepts.convicts in
+    let convicts = convicts-again roster t claim accepts.claim_is (transcript-bytes t (subst (λ (x : List ℕ). IsBytes x) accepts.spelled fits)) accepts.convicts in
     let decided : is_decided t.claim ≡ true = ap is_decided accepts.claim_is ∙ convicts.0 in
     judges roster bytes t (claim_read-transcript shape bytes t read) decided read convicts.1
     ∙ ap (λ (m : ℕ). ok m t.claim) accepts.accused_is
@@ -209,7 +282,13 @@ judgement-again roster bytes accused claim form accepts =
 
 pub accepts_exactly : AcceptsExactly
 accepts_exactly roster bytes accused claim form fits =
-    (λ e. judgement-found roster bytes (record { accused = accused; claim = claim }) fits e, judgement-again roster bytes accused claim form)
+    (λ e. judgement-found roster bytes (record { accused = accused; claim = claim }) fits e, judgement-again roster bytes accused claim form fits)
+
+-- what convicts is answered, but for memory
+pub answered-only : (roster : Roster) (bytes : List ℕ) (result : Result Accepted Refused) (accused : ℕ) (claim : Claim) → IsRosterForm roster → IsBytes bytes
+    → Gives failure_of_refusal (λ a. a) result (printed_judgement_of roster bytes) → Accepts roster bytes accused claim → Gives failure_of_refusal (λ a. a) result (Ok (record { accused = accused; claim = claim }))
+answered-only roster bytes result accused claim form fits gives accepts =
+    subst (λ (r : Result Accepted FailedCheck). Gives failure_of_refusal (λ a. a) result (fault_as failure_of_check r)) (judgement-again roster bytes accused claim form fits accepts) gives
 
 -- ---- no framing
 
@@ -224,9 +303,15 @@ nobody_equivocates roster t sent one said e =
     (e.first_says.admitted.this_round ∙ sym e.second_says.admitted.this_round) (sym e.one_stage)
     (e.first_sender ∙ sym e.second_sender))
 
-framed_by : (roster : Roster) (t : Transcript) (claim : Claim) (sent : List (List ℕ)) → GivesNoGround claim sent → SaidBy roster t.round t.accused t.posts sent → Convicts roster t claim → ⊥
+nobody_malforms : (roster : Roster) (t : Transcript) (sent : List (List ℕ)) → EachOfGrammar (shape_of_roster roster) sent → SaidBy roster t.round t.accused t.posts sent → SaysMalformed roster t → ⊥
+nobody_malforms roster t sent each said m =
+    let listed : Contains t.posts m.post = subst (λ (p : List (List ℕ)). Contains p m.post) (sym m.listed) (0, omega arith, refl) in
+    let content = each m.content (said m.post m.content m.header listed m.says m.sender) in
+    m.outside content.0 content.1 content.2
+
+framed_by : (roster : Roster) (t : Transcript) (claim : Claim) (sent : List (List ℕ)) → GivesNoGround (shape_of_roster roster) claim sent → SaidBy roster t.round t.accused t.posts sent → Convicts roster t claim → ⊥
 framed_by roster t Equivocation sent ground said convicts = nobody_equivocates roster t sent ground said convicts
-framed_by roster t Malformed sent ground said convicts = convicts
+framed_by roster t Malformed sent ground said convicts = nobody_malforms roster t sent ground said convicts
 framed_by roster t WrongSeed sent ground said convicts = convicts
 framed_by roster t BadLog sent ground said convicts = convicts
 framed_by roster t Replay sent ground said convicts = convicts

@@ -1,21 +1,25 @@
 -- The first check that the bytes of a transcript fail.
-use Rattle.std.specs.Prelude.{◌≡◌, ◌↔◌, ℕ, ◌+◌, List, [], ◌∷◌, bytes_eq, Bool, true, false, not, ◌&&◌, ◌==◌, Option, Some, None, unwrap_or, Result, Ok}
+use Rattle.std.specs.Prelude.{◌≡◌, ◌↔◌, ℕ, ◌+◌, List, [], ◌∷◌, bytes_eq, Bool, true, false, not, ◌&&◌, ◌==◌, Option, Some, None, unwrap_or, Result, Ok, Err, is_ok}
 use Rattle.wire_core.specs.Bytes.{IsBytes}
 use Rattle.wire_core.specs.Reading.{◌>>=◌, fault_as, unless}
 use Rattle.phase_message.specs.declared.header.Header.{Header}
+use Rattle.phase_message.specs.Offence.{content_read}
+use Rattle.phase_message.specs.Shape.{Shape}
 use Rattle.group_roster.specs.declared.roster.Roster.{Roster}
 use Rattle.wire_core.specs.Answers.{fault_unless, value_unless}
 use Rattle.group_roster.specs.Roster.{IsRosterForm, shape_of_roster}
 use Rattle.signed_post.specs.Admission.{admit_bytes}
 use Rattle.transcript_form.specs.declared.claim.Claim.{Claim}
-use Rattle.transcript_form.specs.declared.claim.Claim.TheVariants.{Equivocation}
+use Rattle.transcript_form.specs.declared.claim.Claim.TheVariants.{Equivocation, Malformed}
 use Rattle.transcript_form.specs.declared.refusal.FailedForm.TheVariants.{Form as WrongForm}
 use Rattle.transcript_form.specs.declared.transcript.Transcript.{Transcript}
 use Rattle.transcript_form.specs.Form.{claim_read, transcript_read}
 use Rattle.judge_core.specs.declared.failed_check.FailedCheck.{FailedCheck}
-use Rattle.judge_core.specs.declared.failed_check.FailedCheck.TheVariants.{Form, Post, Slot, Same}
+use Rattle.judge_core.specs.declared.failed_check.FailedCheck.TheVariants.{Form, Post, Slot, Same, WellFormed}
 use Rattle.judge_core.specs.declared.judging.Accepted.{Accepted}
 use Rattle.judge_core.specs.declared.judging.Case.{Case as GivenCase}
+use Rattle.judge_core.specs.declared.failed_check.Unjudged.{Unjudged}
+use Rattle.judge_core.specs.declared.failed_check.Unjudged.TheVariants.{Failed, Memory}
 use Rattle.judge_core.specs.declared.judging.Said.{Said as GivenSaid}
 use Rattle.transcript_form.specs.Refusals.{Failure}
 use Rattle.judge_core.specs.Accepts.{Accepts}
@@ -46,9 +50,10 @@ case_of_transcript roster t = record { roster = roster; claim = t.claim; accused
 
 -- ---- the claims that are decided
 
--- whether a claim is decided: Equivocation alone so far
+-- whether a claim is decided: Equivocation and Malformed so far
 abbrev pub is_decided : Claim → Bool
 is_decided Equivocation = true
+is_decided Malformed = true
 is_decided claim = false
 
 -- any other claim fails the form, at its byte
@@ -84,16 +89,23 @@ abbrev pub is_one_content : List Said → Bool
 is_one_content (first ∷ second ∷ []) = bytes_eq first.content second.content
 is_one_content said = true
 
--- the first of a claim's own checks that fails: in Equivocation the contents are equal
-abbrev pub own_failure : Claim → List Said → Option FailedCheck
-own_failure Equivocation said = fault_unless (not (is_one_content said)) Same
-own_failure claim said = Some undecided
+-- whether a post says a content of the grammar
+abbrev pub is_well_formed : Shape → List Said → Bool
+is_well_formed shape (only ∷ []) = is_ok (content_read shape only.content)
+is_well_formed shape said = true
+
+-- the first of a claim's own checks that fails: in Equivocation the contents are equal, and in Malformed the
+-- content is of the grammar
+abbrev pub own_failure : Shape → Claim → List Said → Option FailedCheck
+own_failure shape Equivocation said = fault_unless (not (is_one_content said)) Same
+own_failure shape Malformed said = fault_unless (not (is_well_formed shape said)) WellFormed
+own_failure shape claim said = Some undecided
 
 -- what the listed posts come to
 unfoldable pub conviction_of : Case → List (List ℕ) → Result (Unit {0}) FailedCheck
 conviction_of case posts = do
   said ← hearing_of case None 1 posts
-  value_unless (own_failure case.claim said) (tt {0})
+  value_unless (own_failure (shape_of_roster case.roster) case.claim said) (tt {0})
 
 -- ---- the whole
 
@@ -106,6 +118,21 @@ judgement_of roster bytes = do
   t ← fault_as (λ failed. Form failed) (transcript_read (shape_of_roster roster) bytes)
   convicts ← conviction_of (case_of_transcript roster t) t.posts
   Ok (record { accused = t.accused; claim = t.claim })
+
+-- the judgement ends where a body is looked at: it convicts of Malformed, or finds the content of the grammar
+abbrev pub EndsAtBody : Result Accepted FailedCheck → Type 0
+EndsAtBody (Ok accepted) = accepted.claim ≡ Malformed
+EndsAtBody (Err failed) = failed ≡ WellFormed
+
+-- the same of what the listed posts come to
+abbrev pub PostsEndAtBody : Result (Unit {0}) FailedCheck → Type 0
+PostsEndAtBody (Ok convicts) = Unit {0}
+PostsEndAtBody (Err failed) = failed ≡ WellFormed
+
+-- what the code found that keeps it from a conviction; out of memory is no failed check
+abbrev pub failed_of : Unjudged → Option FailedCheck
+failed_of (Failed failed) = Some failed
+failed_of Memory = None
 
 -- the same with the failed check in its three numbers, as it is printed
 abbrev pub printed_judgement_of : Roster → List ℕ → Result Accepted Failure

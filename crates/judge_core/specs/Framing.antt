@@ -1,12 +1,15 @@
 -- Nobody is framed: what a member did not say convicts it of nothing.
 use Rattle.std.specs.Prelude.{◌≡◌, ℕ, List, Contains, Ok}
+use Rattle.phase_message.specs.declared.content.Content.{Content}
 use Rattle.phase_message.specs.declared.header.Header.{Header}
 use Rattle.phase_message.specs.Header.{header_of}
+use Rattle.phase_message.specs.Grammar.{OfGrammar, content_text}
+use Rattle.phase_message.specs.Shape.{Shape}
 use Rattle.group_roster.specs.declared.roster.Roster.{Roster}
 use Rattle.group_roster.specs.Roster.{shape_of_roster}
 use Rattle.signed_post.specs.Admission.{Says}
 use Rattle.transcript_form.specs.declared.claim.Claim.{Claim}
-use Rattle.transcript_form.specs.declared.claim.Claim.TheVariants.{Equivocation}
+use Rattle.transcript_form.specs.declared.claim.Claim.TheVariants.{Equivocation, Malformed}
 use Rattle.transcript_form.specs.declared.transcript.Transcript.{Transcript}
 use Rattle.transcript_form.specs.Transcript.{IsTranscript, transcript_spelling}
 use Rattle.judge_core.specs.Accepts.{Accepts}
@@ -17,10 +20,16 @@ OnePerSlot sent = (a b : List ℕ) (h g : Header)
     → Contains sent a → Contains sent b → header_of a ≡ Ok h → header_of b ≡ Ok g
     → h.round ≡ g.round → h.stage ≡ g.stage → h.sender ≡ g.sender → a ≡ b
 
+-- a member's contents, each of which is one of the grammar
+abbrev pub EachOfGrammar : Shape → List (List ℕ) → Type 0
+EachOfGrammar shape sent = (content : List ℕ) → Contains sent content
+    → (c : Content) × OfGrammar shape c × (content ≡ content_text c)
+
 -- a member's contents that give no ground for a claim; of a claim that is not decided nothing is asked
-abbrev pub GivesNoGround : Claim → List (List ℕ) → Type 0
-GivesNoGround Equivocation sent = OnePerSlot sent
-GivesNoGround claim sent = Unit {0}
+abbrev pub GivesNoGround : Shape → Claim → List (List ℕ) → Type 0
+GivesNoGround shape Equivocation sent = OnePerSlot sent
+GivesNoGround shape Malformed sent = EachOfGrammar shape sent
+GivesNoGround shape claim sent = Unit {0}
 
 -- whatever these posts say for the accused in the round, it sent
 abbrev pub SaidBy : Roster → ℕ → ℕ → List (List ℕ) → List (List ℕ) → Type 0
@@ -37,4 +46,4 @@ ListsSaid roster bytes accused sent = (t : Transcript)
 -- ground for the claim
 abbrev pub NobodyIsFramed : Type 0
 NobodyIsFramed = (roster : Roster) (bytes : List ℕ) (accused : ℕ) (claim : Claim) (sent : List (List ℕ))
-    → GivesNoGround claim sent → ListsSaid roster bytes accused sent → Accepts roster bytes accused claim → ⊥
+    → GivesNoGround (shape_of_roster roster) claim sent → ListsSaid roster bytes accused sent → Accepts roster bytes accused claim → ⊥

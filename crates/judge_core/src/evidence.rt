@@ -164,6 +164,65 @@ fn votes_are_judged(
     refused(rt, alloc, roster, (&yes, &again), (8, 2, 0))
 }
 
+// The transcript that accuses member 3 of this malformed post of 2,429 bytes.
+fn accusation_of(alloc: Global, post: &[u8]) -> Mem<Vec<u8>> {
+    let mut bytes = Vec::new(alloc);
+    put_bytes(&mut bytes, b"DSTR\x01\x02\x03")?;
+    put_u64(&mut bytes, 1)?;
+    put_u32(&mut bytes, 1)?;
+    put_u32(&mut bytes, 2429)?;
+    put_bytes(&mut bytes, post)?;
+    Ok(bytes)
+}
+
+// A vote whose flag is 2 is malformed, and one whose flag is 0 or 1 is not.
+fn malformed_votes_are_judged(
+    rt: &impl Abort,
+    alloc: Global,
+    roster: &Roster,
+    group: &[u8; 32],
+) -> Result<(), AllocError>
+    requires { IsRosterForm roster.now }
+{
+    let right = first_vote(group);
+    let other = Vote {
+        sender: 1,
+        yes: 2,
+        ..right
+    };
+    let cases = [
+        (
+            Vote { yes: 2, ..right }.post(alloc, 3, 0)?,
+            Ok(Accepted {
+                accused: 3,
+                claim: Claim::Malformed,
+            }),
+        ),
+        (
+            right.post(alloc, 3, 0)?,
+            Err(Refused::Check {
+                check: 9,
+                post: 1,
+                at: 0,
+            }),
+        ),
+        (
+            other.post(alloc, 1, 0)?,
+            Err(Refused::Check {
+                check: 5,
+                post: 1,
+                at: 6,
+            }),
+        ),
+    ];
+    for (post, judgement) in cases {
+        let bytes = accusation_of(alloc, &post)?;
+        assert_eq!(rt; bytes.len(), 2452);
+        assert_eq!(rt; judge(alloc, roster, &bytes), judgement);
+    }
+    Ok(())
+}
+
 // The vote of member 3 is read, and passes the checks with what it says.
 fn a_vote_is_taken(
     rt: &impl Abort,
@@ -234,10 +293,11 @@ fn posts_are_refused(
 }
 
 // The roster of four members that is read from its bytes, and its group.
-fn group_of_four(alloc: Global) -> Result<(Roster, [u8; 32]), Fail>
+fn group_of_four(rt: &impl Abort, alloc: Global) -> Result<(Roster, [u8; 32]), Fail>
     ensures { IfOk result (λ r. IsRosterForm r.0) }
 {
     let bytes = roster_of_four(alloc)?;
+    assert_eq!(rt; bytes.len(), 230);
     let mut register = Register::new(Tag::Roster);
     register.piece(&bytes);
     match decode(alloc, &bytes) {
@@ -249,16 +309,17 @@ fn group_of_four(alloc: Global) -> Result<(Roster, [u8; 32]), Fail>
 #[test]
 fn votes_convict(rt: HostRuntime) -> Result<(), Fail> {
     let alloc = rt.alloc();
-    let (roster, group) = group_of_four(alloc)?;
+    let (roster, group) = group_of_four(&rt, alloc)?;
     votes_are_judged(&rt, alloc, &roster, &group)?;
     a_vote_is_taken(&rt, alloc, &roster, &group)?;
+    malformed_votes_are_judged(&rt, alloc, &roster, &group)?;
     Ok(())
 }
 
 #[test]
 fn wrong_posts_convict_nobody(rt: HostRuntime) -> Result<(), Fail> {
     let alloc = rt.alloc();
-    let (roster, group) = group_of_four(alloc)?;
+    let (roster, group) = group_of_four(&rt, alloc)?;
     posts_are_refused(&rt, alloc, &roster, &group)?;
     Ok(())
 }
@@ -273,7 +334,6 @@ fn undecided_claims(rt: &impl Abort, alloc: Global, roster: &Roster)
         at: 5,
     };
     for bytes in [
-        b"DSTR\x01\x02",
         b"DSTR\x01\x03",
         b"DSTR\x01\x04",
         b"DSTR\x01\x05",

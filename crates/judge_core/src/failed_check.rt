@@ -4,6 +4,7 @@ ghost use Rattle.std.specs.Prelude.{◌≡◌};
 ghost use Rattle.judge_core.specs.Failures.{failed_at, failed_number, failed_post};
 
 use signed_post::PostRefusal;
+use std::alloc::AllocError;
 use transcript_form::{FailedForm, Refused};
 
 /// The first check that a transcript fails, with what its numbers are made of.
@@ -17,6 +18,15 @@ pub enum FailedCheck {
     Slot { post: u32, stage: u8 },
     /// Check 8: the contents that are to differ are equal.
     Same,
+    /// Check 9: the content that is to be malformed is of the grammar.
+    WellFormed,
+}
+
+// Why a transcript convicts nobody.
+#[derive(Clone, Copy, Debug, PartialEq, Eq)]
+pub(crate) enum Unjudged {
+    Failed(FailedCheck),
+    Memory,
 }
 
 impl FailedCheck {
@@ -29,6 +39,7 @@ impl FailedCheck {
             FailedCheck::Post { .. } => 4,
             FailedCheck::Slot { .. } => 5,
             FailedCheck::Same => 8,
+            FailedCheck::WellFormed => 9,
         }
     }
 
@@ -40,11 +51,12 @@ impl FailedCheck {
             FailedCheck::Form(form) => form.post(),
             FailedCheck::Post { post, .. } | FailedCheck::Slot { post, .. } => *post,
             FailedCheck::Same => 2,
+            FailedCheck::WellFormed => 1,
         }
     }
 
     /// Where it fails: for the checks 1 to 3 an offset, for 4 the number of the post's refusal, from 1 to 7,
-    /// for 5 the stage of the post, and for 8 it is 0.
+    /// for 5 the stage of the post, and for 8 and 9 it is 0.
     pub fn at(&self) -> u32
         ensures { result ≡ failed_at self.now }
     {
@@ -52,18 +64,39 @@ impl FailedCheck {
             FailedCheck::Form(form) => form.at(),
             FailedCheck::Post { refusal, .. } => refusal.number(),
             FailedCheck::Slot { stage, .. } => u32::from(*stage),
-            FailedCheck::Same => 0,
+            FailedCheck::Same | FailedCheck::WellFormed => 0,
         }
     }
 }
 
-impl From<FailedForm> for FailedCheck {
+impl From<FailedForm> for Unjudged {
     ghost use Rattle.judge_core.specs.declared.failed_check.FailedCheck.TheVariants.{Form};
+    ghost use Rattle.judge_core.specs.declared.failed_check.Unjudged.TheVariants.{Failed};
 
-    ghost from_gives = { λ failed e. e ≡ Form failed };
+    ghost from_gives = { λ failed e. e ≡ Failed (Form failed) };
 
-    fn from(failed: FailedForm) -> FailedCheck {
-        FailedCheck::Form(failed)
+    fn from(failed: FailedForm) -> Unjudged {
+        Unjudged::Failed(FailedCheck::Form(failed))
+    }
+}
+
+impl From<FailedCheck> for Unjudged {
+    ghost use Rattle.judge_core.specs.declared.failed_check.Unjudged.TheVariants.{Failed};
+
+    ghost from_gives = { λ failed e. e ≡ Failed failed };
+
+    fn from(failed: FailedCheck) -> Unjudged {
+        Unjudged::Failed(failed)
+    }
+}
+
+impl From<AllocError> for Unjudged {
+    ghost use Rattle.judge_core.specs.declared.failed_check.Unjudged.TheVariants.{Memory};
+
+    ghost from_gives = { λ _ e. e ≡ Memory };
+
+    fn from(_e: AllocError) -> Unjudged {
+        Unjudged::Memory
     }
 }
 

@@ -15,3 +15,8 @@ pub check_parts-requires-clause-signature : goal.check_parts-requires-clause-sig
 check_parts-requires-clause-signature c =
     let fits = framed-fits c.args.bytes.now (record { content = c.in-Ok.parts.content.now; signature = c.in-Ok.parts.signature.now }) c.in-Ok.ensures in
     omega (arith, fits.most)
+
+pub returns-clause-short : goal.returns-clause-short
+returns-clause-short c =
+    let fits = framed-fits c.args.bytes.now (record { content = c.in-Ok.parts.content.now; signature = c.in-Ok.parts.signature.now }) c.in-Ok.ensures in
+    omega (arith, fits.most)

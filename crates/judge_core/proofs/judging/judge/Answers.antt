@@ -1,38 +1,35 @@
-use Rattle.std.proofs.Common.{◌≡◌, arith, sym, ap, ◌∙◌, Result, Ok, Err}
-use Rattle.wire_core.specs.Reading.{fault_as}
-use Rattle.wire_core.proofs.Readings.{fault_as_ok}
+use Rattle.std.proofs.Common.{◌≡◌, arith, sym, ap, subst, ◌∙◌, Result, Ok, Err}
+use Rattle.wire_core.specs.Answers.{Gives, fault_as}
 use Rattle.judge_core.specs.declared.judging.Accepted.{Accepted}
 use Rattle.judge_core.specs.declared.failed_check.FailedCheck.{FailedCheck}
 use Rattle.transcript_form.specs.declared.refusal.Refused.{Refused}
+use Rattle.transcript_form.specs.declared.refusal.Refused.TheVariants.{Check}
+use Rattle.transcript_form.specs.Refusals.{failure_of_refusal}
 use Rattle.judge_core.specs.Checks.{judgement_of}
-use Rattle.judge_core.proofs.Convictions.{judgement-found, judgement-again, nobody_is_framed}
+use Rattle.judge_core.specs.Failures.{failed_number, failed_post, failed_at, failure_of_check}
+use Rattle.judge_core.proofs.Convictions.{judgement-found, nobody_is_framed, answered-only}
 use Rattle.judge_core.proofs.judging.judge.Goals as goal
 
-abbrev checked : Accepted → Result Accepted FailedCheck
-checked a = Ok a
-
-abbrev answered : Accepted → Result Accepted Refused
-answered a = Ok a
-
-same : (a b : Accepted) → checked a ≡ checked b → answered a ≡ answered b
-same a b e = let inner : a ≡ b = cc in ap answered inner
-
-never : (r : Result Accepted FailedCheck) (a : Accepted) (f : FailedCheck) → r ≡ Ok a → r ≡ Err f → ⊥
-never r a f ok err = let e : checked a ≡ Err f = sym ok ∙ err in absurd cc
+abbrev refusal : Refused → Result Accepted Refused
+refusal e = Err e
 
 pub returns-in-Ok-clause-accepted : goal.returns-in-Ok-clause-accepted
 returns-in-Ok-clause-accepted c =
-    judgement-found c.args.roster.now c.args.bytes.now c.in-Ok.accepted (λ i. omega (arith, c.type_inv.bytes i)) c.in-Ok.ensures
-
-pub returns-in-Ok-clause-only : goal.returns-in-Ok-clause-only
-returns-in-Ok-clause-only c = λ accused claim accepts.
-    same c.in-Ok.accepted (record { accused = accused; claim = claim }) (sym c.in-Ok.ensures ∙ judgement-again c.args.roster.now c.args.bytes.now accused claim c.requires.form accepts)
+    judgement-found c.args.roster.now c.args.bytes.now c.in-Ok.accepted (λ i. omega (arith, c.type_inv.bytes i)) c.in-Ok.ensures.exact
 
 pub returns-in-Ok-clause-no_framing : goal.returns-in-Ok-clause-no_framing
 returns-in-Ok-clause-no_framing c = λ sent ground lists.
     nobody_is_framed c.args.roster.now c.args.bytes.now c.in-Ok.accepted.accused c.in-Ok.accepted.claim sent ground lists
-    (judgement-found c.args.roster.now c.args.bytes.now c.in-Ok.accepted (λ i. omega (arith, c.type_inv.bytes i)) c.in-Ok.ensures)
+    (judgement-found c.args.roster.now c.args.bytes.now c.in-Ok.accepted (λ i. omega (arith, c.type_inv.bytes i)) c.in-Ok.ensures.exact)
 
-pub returns-in-Err-clause-only : goal.returns-in-Err-clause-only
-returns-in-Err-clause-only c = λ accused claim accepts.
-    absurd (never (judgement_of c.args.roster.now c.args.bytes.now) (record { accused = accused; claim = claim }) _ (judgement-again c.args.roster.now c.args.bytes.now accused claim c.requires.form accepts) c.in-Err.ensures)
+pub returns-in-Ok-clause-only : goal.returns-in-Ok-clause-only
+returns-in-Ok-clause-only c = λ accused claim accepts.
+    answered-only c.args.roster.now c.args.bytes.now (Ok c.in-Ok.accepted) accused claim c.requires.form (λ i. omega (arith, c.type_inv.bytes i)) (ap (fault_as failure_of_check) c.in-Ok.ensures.exact) accepts
+
+pub returns-in-Err-Failed-clause-only : goal.returns-in-Err-Failed-clause-only
+returns-in-Err-Failed-clause-only c = λ accused claim accepts.
+    let failed : FailedCheck = c.in-Err-Failed.failed in
+    let ends : judgement_of c.args.roster.now c.args.bytes.now ≡ Err failed = rw c.in-Err-Failed.field-0-is at c.in-Err-Failed.ensures.exact in
+    let told : Refused = Check (failed_number failed) (failed_post failed) (failed_at failed) in
+    let gives = answered-only c.args.roster.now c.args.bytes.now (Err told) accused claim c.requires.form (λ i. omega (arith, c.type_inv.bytes i)) (ap (fault_as failure_of_check) ends) accepts in
+    subst (λ (e : Refused). Gives failure_of_refusal (λ a. a) (refusal e) (Ok (record { accused = accused; claim = claim }))) (sym c.from.ensures) gives
