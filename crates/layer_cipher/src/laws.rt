@@ -1,7 +1,7 @@
 //! The laws of layers.
 
 ghost use Rattle.layer_cipher.specs.Laws.{PeelsExactly, KeyPeels, LayerAdds, WrappingAdds, WrappedOpens, OutermostDetermined};
-ghost use Rattle.layer_cipher.specs.Stripping.{StripsExactly, StripsUnlessClosed, StripsAll, StripsInAnyOrder, KeyStrips};
+ghost use Rattle.layer_cipher.specs.Stripping.{StripsExactly, StripsUnlessClosed, StripsAll, StripsInAnyOrder, KeyStrips, StripsThroughExactly, StripsThroughMore, StripsThroughInAnyOrder, StripsThroughKeeps};
 
 /// A seed finds exactly what is sealed under its key, and so the seeds of all keys, in their order,
 /// find what was wrapped. This function does nothing.
@@ -23,4 +23,14 @@ pub fn stripping_laws()
     ensures all { StripsAll }
     ensures in_any_order { StripsInAnyOrder }
     ensures key_strips { KeyStrips }
+{}
+
+/// The same of many layers: a list is stripped through to what its entries open to, one layer more
+/// strips the bodies once more, another order of the entries gives another order of the same bodies,
+/// and what an entry opens to is among them. This function does nothing.
+pub fn stripping_through_laws()
+    ensures exactly { StripsThroughExactly }
+    ensures more { StripsThroughMore }
+    ensures in_any_order { StripsThroughInAnyOrder }
+    ensures keeps { StripsThroughKeeps }
 {}

@@ -9,7 +9,7 @@ mod mask;
 mod peeling;
 mod sealing;
 
-pub use laws::{layer_laws, stripping_laws};
+pub use laws::{layer_laws, stripping_laws, stripping_through_laws};
 pub use peeling::{Peeled, peel, peel_with};
 pub use ring_encrypt::{KeySeed, PublicKey};
 pub use sealing::{LAYER_BYTES, seal, wrap};

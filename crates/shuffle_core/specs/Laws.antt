@@ -3,6 +3,7 @@ use Rattle.std.specs.Prelude.{◌≡◌, ℕ, ◌+◌, ◌*◌, ◌^◌, ◌<◌
 use Rattle.std.specs.List.{AllByRecursion, range_with_len}
 use Rattle.ring_encrypt.specs.Capsule.{key_of_seed}
 use Rattle.ring_encrypt.specs.Opening.{IsMessage}
+use Rattle.layer_cipher.specs.declared.sealing.TheConstants.{LAYER_BYTES}
 use Rattle.layer_cipher.specs.Layer.{wrapping_of, opened_through}
 use Rattle.layer_cipher.specs.Stripping.{stripped, IsClosed}
 use Rattle.phase_message.specs.declared.content.Body.TheVariants.{Shuffled, Abort}
@@ -89,8 +90,8 @@ SubmissionOpens = (inner outer inner_ms outer_ms : List (List ℕ)) (item : List
 abbrev pub SubmissionAdds : Type 0
 SubmissionAdds = (inner outer inner_ms outer_ms : List (List ℕ)) (item : List ℕ) → length inner ≡ length inner_ms → length outer ≡ length outer_ms →
     let submission = submission_of inner outer inner_ms outer_ms item in
-    (length submission.inner_ciphertext ≡ length item + 2272 * length inner)
-    × (length submission.ciphertext ≡ length item + 2272 * (length inner + length outer))
+    (length submission.inner_ciphertext ≡ length item + LAYER_BYTES * length inner)
+    × (length submission.ciphertext ≡ length item + LAYER_BYTES * (length inner + length outer))
 
 -- the place of an entry holds it, and no place before does
 abbrev pub PlaceIsLeast : Type 0

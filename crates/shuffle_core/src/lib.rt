@@ -16,9 +16,12 @@ mod turn;
 pub use entry::Submission;
 pub use last_list::{open_final, own_place};
 pub use laws::{opening_laws, order_laws, place_laws, turn_laws};
+pub use phase_message::{Body, POST_LIMIT};
+pub use ring_encrypt::{KeySeed, PublicKey};
 pub use seeds::layer_seeds;
-pub use submitting::submission;
+pub use submitting::{MOST_KEYS, submission};
 pub use turn::anonymize;
+pub use wire_core::List;
 
 #[cfg(test)]
 mod tests;

@@ -4,11 +4,10 @@ ghost use Rattle.std.specs.Prelude.{◌<◌, ◌^◌, ◌↔◌, All, IsTrue, le
 
 use super::*;
 use layer_cipher::seal;
-use phase_message::Body;
-use ring_encrypt::{KeySeed, public_of};
+use ring_encrypt::public_of;
 use std::alloc::Global;
 use std::test::Fail;
-use wire_core::{List, Mem};
+use wire_core::Mem;
 
 #[test]
 fn layers_are_numbered_from_one(rt: HostRuntime) -> Result<(), Fail> {
@@ -105,7 +104,7 @@ fn equal_entries_and_no_layers_abort(rt: HostRuntime) -> Result<(), Fail> {
 
 // An item in four layers, under the keys of the seeds 1 to 4, that of 1 outermost.
 fn submitted(alloc: Global, item: &[u8]) -> Mem<Submission>
-    requires { length item.now < 16777216 }
+    requires { length item.now < POST_LIMIT }
 {
     let outer = vec![in alloc; public_of(&[1; 32]), public_of(&[2; 32])]?;
     let inner = vec![in alloc; public_of(&[3; 32]), public_of(&[4; 32])]?;
