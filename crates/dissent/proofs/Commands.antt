@@ -6,8 +6,8 @@ use Rattle.dissent.specs.declared.status.Status.TheVariants.{OutOfMemory}
 use Rattle.transcript_form.specs.Refusals.{Failure}
 use Rattle.transcript_form.specs.declared.refusal.Refused.{Refused}
 use Rattle.transcript_form.specs.declared.refusal.Refused.TheVariants.{Check, Memory as JudgeMemory}
-use Rattle.group_roster.specs.declared.roster.RosterRefusal.{RosterRefusal}
-use Rattle.group_roster.specs.declared.roster.RosterRefusal.TheVariants.{Bad, Memory as RosterMemory}
+use Rattle.group_roster.specs.declared.refusal.RosterRefusal.{RosterRefusal}
+use Rattle.group_roster.specs.declared.refusal.RosterRefusal.TheVariants.{Bad, Memory as RosterMemory}
 use Rattle.outside.specs.Faults.{Rose, counted}
 use Rattle.dissent.specs.Outside.{Held, Shows}
 use Rattle.dissent.specs.Refusals.{RefusesRoster, RefusesTranscript, roster_status, judge_status}

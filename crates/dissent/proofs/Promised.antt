@@ -16,15 +16,15 @@ use Rattle.dissent.specs.declared.status.Status.{Status}
 use Rattle.dissent.specs.declared.status.Status.TheVariants.{Done, Usage, Refused, ReadFault, WriteFault, DiskFault, BadRoster, TooLong, OutOfMemory}
 use Rattle.judge_core.specs.declared.judging.Accepted.{Accepted}
 use Rattle.transcript_form.specs.Refusals.{Failure}
-use Rattle.group_roster.specs.declared.roster.Roster.{Roster}
-use Rattle.group_roster.specs.Roster.{roster_read, IsRosterFile, roster_spelling, shape_of_roster}
+use Rattle.group_roster.specs.Roster.{Roster, IsRosterFile, roster_spelling, shape_of_roster}
+use Rattle.group_roster.specs.Binary.{roster_read}
 use Rattle.phase_message.specs.declared.content.Content.{Content}
 use Rattle.judge_core.specs.Checks.{printed_judgement_of}
 use Rattle.signed_post.specs.Admission.{IsPostFile}
 use Rattle.dissent.specs.Show.{file_checked, shown_line}
 use Rattle.dissent.proofs.Commands.{outcome_by}
-use Rattle.group_roster.specs.declared.roster.RosterRefusal.{RosterRefusal}
-use Rattle.group_roster.specs.declared.roster.RosterRefusal.TheVariants.{Bad, Memory as RosterMemory}
+use Rattle.group_roster.specs.declared.refusal.RosterRefusal.{RosterRefusal}
+use Rattle.group_roster.specs.declared.refusal.RosterRefusal.TheVariants.{Bad, Memory as RosterMemory}
 use Rattle.transcript_form.specs.declared.refusal.Refused.{Refused as JudgeRefusal}
 use Rattle.transcript_form.specs.declared.refusal.Refused.TheVariants.{Check, Memory as JudgeMemory}
 use Rattle.dissent.specs.Refusals.{roster_status, judge_status}

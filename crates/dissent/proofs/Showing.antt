@@ -8,7 +8,7 @@ use Rattle.phase_message.specs.declared.content.Content.{Content}
 use Rattle.phase_message.specs.declared.header.Header.{Header}
 use Rattle.phase_message.specs.Offence.{Offence, content_read}
 use Rattle.phase_message.proofs.Whole.{content-header}
-use Rattle.group_roster.specs.declared.roster.Roster.{Roster}
+use Rattle.group_roster.specs.Roster.{Roster}
 use Rattle.signed_post.specs.declared.post.PostRefusal.TheVariants.{Memory, Body as BodyFault}
 use Rattle.group_roster.specs.Roster.{shape_of_roster}
 use Rattle.phase_message.specs.declared.post.Post.{Post}

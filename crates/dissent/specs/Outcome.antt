@@ -15,7 +15,7 @@ use Rattle.dissent.specs.declared.words.Command.TheVariants.{Judge, Show, Keygen
 use Rattle.dissent.specs.Command.{Request}
 use Rattle.wire_core.specs.Answers.{◌>>=◌}
 use Rattle.dissent.specs.Outside.{Held, Shows, IsMissing}
-use Rattle.group_roster.specs.Roster.{roster_read}
+use Rattle.group_roster.specs.Binary.{roster_read}
 use Rattle.transcript_form.specs.Refusals.{Failure}
 use Rattle.judge_core.specs.Checks.{printed_judgement_of}
 use Rattle.transcript_form.specs.Claim.{claim_name}

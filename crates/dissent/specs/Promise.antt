@@ -8,7 +8,7 @@ use Rattle.dissent.specs.declared.words.Command.TheVariants.{Judge, Show, Keygen
 use Rattle.dissent.specs.Outside.{Held, Shows, Gains}
 use Rattle.dissent.specs.Command.{Request, makes_key, requested}
 use Rattle.dissent.specs.Outcome.{Input, inputs_of, outcome_of, MayTell, YieldsBy, Stood, known_files, Misses, made_parts, key_line, accepted_line}
-use Rattle.group_roster.specs.declared.roster.Roster.{Roster}
+use Rattle.group_roster.specs.Roster.{Roster}
 use Rattle.judge_core.specs.declared.judging.Accepted.{Accepted}
 use Rattle.group_roster.specs.Roster.{IsRosterFile, roster_spelling, shape_of_roster}
 use Rattle.judge_core.specs.Accepts.{Accepts}

@@ -1,12 +1,12 @@
 -- Which refusals the reader of rosters and the judge answer. Want of memory may come at any time.
 use Rattle.std.specs.Prelude.{ℕ, Result}
 use Rattle.wire_core.specs.Answers.{IsFault}
-use Rattle.group_roster.specs.declared.roster.RosterRefusal.{RosterRefusal}
-use Rattle.group_roster.specs.declared.roster.RosterRefusal.TheVariants.{Bad, Memory as RosterMemory}
+use Rattle.group_roster.specs.declared.refusal.RosterRefusal.{RosterRefusal}
+use Rattle.group_roster.specs.declared.refusal.RosterRefusal.TheVariants.{Bad, Memory as RosterMemory}
 use Rattle.transcript_form.specs.declared.refusal.Refused.{Refused}
 use Rattle.transcript_form.specs.declared.refusal.Refused.TheVariants.{Check, Memory as JudgeMemory}
 use Rattle.transcript_form.specs.Refusals.{Failure}
-use Rattle.group_roster.specs.Roster.{offence_told}
+use Rattle.group_roster.specs.Rules.{offence_told}
 use Rattle.transcript_form.specs.Refusals.{failure_of_refusal}
 use Rattle.dissent.specs.declared.status.Status.{Status}
 use Rattle.dissent.specs.declared.status.Status.TheVariants.{BadRoster, Refused as IsRefused, OutOfMemory}

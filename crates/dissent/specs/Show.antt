@@ -5,7 +5,7 @@ use Rattle.wire_core.specs.Answers.{◌>>=◌, fault_as}
 use Rattle.phase_message.specs.declared.content.Body.{Body}
 use Rattle.phase_message.specs.declared.content.Body.TheVariants.{Keys, Submit, Shuffled, Abort, Go, Reveal, Dispute, Pads, Check, Confirm, Differ}
 use Rattle.phase_message.specs.declared.content.Content.{Content}
-use Rattle.group_roster.specs.declared.roster.Roster.{Roster}
+use Rattle.group_roster.specs.Roster.{Roster}
 use Rattle.signed_post.specs.declared.post.PostRefusal.{PostRefusal}
 use Rattle.signed_post.specs.declared.post.PostRefusal.TheVariants.{Frame, Memory}
 use Rattle.transcript_form.specs.Refusals.{Failure}

@@ -1,7 +1,7 @@
 //! What `show` tells of a post file.
+ghost use Rattle.group_roster.specs.Given.{roster_of};
 ghost use Rattle.std.specs.Prelude.{◌≡◌, IfOk};
 ghost use Rattle.wire_core.specs.Answers.{Gives};
-ghost use Rattle.group_roster.specs.Roster.{IsRosterForm};
 ghost use Rattle.transcript_form.specs.Refusals.{failure_of_refusal};
 ghost use Rattle.signed_post.specs.Admission.{IsPostFile};
 ghost use Rattle.dissent.specs.Show.{failure_told, file_checked, kind_name, shown_line};
@@ -20,9 +20,8 @@ pub(crate) fn check_file(
     round: u64,
     bytes: &[u8],
 ) -> Result<Content, Refused>
-    requires form { IsRosterForm roster.now }
-    ensures exact { Gives failure_of_refusal (λ content. content) result (file_checked round roster.now bytes.now) }
-    ensures passes { IfOk result (λ content. IsPostFile roster.now round bytes.now content) }
+    ensures exact { Gives failure_of_refusal (λ content. content) result (file_checked round (roster_of roster.now) bytes.now) }
+    ensures passes { IfOk result (λ content. IsPostFile (roster_of roster.now) round bytes.now content) }
 {
     let post = match read(alloc, bytes) {
         Ok(post) => post,

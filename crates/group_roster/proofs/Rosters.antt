@@ -8,19 +8,23 @@ use Rattle.std.proofs.lemmas.List.{length-take, length-drop, take_at, drop_at, d
 use Rattle.std.proofs.lemmas.List.Folds.{concat-append}
 use Rattle.std.proofs.lemmas.List.FromFn.{get_or-map-range_with_len, length-map-range_with_len, fill_by_all}
 use Rattle.std.proofs.lemmas.Slice.Eq.{bytes_eq-Decides}
-use Rattle.wire_core.specs.Reading.{Gives}
 use Rattle.lms_tree.specs.declared.keys.LmsPublic.{LmsPublic}
 use Rattle.lms_tree.specs.declared.keys.KeyRefusal.{KeyRefusal}
 use Rattle.lms_tree.specs.declared.keys.KeyRefusal.TheVariants.{LmsKind, OtsKind}
 use Rattle.lms_tree.specs.Tree.{key_read}
-use Rattle.phase_message.proofs.First.{first_some-none, first_some-none_parts, first_below-none, first_below-each}
-use Rattle.group_roster.specs.declared.roster.Roster.{Roster}
-use Rattle.group_roster.specs.declared.roster.RosterRefusal.{RosterRefusal}
-use Rattle.group_roster.specs.Places.{has_byte, first_unlike, fault_unless, value_unless}
-use Rattle.group_roster.specs.Roster.{roster_magic, roster_spelling, IsKey, IsRosterForm, IsRosterFile, size_of, has_size, key_place, key_at, keys_at, type_offence, repeats, key_offence, keys_offence, head_offence, roster_offence, roster_of, roster_read, offence_told}
-use Rattle.group_roster.proofs.Faults.{fault_unless-true, value_unless-ok, fault_unless-holds, first_unlike-none, first_unlike-each}
+use Rattle.wire_core.specs.Answers.{Gives, fault_unless, value_unless, fault_as}
+use Rattle.wire_core.specs.Places.{has_byte, first_unlike}
+use Rattle.wire_core.proofs.AnswerLemmas.{fault_unless-true, fault_unless-holds, value_unless-ok, value_unless-err, nothing_mapped, fault_as_ok}
+use Rattle.wire_core.proofs.PlaceLemmas.{byte_there, there_byte, first_unlike-none, first_unlike-each}
+use Rattle.group_roster.specs.declared.rule.Offence.{Offence}
+use Rattle.group_roster.specs.declared.rule.Rule.TheVariants.{Magic, Version, Size, Short, Trailing, Duplicate}
+use Rattle.group_roster.specs.declared.refusal.RosterRefusal.{RosterRefusal}
+use Rattle.group_roster.specs.Roster.{Roster, roster_magic, roster_spelling, IsKey, IsRosterForm, IsRosterFile}
+use Rattle.group_roster.specs.Rules.{offence, numbered, offence_told}
+use Rattle.group_roster.specs.Binary.{size_of, has_size, key_place, key_at, keys_at, type_offence, repeats, key_offence, keys_offence, head_offence, roster_offence, spelled_roster, roster_read}
 use Rattle.group_roster.proofs.Keys.{keys_at-more, AreRight}
-use Rattle.group_roster.proofs.Faults.{fault_unless-true, fault_unless-holds, value_unless-ok, both, neither, not_inverse, nothing_mapped, byte_there, there_byte, first_unlike-none, first_unlike-each}
+use Rattle.group_roster.proofs.Faults.{both, neither, not_inverse}
+use Rattle.wire_core.proofs.AnswerLemmas.{first_some-none, first_some-none_parts, first_below-none, first_below-each}
 
 -- ---- six bytes in front
 
@@ -85,26 +89,26 @@ untyped place (Err r) e = absurd cc
 
 right_key : (bytes : List ℕ) (k : ℕ) → key_offence bytes k ≡ None → IsRight bytes k
 right_key bytes k e =
-    let o1 = fault_unless (nat_le (key_place (k + 1)) (length bytes)) (key_place k, 4) in
+    let o1 = fault_unless (nat_le (key_place (k + 1)) (length bytes)) (offence (key_place k) Short) in
     let o2 = type_offence (key_place k) (key_read (key_at bytes k)) in
-    let o3 = fault_unless (not (repeats bytes k)) (key_place k, 8) in
+    let o3 = fault_unless (not (repeats bytes k)) (offence (key_place k) Duplicate) in
     let p1 = first_some-none_parts o1 (o2 ∷ o3 ∷ []) e in
     let p2 = first_some-none_parts o2 (o3 ∷ []) p1.1 in
     let p3 = first_some-none_parts o3 [] p2.1 in
     record {
-      whole = leb-true _ _ (fault_unless-holds (nat_le (key_place (k + 1)) (length bytes)) (key_place k, 4) p1.0);
+      whole = leb-true _ _ (fault_unless-holds (nat_le (key_place (k + 1)) (length bytes)) (offence (key_place k) Short) p1.0);
       reads = typed (key_place k) (key_read (key_at bytes k)) p2.0;
-      once = not_inverse (repeats bytes k) (fault_unless-holds (not (repeats bytes k)) (key_place k, 8) p3.0);
+      once = not_inverse (repeats bytes k) (fault_unless-holds (not (repeats bytes k)) (offence (key_place k) Duplicate) p3.0);
     }
 
 key_right : (bytes : List ℕ) (k : ℕ) → IsRight bytes k → key_offence bytes k ≡ None
 key_right bytes k r =
-    let o1 = fault_unless (nat_le (key_place (k + 1)) (length bytes)) (key_place k, 4) in
+    let o1 = fault_unless (nat_le (key_place (k + 1)) (length bytes)) (offence (key_place k) Short) in
     let o2 = type_offence (key_place k) (key_read (key_at bytes k)) in
-    let o3 = fault_unless (not (repeats bytes k)) (key_place k, 8) in
-    first_some-none o1 (o2 ∷ o3 ∷ []) (fault_unless-true (nat_le (key_place (k + 1)) (length bytes)) (key_place k, 4) (le-leb _ _ r.whole))
+    let o3 = fault_unless (not (repeats bytes k)) (offence (key_place k) Duplicate) in
+    first_some-none o1 (o2 ∷ o3 ∷ []) (fault_unless-true (nat_le (key_place (k + 1)) (length bytes)) (offence (key_place k) Short) (le-leb _ _ r.whole))
     ∙ first_some-none o2 (o3 ∷ []) (untyped (key_place k) (key_read (key_at bytes k)) r.reads)
-    ∙ first_some-none o3 [] (fault_unless-true (not (repeats bytes k)) (key_place k, 8) (ap not r.once))
+    ∙ first_some-none o3 [] (fault_unless-true (not (repeats bytes k)) (offence (key_place k) Duplicate) (ap not r.once))
 
 -- ---- bytes without an offence
 
@@ -118,10 +122,10 @@ record IsUnoffending (bytes : List ℕ) : Type 0 where
 unoffending : (bytes : List ℕ) → roster_offence bytes ≡ None → IsUnoffending bytes
 unfolding roster_offence
 unoffending bytes e =
-    let m = option_map (λ p. (p, 1)) (first_unlike roster_magic bytes) in
-    let v = fault_unless (has_byte bytes 4 1) (4, 2) in
-    let s = fault_unless (has_size bytes) (5, 3) in
-    let t = fault_unless (nat_le (length bytes) (key_place (size_of bytes))) (key_place (size_of bytes), 5) in
+    let m = option_map (λ place. offence place Magic) (first_unlike roster_magic bytes) in
+    let v = fault_unless (has_byte bytes 4 1) (offence 4 Version) in
+    let s = fault_unless (has_size bytes) (offence 5 Size) in
+    let t = fault_unless (nat_le (length bytes) (key_place (size_of bytes))) (offence (key_place (size_of bytes)) Trailing) in
     let p1 = first_some-none_parts (head_offence bytes) (keys_offence bytes (size_of bytes) ∷ t ∷ []) e in
     let p2 = first_some-none_parts (keys_offence bytes (size_of bytes)) (t ∷ []) p1.1 in
     let p3 = first_some-none_parts t [] p2.1 in
@@ -129,27 +133,27 @@ unoffending bytes e =
     let q2 = first_some-none_parts v (s ∷ []) q1.1 in
     let q3 = first_some-none_parts s [] q2.1 in
     record {
-      magic = nothing_mapped (λ p. (p, 1)) (first_unlike roster_magic bytes) q1.0;
-      version = fault_unless-holds (has_byte bytes 4 1) (4, 2) q2.0;
-      size = fault_unless-holds (has_size bytes) (5, 3) q3.0;
+      magic = nothing_mapped (λ place. offence place Magic) (first_unlike roster_magic bytes) q1.0;
+      version = fault_unless-holds (has_byte bytes 4 1) (offence 4 Version) q2.0;
+      size = fault_unless-holds (has_size bytes) (offence 5 Size) q3.0;
       keys = first_below-each (key_offence bytes) (size_of bytes) p2.0;
-      ends = leb-true _ _ (fault_unless-holds (nat_le (length bytes) (key_place (size_of bytes))) (key_place (size_of bytes), 5) p3.0);
+      ends = leb-true _ _ (fault_unless-holds (nat_le (length bytes) (key_place (size_of bytes))) (offence (key_place (size_of bytes)) Trailing) p3.0);
     }
 
 offends_not : (bytes : List ℕ) → IsUnoffending bytes → roster_offence bytes ≡ None
 unfolding roster_offence
 offends_not bytes u =
-    let m = option_map (λ p. (p, 1)) (first_unlike roster_magic bytes) in
-    let v = fault_unless (has_byte bytes 4 1) (4, 2) in
-    let s = fault_unless (has_size bytes) (5, 3) in
-    let t = fault_unless (nat_le (length bytes) (key_place (size_of bytes))) (key_place (size_of bytes), 5) in
+    let m = option_map (λ place. offence place Magic) (first_unlike roster_magic bytes) in
+    let v = fault_unless (has_byte bytes 4 1) (offence 4 Version) in
+    let s = fault_unless (has_size bytes) (offence 5 Size) in
+    let t = fault_unless (nat_le (length bytes) (key_place (size_of bytes))) (offence (key_place (size_of bytes)) Trailing) in
     let head : head_offence bytes ≡ None =
-    first_some-none m (v ∷ s ∷ []) (ap (option_map (λ p. (p, 1))) u.magic)
-    ∙ first_some-none v (s ∷ []) (fault_unless-true (has_byte bytes 4 1) (4, 2) u.version)
-    ∙ first_some-none s [] (fault_unless-true (has_size bytes) (5, 3) u.size) in
+    first_some-none m (v ∷ s ∷ []) (ap (option_map (λ place. offence place Magic)) u.magic)
+    ∙ first_some-none v (s ∷ []) (fault_unless-true (has_byte bytes 4 1) (offence 4 Version) u.version)
+    ∙ first_some-none s [] (fault_unless-true (has_size bytes) (offence 5 Size) u.size) in
     first_some-none (head_offence bytes) (keys_offence bytes (size_of bytes) ∷ t ∷ []) head
     ∙ first_some-none (keys_offence bytes (size_of bytes)) (t ∷ []) (first_below-none (key_offence bytes) (size_of bytes) u.keys)
-    ∙ first_some-none t [] (fault_unless-true (nat_le (length bytes) (key_place (size_of bytes))) (key_place (size_of bytes), 5) (le-leb _ _ u.ends))
+    ∙ first_some-none t [] (fault_unless-true (nat_le (length bytes) (key_place (size_of bytes))) (offence (key_place (size_of bytes)) Trailing) (le-leb _ _ u.ends))
 
 record HasSize (bytes : List ℕ) : Type 0 where
   there : 5 < length bytes
@@ -181,7 +185,7 @@ distinct_keys bytes n right i j d lt within =
     (λ same. absurd (let equal : bytes_eq (key_at bytes i) (key_at bytes j) ≡ true = (bytes_eq-Decides (key_at bytes i) (key_at bytes j)).1 same in cc))
 
 -- what has no offence is spelled so
-pub roster_found : (bytes : List ℕ) → roster_offence bytes ≡ None → IsRosterFile (roster_of bytes) × (bytes ≡ roster_spelling (roster_of bytes))
+pub roster_found : (bytes : List ℕ) → roster_offence bytes ≡ None → IsRosterFile (spelled_roster bytes) × (bytes ≡ roster_spelling (spelled_roster bytes))
 roster_found bytes e =
     let u = unoffending bytes e in
     let s = sized bytes u.size in
@@ -194,7 +198,7 @@ roster_found bytes e =
     let m3 = byte_there bytes 3 79 (first_unlike-each roster_magic bytes u.magic 3 (omega arith)) in
     let last = right_key bytes (n - 1) (u.keys (n - 1) (omega (arith, s.least))) in
     let rest : concat (keys_at bytes n) ≡ drop 6 bytes = concat-keys_at bytes n ∙ take_all (56 * n) (drop 6 bytes) (omega (arith, length-drop 6 bytes, u.ends)) in
-    let form : IsRosterForm (roster_of bytes) = record { version = version.1; least = omega (arith, count, s.least); most = omega (arith, count, s.most); keys = right_keys bytes n u.keys } in (
+    let form : IsRosterForm (spelled_roster bytes) = record { version = version.1; least = omega (arith, count, s.least); most = omega (arith, count, s.most); keys = right_keys bytes n u.keys } in (
       record { form = form; distinct = distinct_keys bytes n u.keys },
       six_front bytes (omega (arith, s.there)) ∙ rw (m0.1, m1.1, m2.1, m3.1, count, rest) refl,
     )
@@ -266,7 +270,7 @@ roster_again r file =
       ends = omega (arith, long);
     }) in
     let same : keys_at bytes n ≡ r.keys = sym (fill_by_all (key_at bytes) r.keys n [] refl (λ k lt. sym (spelled_key r form k lt))) in
-    ap (λ (o : Option (ℕ × ℕ)). value_unless o (roster_of bytes)) none ∙ ap (λ (keys : List (List ℕ)). ok (record { version = r.version; keys = keys })) same
+    ap (λ (o : Option Offence). fault_as numbered (value_unless o (spelled_roster bytes))) none ∙ ap (λ (keys : List (List ℕ)). ok (record { version = r.version; keys = keys })) same
   where
     ok : Roster → Result Roster (ℕ × ℕ)
     ok r = Ok r
@@ -274,14 +278,51 @@ roster_again r file =
 -- what is read is a roster file, and is spelled so
 pub roster_read-found : (bytes : List ℕ) (r : Roster) → roster_read bytes ≡ Ok r → IsRosterFile r × (bytes ≡ roster_spelling r)
 roster_read-found bytes r e =
-    let parts = value_unless-ok (roster_offence bytes) (roster_of bytes) r e in
+    let parts = value_unless-ok (roster_offence bytes) (spelled_roster bytes) r (fault_as_ok numbered (value_unless (roster_offence bytes) (spelled_roster bytes)) r e) in
     subst (λ (r : Roster). IsRosterFile r × (bytes ≡ roster_spelling r)) parts.1 (roster_found bytes parts.0)
 
--- the same of what a decoder returned
-pub decoded_found : (bytes : List ℕ) (result : Result Roster RosterRefusal) → Gives offence_told (λ r. r) result (roster_read bytes) → IfOk result (λ r. IsRosterFile r × (bytes ≡ roster_spelling r))
-decoded_found bytes (Ok r) given = roster_read-found bytes r given
-decoded_found bytes (Err e) given = tt
+-- the same of what a decoder returned, seen by a view
+pub decoded_found : {X : Type 0} (view : X → Roster) (bytes : List ℕ) (result : Result X RosterRefusal) → Gives offence_told view result (roster_read bytes) → IfOk result (λ r. IsRosterFile (view r) × (bytes ≡ roster_spelling (view r)))
+decoded_found view bytes (Ok r) given = roster_read-found bytes (view r) given
+decoded_found view bytes (Err e) given = tt
 
-pub decoded_again : (bytes : List ℕ) (result : Result Roster RosterRefusal) (r : Roster) → Gives offence_told (λ r. r) result (roster_read bytes) → IsRosterFile r → bytes ≡ roster_spelling r → Gives offence_told (λ r. r) result (Ok r)
-decoded_again bytes result r given file e =
-    subst (λ (read : Result Roster (ℕ × ℕ)). Gives offence_told (λ r. r) result read) (ap roster_read e ∙ roster_again r file) given
+pub decoded_again : {X : Type 0} (view : X → Roster) (bytes : List ℕ) (result : Result X RosterRefusal) (r : Roster) → Gives offence_told view result (roster_read bytes) → IsRosterFile r → bytes ≡ roster_spelling r → Gives offence_told view result (Ok r)
+decoded_again view bytes result r given file e =
+    subst (λ (read : Result Roster (ℕ × ℕ)). Gives offence_told view result read) (ap roster_read e ∙ roster_again r file) given
+
+-- bytes that announce n keys and have no offence hold them
+pub whole-holds : (bytes : List ℕ) (n : ℕ) → value_unless (roster_offence bytes) (size_of bytes) ≡ Ok n → (n ≤ 8) × (key_place n ≤ length bytes)
+whole-holds bytes n e =
+    let parts = value_unless-ok (roster_offence bytes) (size_of bytes) n e in
+    let u = unoffending bytes parts.0 in
+    let s = sized bytes u.size in
+    let last = right_key bytes (n - 1) (u.keys (n - 1) (omega (arith, s.least, parts.1))) in
+    (omega (arith, s.most, parts.1), omega (arith, s.least, parts.1, last.whole))
+
+-- and are read as the roster of these keys
+pub whole-reads : (bytes : List ℕ) (n : ℕ) → value_unless (roster_offence bytes) (size_of bytes) ≡ Ok n → roster_read bytes ≡ Ok (record { version = 1; keys = keys_at bytes n })
+whole-reads bytes n e =
+    let parts = value_unless-ok (roster_offence bytes) (size_of bytes) n e in
+    let version = byte_there bytes 4 1 (unoffending bytes parts.0).version in
+    ap (λ (o : Option Offence). fault_as numbered (value_unless o (spelled_roster bytes))) parts.0
+    ∙ ap (λ (v : ℕ). ok v (keys_at bytes (size_of bytes))) version.1
+    ∙ ap (λ (m : ℕ). ok 1 (keys_at bytes m)) parts.1
+  where
+    ok : ℕ → List (List ℕ) → Result Roster (ℕ × ℕ)
+    ok version keys = Ok (record { version = version; keys = keys })
+
+-- the keys of such bytes are those of a roster
+pub whole-form : (bytes : List ℕ) (n : ℕ) → value_unless (roster_offence bytes) (size_of bytes) ≡ Ok n → IsRosterForm (record { version = 1; keys = keys_at bytes n })
+whole-form bytes n e = (roster_read-found bytes (record { version = 1; keys = keys_at bytes n }) (whole-reads bytes n e)).0.form
+
+-- bytes with an offence are refused with it
+pub offence-read : (bytes : List ℕ) (broken : Offence) → value_unless (roster_offence bytes) (size_of bytes) ≡ Err broken → roster_read bytes ≡ Err (numbered broken)
+offence-read bytes broken e =
+    ap (λ (o : Option Offence). fault_as numbered (value_unless o (spelled_roster bytes))) (value_unless-err (roster_offence bytes) (size_of bytes) broken e)
+
+-- the same of keys that are these
+pub form-keys : (bytes : List ℕ) (n : ℕ) (keys : List (List ℕ)) → keys ≡ keys_at bytes n → value_unless (roster_offence bytes) (size_of bytes) ≡ Ok n → IsRosterForm (record { version = 1; keys = keys })
+form-keys bytes n keys same e = rw same (whole-form bytes n e)
+
+pub read-keys : (bytes : List ℕ) (n : ℕ) (keys : List (List ℕ)) → keys ≡ keys_at bytes n → value_unless (roster_offence bytes) (size_of bytes) ≡ Ok n → roster_read bytes ≡ Ok (record { version = 1; keys = keys })
+read-keys bytes n keys same e = rw same (whole-reads bytes n e)

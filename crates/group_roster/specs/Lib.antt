@@ -1,3 +1,6 @@
-pub mod Places
 pub mod Roster
+pub mod Rules
+pub mod Binary
+pub mod Given
+pub mod Places
 pub mod Toml

@@ -16,10 +16,11 @@ use Rattle.std.specs.Str.{is_utf8}
 use Rattle.hex.specs.Hex.{decode_sized}
 use Rattle.toml.specs.Data.{Data, Items, no_items, item, Members, no_members, member, get_member, as_array, as_integer, as_str, as_table}
 use Rattle.toml.specs.Parse.{parse_document}
-use Rattle.wire_core.specs.Reading.{◌>>=◌}
-use Rattle.group_roster.specs.declared.roster.Roster.{Roster}
-use Rattle.group_roster.specs.Places.{fault_unless, value_unless}
-use Rattle.group_roster.specs.Roster.{keys_spelling, roster_read}
+use Rattle.wire_core.specs.Answers.{◌>>=◌, fault_unless, value_unless}
+use Rattle.group_roster.specs.declared.rule.Rule.TheVariants.{NotToml, FurtherKey, TomlVersion, TomlMembers, Entry}
+use Rattle.group_roster.specs.Roster.{Roster, roster_spelling}
+use Rattle.group_roster.specs.Rules.{broken}
+use Rattle.group_roster.specs.Binary.{roster_read}
 
 -- a value, or a fault where there is none
 abbrev pub value_or : {A F : Type 0} → F → Option A → Result A F
@@ -73,19 +74,19 @@ key_of_entry entry = option_and_then key_in (as_table entry)
 unfoldable pub keys_from : ℕ → List Data → Result (List (List ℕ)) (ℕ × ℕ)
 keys_from number [] = Ok []
 keys_from number (entry ∷ entries) = do
-  key ← value_or (number, 13) (key_of_entry entry)
+  key ← value_or (broken number Entry) (key_of_entry entry)
   keys ← keys_from (number + 1) entries
   Ok (key ∷ keys)
 
 -- the keys that a document tells, or the first of the rules 9 to 13 that it breaks
 unfoldable pub toml_keys : List ℕ → Result (List (List ℕ)) (ℕ × ℕ)
 toml_keys bytes = do
-  top ← value_or (0, 9) (document_in bytes)
-  known ← value_unless (fault_unless (not (has_key_beside (codes "version" ∷ codes "member" ∷ []) top)) (0, 10)) top
-  of_version ← value_unless (fault_unless (has_version_1 top) (0, 11)) top
-  entries ← value_or (0, 12) (entries_in top)
+  top ← value_or (broken 0 NotToml) (document_in bytes)
+  known ← value_unless (fault_unless (not (has_key_beside (codes "version" ∷ codes "member" ∷ []) top)) (broken 0 FurtherKey)) top
+  of_version ← value_unless (fault_unless (has_version_1 top) (broken 0 TomlVersion)) top
+  entries ← value_or (broken 0 TomlMembers) (entries_in top)
   keys_from 1 entries
 
 -- the roster that a document stands for: that of its keys' bytes
 unfoldable pub toml_read : List ℕ → Result Roster (ℕ × ℕ)
-toml_read bytes = toml_keys bytes >>= λ keys. roster_read (keys_spelling 1 keys)
+toml_read bytes = toml_keys bytes >>= λ keys. roster_read (roster_spelling (record { version = 1; keys = keys }))

@@ -1,7 +1,7 @@
 //! Laws of the definitions that the contracts of this crate cite. Nobody calls these functions: the
 //! contract of each states a law, and its proof is a lemma in proofs/.
 
-ghost use Rattle.group_roster.specs.Roster.{SpelledExactly};
+ghost use Rattle.group_roster.specs.Binary.{SpelledExactly};
 
 /// Bytes have no offence exactly where they spell a roster, and they spell no other.
 pub fn rosters_are_spelled()

@@ -1,14 +1,19 @@
-//! Rosters: the keys of a group's members, the file that holds them, and the group's id.
+//! Rosters: the keys of a group's members, the files that hold them, and the group's id.
 #![tactic(auto)]
 
+mod binary;
 mod laws;
-mod places;
+mod refusal;
 mod roster;
+mod rule;
+mod spelling;
 #[cfg(test)]
 mod tests;
 mod toml_form;
 
+pub use binary::decode;
 pub use laws::rosters_are_spelled;
-pub use places::first_unlike;
-pub use roster::{Roster, RosterRefusal, decode};
+pub use refusal::RosterRefusal;
+pub use roster::Roster;
 pub use toml_form::from_toml;
+pub use wire_core::{List, first_unlike};

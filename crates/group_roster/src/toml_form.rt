@@ -6,11 +6,18 @@ ghost use Rattle.std.specs.Result.{result_ok};
 ghost use Rattle.hex.specs.Hex.{decode_sized};
 ghost use Rattle.toml.specs.Data.{as_str, as_integer, as_array, get_member};
 ghost use Rattle.toml.specs.View.{view, table_view, array_view};
-ghost use Rattle.wire_core.specs.Reading.{Gives};
-ghost use Rattle.group_roster.specs.Roster.{IsRosterFile, roster_spelling, offence_told};
+ghost use Rattle.wire_core.specs.Answers.{Gives};
+ghost use Rattle.group_roster.specs.declared.rule.Rule.TheVariants.{NotToml};
+ghost use Rattle.group_roster.specs.Roster.{IsRosterFile};
+ghost use Rattle.group_roster.specs.Rules.{broken, offence_told};
+ghost use Rattle.group_roster.specs.Given.{roster_of};
 ghost use Rattle.group_roster.specs.Toml.{document_in, entries_in, has_key_beside, has_version_1, is_one, key_in, key_of_entry, keys_from, list_of, toml_keys, toml_read, value_or};
 
-use crate::roster::{Roster, RosterRefusal, decode, spelling};
+use crate::binary::decode;
+use crate::refusal::RosterRefusal;
+use crate::roster::Roster;
+use crate::rule::Rule;
+use crate::spelling::spelled;
 use hex::FromHex;
 use std::alloc::Global;
 use toml::value::Array;
@@ -26,11 +33,11 @@ use toml::{Table, Value};
 /// have in a roster's bytes.
 #[tactic(auto, unfolding(crate::specs::Toml::toml_read))]
 pub fn from_toml(alloc: Global, bytes: &[u8]) -> Result<Roster, RosterRefusal>
-    ensures exact { Gives offence_told (λ r. r) result (toml_read bytes.now) }
-    ensures found { IfOk result IsRosterFile }
+    ensures exact { Gives offence_told roster_of result (toml_read bytes.now) }
+    ensures found { IfOk result (λ r. IsRosterFile (roster_of r)) }
 {
     let keys = document_keys(alloc, bytes)?;
-    let (bytes, size) = spelling(1, &keys);
+    let (bytes, size) = spelled(1, &keys);
     decode(alloc, &bytes[..size])
 }
 
@@ -42,21 +49,21 @@ fn document_keys(alloc: Global, bytes: &[u8]) -> Result<Vec<[u8; 56]>, RosterRef
 {
     let top = document(alloc, bytes)?;
     if has_key_beside(&top, &["version", "member"]) {
-        return Err(RosterRefusal::Bad { at: 0, rule: 10 });
+        return Err(RosterRefusal::of(0, Rule::FurtherKey));
     }
     if !is_version_1(&top) {
-        return Err(RosterRefusal::Bad { at: 0, rule: 11 });
+        return Err(RosterRefusal::of(0, Rule::TomlVersion));
     }
     match entries(&top) {
         Some(entries) => entry_keys(alloc, entries),
-        None => Err(RosterRefusal::Bad { at: 0, rule: 12 }),
+        None => Err(RosterRefusal::of(0, Rule::TomlMembers)),
     }
 }
 
 // What a document has at its top.
 #[tactic(auto, unfolding(crate::specs::Toml::document_in))]
 fn document(alloc: Global, bytes: &[u8]) -> Result<Table, RosterRefusal>
-    ensures { Gives offence_told (λ top. table_view top) result (value_or (0, 9) (document_in bytes.now)) }
+    ensures { Gives offence_told (λ top. table_view top) result (value_or (broken 0 NotToml) (document_in bytes.now)) }
 {
     match toml::table_from_slice(alloc, bytes) {
         Ok(top) => Ok(top),
@@ -64,7 +71,7 @@ fn document(alloc: Global, bytes: &[u8]) -> Result<Table, RosterRefusal>
             if error.is_memory() {
                 Err(RosterRefusal::Memory)
             } else {
-                Err(RosterRefusal::Bad { at: 0, rule: 9 })
+                Err(RosterRefusal::of(0, Rule::NotToml))
             }
         }
     }
@@ -155,10 +162,7 @@ fn entry_keys(alloc: Global, entries: &Vec<Value>) -> Result<Vec<[u8; 56]>, Rost
         match entry_key(entry) {
             Some(key) => keys.push(key)?,
             None => {
-                return Err(RosterRefusal::Bad {
-                    at: k as u32 + 1,
-                    rule: 13,
-                });
+                return Err(RosterRefusal::of(k as u32 + 1, Rule::Entry));
             }
         }
     }

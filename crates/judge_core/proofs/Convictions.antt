@@ -17,8 +17,7 @@ use Rattle.phase_message.specs.Offence.{Offence, content_read}
 use Rattle.phase_message.specs.Post.{post_spelling}
 use Rattle.phase_message.proofs.Whole.{content-is_spelled, content-is_read}
 use Rattle.phase_message.specs.Shape.{Shape, IsShape}
-use Rattle.group_roster.specs.declared.roster.Roster.{Roster}
-use Rattle.group_roster.specs.Roster.{shape_of_roster, IsRosterForm}
+use Rattle.group_roster.specs.Roster.{Roster, shape_of_roster, IsRosterForm}
 use Rattle.wire_core.specs.Answers.{fault_unless, value_unless}
 use Rattle.wire_core.proofs.AnswerLemmas.{fault_unless-holds}
 use Rattle.signed_post.specs.declared.post.PostRefusal.{PostRefusal}

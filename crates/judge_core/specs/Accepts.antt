@@ -3,8 +3,7 @@ use Rattle.std.specs.Prelude.{◌≡◌, ◌≢◌, ℕ, List, [], ◌∷◌}
 use Rattle.phase_message.specs.declared.content.Content.{Content}
 use Rattle.phase_message.specs.declared.header.Header.{Header}
 use Rattle.phase_message.specs.Grammar.{OfGrammar, content_text}
-use Rattle.group_roster.specs.declared.roster.Roster.{Roster}
-use Rattle.group_roster.specs.Roster.{shape_of_roster}
+use Rattle.group_roster.specs.Roster.{Roster, shape_of_roster}
 use Rattle.signed_post.specs.Admission.{Says}
 use Rattle.transcript_form.specs.declared.claim.Claim.{Claim}
 use Rattle.transcript_form.specs.declared.claim.Claim.TheVariants.{Equivocation, Malformed}

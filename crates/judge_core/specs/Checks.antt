@@ -5,7 +5,8 @@ use Rattle.wire_core.specs.Reading.{◌>>=◌, fault_as, unless}
 use Rattle.phase_message.specs.declared.header.Header.{Header}
 use Rattle.phase_message.specs.Offence.{content_read}
 use Rattle.phase_message.specs.Shape.{Shape}
-use Rattle.group_roster.specs.declared.roster.Roster.{Roster}
+use Rattle.group_roster.specs.Given.{roster_of}
+use Rattle.group_roster.specs.Roster.{Roster}
 use Rattle.wire_core.specs.Answers.{fault_unless, value_unless}
 use Rattle.group_roster.specs.Roster.{IsRosterForm, shape_of_roster}
 use Rattle.signed_post.specs.Admission.{admit_bytes}
@@ -39,7 +40,7 @@ pub record Said : Type 0 where
 
 -- the same of what the code holds
 abbrev pub case_of : GivenCase → Case
-case_of given = record { roster = given.roster.now; claim = given.claim; accused = given.accused; round = given.round }
+case_of given = record { roster = roster_of given.roster.now; claim = given.claim; accused = given.accused; round = given.round }
 
 abbrev pub said_of : GivenSaid → Said
 said_of given = record { header = given.header; content = given.content.now }

@@ -5,8 +5,7 @@ use Rattle.phase_message.specs.declared.header.Header.{Header}
 use Rattle.phase_message.specs.Header.{header_of}
 use Rattle.phase_message.specs.Grammar.{OfGrammar, content_text}
 use Rattle.phase_message.specs.Shape.{Shape}
-use Rattle.group_roster.specs.declared.roster.Roster.{Roster}
-use Rattle.group_roster.specs.Roster.{shape_of_roster}
+use Rattle.group_roster.specs.Roster.{Roster, shape_of_roster}
 use Rattle.signed_post.specs.Admission.{Says}
 use Rattle.transcript_form.specs.declared.claim.Claim.{Claim}
 use Rattle.transcript_form.specs.declared.claim.Claim.TheVariants.{Equivocation, Malformed}

@@ -1,7 +1,6 @@
 //! Evidence: two votes of member 3 in one slot, made from keys, with the transcript that lists them; and the evidence that is stored.
 
 ghost use Rattle.std.specs.Prelude.{◌≡◌, ◌<◌, IfOk, length};
-ghost use Rattle.group_roster.specs.Roster.{IsRosterForm};
 
 use crate::stored_evidence::{roster_digits, transcript_digits};
 use crate::{Accepted, judge};
@@ -107,7 +106,6 @@ fn transcript_of(alloc: Global, first: &[u8], second: &[u8]) -> Mem<Vec<u8>> {
 
 // The checks 1 and 2 refuse each cut of the transcript, at its number of bytes.
 fn no_cut_convicts(rt: &impl Abort, alloc: Global, roster: &Roster, bytes: &[u8])
-    requires form { IsRosterForm roster.now }
     requires size { length bytes.now ≡ 4885 }
 {
     for size in 0..4885u32 {
@@ -128,7 +126,6 @@ fn refused(
     posts: (&[u8], &[u8]),
     failure: (u32, u32, u32),
 ) -> Result<(), AllocError>
-    requires { IsRosterForm roster.now }
 {
     let (check, post, at) = failure;
     let bytes = transcript_of(alloc, posts.0, posts.1)?;
@@ -147,7 +144,6 @@ fn votes_are_judged(
     roster: &Roster,
     group: &[u8; 32],
 ) -> Result<(), AllocError>
-    requires { IsRosterForm roster.now }
 {
     let first = first_vote(group);
     let second = Vote { yes: 0, ..first };
@@ -182,7 +178,6 @@ fn malformed_votes_are_judged(
     roster: &Roster,
     group: &[u8; 32],
 ) -> Result<(), AllocError>
-    requires { IsRosterForm roster.now }
 {
     let right = first_vote(group);
     let other = Vote {
@@ -230,7 +225,6 @@ fn a_vote_is_taken(
     roster: &Roster,
     group: &[u8; 32],
 ) -> Result<(), AllocError>
-    requires { IsRosterForm roster.now }
 {
     let yes = first_vote(group);
     let content = yes.content(alloc)?;
@@ -254,7 +248,6 @@ fn posts_are_refused(
     roster: &Roster,
     group: &[u8; 32],
 ) -> Result<(), AllocError>
-    requires { IsRosterForm roster.now }
 {
     let right = first_vote(group);
     let yes = right.post(alloc, 3, 0)?;
@@ -294,7 +287,6 @@ fn posts_are_refused(
 
 // The roster of four members that is read from its bytes, and its group.
 fn group_of_four(rt: &impl Abort, alloc: Global) -> Result<(Roster, [u8; 32]), Fail>
-    ensures { IfOk result (λ r. IsRosterForm r.0) }
 {
     let bytes = roster_of_four(alloc)?;
     assert_eq!(rt; bytes.len(), 230);
@@ -326,7 +318,6 @@ fn wrong_posts_convict_nobody(rt: HostRuntime) -> Result<(), Fail> {
 
 // Each claim that is not decided yet fails at its byte, before what follows it is looked at.
 fn undecided_claims(rt: &impl Abort, alloc: Global, roster: &Roster)
-    requires { IsRosterForm roster.now }
 {
     let refused = Refused::Check {
         check: 2,

@@ -1,10 +1,11 @@
 //! The judge of transcripts: whoever reads one comes to the same answer.
 
+ghost use Rattle.group_roster.specs.Given.{roster_of};
 ghost use Rattle.std.specs.Prelude.{◌≡◌, ◌<◌, ◌^◌, ℕ, List, length, Some, Ok, Err, IfOk, IsTrue, is_ok};
 ghost use Rattle.wire_core.specs.Answers.{Gives};
 ghost use Rattle.phase_message.specs.Offence.{content_read};
 ghost use Rattle.phase_message.specs.Stages.{shape_of};
-ghost use Rattle.group_roster.specs.Roster.{IsRosterForm, shape_of_roster};
+ghost use Rattle.group_roster.specs.Roster.{shape_of_roster};
 ghost use Rattle.transcript_form.specs.Claim.{claim_posts};
 ghost use Rattle.transcript_form.specs.Refusals.{failure_of_refusal};
 ghost use Rattle.judge_core.specs.Accepts.{Accepts};
@@ -51,19 +52,18 @@ struct Said<'a> {
 /// It stands on no premise: what convicts is accepted, whoever wrote it down, and nothing else is. A
 /// member whose contents give no ground for a claim is not convicted of it, unless its signature was forged.
 pub fn judge(alloc: Global, roster: &Roster, bytes: &[u8]) -> Result<Accepted, Refused>
-    requires form { IsRosterForm roster.now }
     requires few { length bytes.now < 2 ^ 32 }
-    ensures exact { Gives failure_of_refusal (λ a. a) result (printed_judgement_of roster.now bytes.now) }
-    ensures memory { result ≡ Err Refused.Memory → EndsAtBody (judgement_of roster.now bytes.now) }
+    ensures exact { Gives failure_of_refusal (λ a. a) result (printed_judgement_of (roster_of roster.now) bytes.now) }
+    ensures memory { result ≡ Err Refused.Memory → EndsAtBody (judgement_of (roster_of roster.now) bytes.now) }
 
     // What is accepted convicts, and what convicts is accepted, unless memory runs out.
-    ensures accepted { IfOk result (λ a. Accepts roster.now bytes.now a.accused a.claim) }
-    ensures only { (accused : ℕ) (claim : Claim) → Accepts roster.now bytes.now accused claim →
+    ensures accepted { IfOk result (λ a. Accepts (roster_of roster.now) bytes.now a.accused a.claim) }
+    ensures only { (accused : ℕ) (claim : Claim) → Accepts (roster_of roster.now) bytes.now accused claim →
         Gives failure_of_refusal (λ a. a) result (Ok record { accused = accused; claim = claim }) }
 
     // Whoever sent each listed post that is its own, and no content that gives ground for the claim, is not accused.
-    ensures no_framing { IfOk result (λ a. (sent : List (List ℕ)) → GivesNoGround (shape_of_roster roster.now) a.claim sent →
-        ListsSaid roster.now bytes.now a.accused sent → ⊥) }
+    ensures no_framing { IfOk result (λ a. (sent : List (List ℕ)) → GivesNoGround (shape_of_roster (roster_of roster.now)) a.claim sent →
+        ListsSaid (roster_of roster.now) bytes.now a.accused sent → ⊥) }
 {
     match judgement(alloc, roster, bytes) {
         Ok(accepted) => Ok(accepted),
@@ -74,10 +74,9 @@ pub fn judge(alloc: Global, roster: &Roster, bytes: &[u8]) -> Result<Accepted, R
 
 #[tactic(auto, unfolding(crate::specs::Checks::judgement_of))]
 fn judgement(alloc: Global, roster: &Roster, bytes: &[u8]) -> Result<Accepted, Unjudged>
-    requires form { IsRosterForm roster.now }
     requires few { length bytes.now < 2 ^ 32 }
-    ensures exact { Gives failed_of (λ a. a) result (judgement_of roster.now bytes.now) }
-    ensures memory { result ≡ Err Unjudged.Memory → EndsAtBody (judgement_of roster.now bytes.now) }
+    ensures exact { Gives failed_of (λ a. a) result (judgement_of (roster_of roster.now) bytes.now) }
+    ensures memory { result ≡ Err Unjudged.Memory → EndsAtBody (judgement_of (roster_of roster.now) bytes.now) }
 {
     if !is_decided(read_claim(bytes)?) {
         return Err(Unjudged::from(FailedForm::Form { at: 5 }));
@@ -104,9 +103,8 @@ fn is_decided(claim: Claim) -> bool
 
 // Whether the listed posts are what the claim asks.
 fn convict(alloc: Global, case: Case<'_>, posts: ListedPosts<'_>) -> Result<(), Unjudged>
-    requires form { IsRosterForm case.roster.now }
     requires decided { IsTrue (is_decided case.claim) }
-    requires count { length posts ≡ claim_posts (shape_of_roster case.roster.now) case.claim }
+    requires count { length posts ≡ claim_posts (shape_of_roster (roster_of case.roster.now)) case.claim }
     ensures exact { Gives failed_of (λ x. x) result (conviction_of (case_of case.entry) posts.entry) }
     ensures memory { result ≡ Err Unjudged.Memory →
         (case.entry.claim ≡ Claim.Malformed) × PostsEndAtBody (conviction_of (case_of case.entry) posts.entry) }
@@ -120,7 +118,6 @@ fn convict(alloc: Global, case: Case<'_>, posts: ListedPosts<'_>) -> Result<(), 
 
 // Whether two posts are of the accused, in one slot, and of different contents.
 fn equivocation(case: Case<'_>, mut posts: ListedPosts<'_>) -> Result<(), FailedCheck>
-    requires form { IsRosterForm case.roster.now }
     requires claim { case.claim ≡ Claim.Equivocation }
     requires two { length posts ≡ 2 }
     ensures { Gives (λ e. Some e) (λ x. x) result (conviction_of (case_of case.entry) posts.entry) }
@@ -138,7 +135,6 @@ fn equivocation(case: Case<'_>, mut posts: ListedPosts<'_>) -> Result<(), Failed
 
 // Whether one post is of the accused, and of a content outside the grammar.
 fn malformed(alloc: Global, case: Case<'_>, mut posts: ListedPosts<'_>) -> Result<(), Unjudged>
-    requires form { IsRosterForm case.roster.now }
     requires claim { case.claim ≡ Claim.Malformed }
     requires one { length posts ≡ 1 }
     ensures exact { Gives failed_of (λ x. x) result (conviction_of (case_of case.entry) posts.entry) }
@@ -174,7 +170,6 @@ fn hear<'a>(
     number: u32,
     bytes: &'a [u8],
 ) -> Result<Said<'a>, FailedCheck>
-    requires form { IsRosterForm case.roster.now }
     ensures exact { Gives (λ e. Some e) said_of result (heard_of (case_of case.entry) first number bytes.now) }
     ensures short { IfOk result (λ said. length said.content.now < 2 ^ 32) }
 {

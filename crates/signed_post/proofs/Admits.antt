@@ -17,14 +17,15 @@ use Rattle.lms_tree.specs.declared.keys.LmsPublic.{LmsPublic}
 use Rattle.lms_tree.specs.declared.verifier.LmsRefusal.{LmsRefusal}
 use Rattle.lms_tree.specs.Tree.{LmsValid, lms_check}
 use Rattle.lms_tree.proofs.Validity.{valid_if_passed, passed_if_valid}
-use Rattle.group_roster.specs.declared.roster.Roster.{Roster}
+use Rattle.group_roster.specs.Roster.{Roster}
 use Rattle.signed_post.specs.declared.post.PostRefusal.{PostRefusal}
 use Rattle.signed_post.specs.declared.post.PostRefusal.TheVariants.{Frame, Version, Group, Round, Sender, Stage}
-use Rattle.group_roster.specs.Places.{fault_unless, value_unless}
+use Rattle.wire_core.specs.Answers.{fault_unless, value_unless}
 use Rattle.group_roster.specs.Roster.{roster_id, key_of, shape_of_roster}
 use Rattle.signed_post.specs.Frame.{FitsFrame, fits_frame}
 use Rattle.signed_post.specs.Admission.{invalid, signature_refusal, header_refusal, admit_framed, Admitted, AdmitsExactly}
-use Rattle.group_roster.proofs.Faults.{fault_unless-true, value_unless-ok, fault_unless-holds, both}
+use Rattle.wire_core.proofs.AnswerLemmas.{fault_unless-true, value_unless-ok, fault_unless-holds}
+use Rattle.std.proofs.lemmas.Bool.{and_parts}
 
 passed : (r : Result (Unit {0}) LmsRefusal) → invalid r ≡ None → r ≡ Ok tt
 passed (Ok u) e = refl
@@ -98,7 +99,7 @@ admit-again roster round post h a =
 -- the test of a frame
 fits-test : (post : Post) → fits_frame post ≡ true → FitsFrame post
 fits-test post e =
-    let p = both (nat_le LEAST_CONTENT (length post.content)) (nat_le (4 + (length post.content + length post.signature)) POST_LIMIT) e in
+    let p = and_parts (nat_le LEAST_CONTENT (length post.content)) (nat_le (4 + (length post.content + length post.signature)) POST_LIMIT) e in
     record { least = leb-true _ _ p.0; most = leb-true _ _ p.1 }
 
 test-fits : (post : Post) → FitsFrame post → fits_frame post ≡ true

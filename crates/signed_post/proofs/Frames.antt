@@ -11,9 +11,10 @@ use Rattle.phase_message.specs.Post.{post_spelling}
 use Rattle.phase_message.proofs.First.{first_some-none, first_some-none_parts}
 use Rattle.wire_core.specs.Bytes.{IsBytes}
 use Rattle.wire_core.proofs.ByteLists.{IsBytes-back, IsBytes-take}
-use Rattle.group_roster.specs.Places.{word_at, fault_unless, value_unless}
+use Rattle.wire_core.specs.Places.{word_at, part}
+use Rattle.wire_core.specs.Answers.{fault_unless, value_unless}
 use Rattle.signed_post.specs.Frame.{FitsFrame, frame_fault, framed, signed_of}
-use Rattle.group_roster.proofs.Faults.{fault_unless-true, fault_unless-holds, value_unless-ok}
+use Rattle.wire_core.proofs.AnswerLemmas.{fault_unless-true, fault_unless-holds, value_unless-ok}
 
 -- what a frame without a fault says of the lengths
 record IsFramed (bytes : List ℕ) : Type 0 where
@@ -55,6 +56,7 @@ framed-fits bytes post e =
     subst (λ (p : Post). FitsFrame p) parts.1 (signed-fits bytes (framed-parts bytes parts.0))
 
 signed-spelled : (bytes : List ℕ) → IsBytes bytes → IsFramed bytes → bytes ≡ post_spelling (signed_of bytes)
+unfolding word_at part
 signed-spelled bytes fits f =
     let n = word_at bytes 0 in
     let back = length-drop 4 bytes in
@@ -84,7 +86,7 @@ framed-bytes bytes post fits e =
 
 -- what fits a frame is framed where it is spelled
 pub framed-again : (post : Post) → FitsFrame post → framed (post_spelling post) ≡ Ok post
-unfolding framed
+unfolding framed word_at part
 framed-again post fits =
     let c = post.content in
     let s = post.signature in

@@ -2,20 +2,18 @@
 use Rattle.std.specs.Prelude.{◌≡◌, ℕ, ◌↔◌, List, [], ◌∷◌, length, bytes_eq, ◌==◌, IsTrue, if◌then◌else◌, Option, Some, None, Result, Ok, Err}
 use Rattle.wire_core.specs.declared.cursor.Short.{Short}
 use Rattle.wire_core.specs.Bytes.{IsBytes}
-use Rattle.wire_core.specs.Reading.{◌>>=◌, fault_as}
+use Rattle.wire_core.specs.Answers.{◌>>=◌, fault_as, first_some, fault_unless, value_unless}
 use Rattle.phase_message.specs.declared.post.Post.{Post}
 use Rattle.phase_message.specs.Post.{post_spelling}
 use Rattle.phase_message.specs.declared.content.Content.{Content}
 use Rattle.phase_message.specs.declared.header.Header.{Header}
-use Rattle.phase_message.specs.First.{first_some}
 use Rattle.phase_message.specs.Header.{header_of}
 use Rattle.phase_message.specs.Offence.{content_read}
 use Rattle.phase_message.specs.Stages.{is_member, is_slot}
 use Rattle.lms_tree.specs.declared.keys.LmsPublic.{LmsPublic}
 use Rattle.lms_tree.specs.declared.verifier.LmsRefusal.{LmsRefusal}
 use Rattle.lms_tree.specs.Tree.{LmsValid, lms_check}
-use Rattle.group_roster.specs.declared.roster.Roster.{Roster}
-use Rattle.group_roster.specs.Places.{fault_unless, value_unless}
+use Rattle.group_roster.specs.Roster.{Roster}
 use Rattle.group_roster.specs.Roster.{roster_id, key_of, shape_of_roster}
 use Rattle.signed_post.specs.declared.post.PostRefusal.{PostRefusal}
 use Rattle.signed_post.specs.declared.post.PostRefusal.TheVariants.{Frame, Version, Group, Round, Sender, Stage, Signature, Body, Memory}

@@ -5,10 +5,10 @@ use Rattle.wire_core.specs.Bytes.{IsBytes}
 use Rattle.phase_message.specs.declared.post.Post.{Post}
 use Rattle.phase_message.specs.declared.post.TheConstants.{LEAST_CONTENT, POST_LIMIT}
 use Rattle.phase_message.specs.Post.{post_spelling}
-use Rattle.phase_message.specs.First.{first_some}
+use Rattle.wire_core.specs.Answers.{first_some, fault_unless, value_unless}
 use Rattle.signed_post.specs.declared.post.ReadRefusal.{ReadRefusal}
 use Rattle.signed_post.specs.declared.post.ReadRefusal.TheVariants.{Frame as ReadFrame, Memory as ReadMemory}
-use Rattle.group_roster.specs.Places.{word_at, fault_unless, value_unless}
+use Rattle.wire_core.specs.Places.{word_at}
 
 -- The first place at which bytes are no post: at 0 where they are too many, or the content's length
 -- is too small for a header and a kind; at their number where they end within a field.

@@ -1,8 +1,8 @@
 //! Posts: reading them, and the checks that stand before a look at the body.
 
 ghost use Rattle.std.specs.Prelude.{◌≡◌, ◌⊎◌, ◌≤◌, ◌<◌, ◌^◌, ◌+◌, length, Some, Ok, Err, IfOk, IfErr, IsOk};
-ghost use Rattle.wire_core.specs.Reading.{Gives};
-ghost use Rattle.group_roster.specs.Roster.{IsRosterForm};
+ghost use Rattle.wire_core.specs.Answers.{Gives};
+ghost use Rattle.group_roster.specs.Given.{roster_of};
 ghost use Rattle.signed_post.specs.Frame.{framed, frame_told};
 ghost use Rattle.signed_post.specs.Admission.{admit, admit_framed, checked, refusal_number, refusal_place};
 
@@ -13,7 +13,7 @@ use phase_message::{
     read_header,
 };
 use std::alloc::Global;
-use wire_core::List;
+use wire_core::{List, word_at};
 
 /// Why bytes are no post.
 #[derive(Clone, Copy, Debug, PartialEq, Eq)]
@@ -118,8 +118,8 @@ pub fn unframed(bytes: &[u8]) -> Result<Parts<'_>, u32>
     if size < 4 {
         return Err(size);
     }
-    let (front, rest) = bytes.split_at(4);
-    let length = u32::from_be_bytes([front[0], front[1], front[2], front[3]]) as usize;
+    let length = word_at(bytes, 0) as usize;
+    let rest = &bytes[4..];
     if length < LEAST_CONTENT {
         return Err(0);
     }
@@ -133,8 +133,7 @@ pub fn unframed(bytes: &[u8]) -> Result<Parts<'_>, u32>
 /// The header of a post that passes the seven checks before its body, and else the first of them that
 /// refuses it. It takes no memory.
 pub fn check_header(roster: &Roster, round: u64, post: &Post) -> Result<Header, PostRefusal>
-    requires { IsRosterForm roster.now }
-    ensures { result ≡ admit roster.now round post.now }
+    ensures { result ≡ admit (roster_of roster.now) round post.now }
 {
     let content = post.content.items().as_slice();
     let signature = post.signature.items().as_slice();
@@ -157,10 +156,9 @@ pub fn check(
     round: u64,
     post: &Post,
 ) -> Result<Content, PostRefusal>
-    requires { IsRosterForm roster.now }
-    ensures { (result ≡ checked roster.now round post.now)
+    ensures { (result ≡ checked (roster_of roster.now) round post.now)
         ⊎ ((result ≡ Err PostRefusal.Memory)
-        × IsOk (admit roster.now round post.now)) }
+        × IsOk (admit (roster_of roster.now) round post.now)) }
 {
     let _header = check_header(roster, round, post)?;
     match decode(alloc, roster.shape(), post.content.items()) {
@@ -173,11 +171,10 @@ pub fn check(
 /// The same for parts that are framed already.
 #[tactic(auto, unfolding(crate::specs::Admission::admit_framed))]
 pub fn check_parts(roster: &Roster, round: u64, parts: Parts<'_>) -> Result<Header, PostRefusal>
-    requires form { IsRosterForm roster.now }
     requires least { LEAST_CONTENT ≤ length parts.content.now }
     requires most { length parts.content.now < 2 ^ 32 }
     requires signature { length parts.signature.now < 2 ^ 32 }
-    ensures { result ≡ admit_framed roster.now round (record { content = parts.entry.content.now; signature = parts.entry.signature.now }) }
+    ensures { result ≡ admit_framed (roster_of roster.now) round (record { content = parts.entry.content.now; signature = parts.entry.signature.now }) }
 {
     let Ok(header) = read_header(parts.content) else {
         unreachable!()

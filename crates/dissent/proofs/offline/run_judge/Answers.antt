@@ -1,5 +1,6 @@
-use Rattle.group_roster.specs.declared.roster.Roster.{Roster}
-use Rattle.group_roster.specs.Roster.{roster_read}
+use Rattle.group_roster.specs.Given.{roster_of}
+use Rattle.group_roster.specs.Roster.{Roster}
+use Rattle.group_roster.specs.Binary.{roster_read}
 use Rattle.judge_core.specs.declared.judging.Accepted.{Accepted}
 use Rattle.judge_core.specs.Checks.{printed_judgement_of}
 use Rattle.dissent.specs.Outcome.{accepted_line}
@@ -21,14 +22,14 @@ returns-in_err-roster-clause-answers g c =
 pub returns-in_err-bytes-clause-answers : goal.returns-in_err-bytes-clause-answers
 returns-in_err-bytes-clause-answers g c =
     let p = err_from_is_err_and c.from_residual-in_err-bytes.result c.from_residual-in_err-bytes.ensures.1 in
-    rw (p.1, p.2) (transcript_unread Roster Accepted 134217728 accepted_line roster_read printed_judgement_of _ _ _ _ _ _ _ c.in_ok-roster_bytes.roster_bytes.items c.deref.result.now c.in_ok-roster.roster c.in_err-bytes.field-0.0 (rose_earlier _ _ _ c.in_ok-roster_bytes.ensures.no_fall)
+    rw (p.1, p.2) (transcript_unread Roster Accepted 134217728 accepted_line roster_read printed_judgement_of _ _ _ _ _ _ _ c.in_ok-roster_bytes.roster_bytes.items c.deref.result.now (roster_of c.in_ok-roster.roster) c.in_err-bytes.field-0.0 (rose_earlier _ _ _ c.in_ok-roster_bytes.ensures.no_fall)
     c.in_ok-roster_bytes.ensures.kept c.deref.ensures.value c.in_ok-roster_bytes.ensures.answer c.in_ok-roster.ensures.exact
     c.in_err-bytes.ensures.answer)
 
 pub returns-in_err-accepted-clause-answers : goal.returns-in_err-accepted-clause-answers
 returns-in_err-accepted-clause-answers g c =
     let p = err_from_is_err_and c.from_residual-in_err-accepted.result c.from_residual-in_err-accepted.ensures.1 in
-    rw (p.1, p.2) (judge_refused Roster Accepted 134217728 accepted_line roster_read printed_judgement_of _ _ _ _ _ _ _ c.in_ok-roster_bytes.roster_bytes.items c.deref.result.now c.in_ok-bytes.bytes.items c.deref-2.result.now c.in_ok-roster.roster c.in_err-accepted.field-0.0 c.in_ok-roster_bytes.ensures.kept c.deref.ensures.value
+    rw (p.1, p.2) (judge_refused Roster Accepted 134217728 accepted_line roster_read printed_judgement_of _ _ _ _ _ _ _ c.in_ok-roster_bytes.roster_bytes.items c.deref.result.now c.in_ok-bytes.bytes.items c.deref-2.result.now (roster_of c.in_ok-roster.roster) c.in_err-accepted.field-0.0 c.in_ok-roster_bytes.ensures.kept c.deref.ensures.value
     c.deref-2.ensures.value c.in_ok-roster_bytes.ensures.answer c.in_ok-roster.ensures.exact c.in_ok-bytes.ensures.answer
     c.in_err-accepted.ensures.exact)
 
@@ -39,7 +40,7 @@ returns-in_err-accepted_text-clause-answers g c =
 
 pub returns-clause-answers : goal.returns-clause-answers
 returns-clause-answers g c =
-    judge_accepted Roster Accepted 134217728 accepted_line roster_read printed_judgement_of _ _ _ _ _ _ _ c.in_ok-roster_bytes.roster_bytes.items c.deref.result.now c.in_ok-bytes.bytes.items c.deref-2.result.now c.in_ok-roster.roster c.in_ok-accepted.accepted c.in_ok-accepted_text.field-0.items c.in_ok-roster_bytes.ensures.kept c.deref.ensures.value
+    judge_accepted Roster Accepted 134217728 accepted_line roster_read printed_judgement_of _ _ _ _ _ _ _ c.in_ok-roster_bytes.roster_bytes.items c.deref.result.now c.in_ok-bytes.bytes.items c.deref-2.result.now (roster_of c.in_ok-roster.roster) c.in_ok-accepted.accepted c.in_ok-accepted_text.field-0.items c.in_ok-roster_bytes.ensures.kept c.deref.ensures.value
     c.deref-2.ensures.value c.in_ok-roster_bytes.ensures.answer c.in_ok-roster.ensures.exact c.in_ok-bytes.ensures.answer
     c.in_ok-accepted.ensures.exact c.in_ok-accepted_text.ensures
 
@@ -65,6 +66,6 @@ returns-in_err-accepted-clause-convicts g c =
 
 pub returns-clause-convicts : goal.returns-clause-convicts
 returns-clause-convicts g c =
-    convicted _ _ _ _ c.in_ok-roster_bytes.roster_bytes.items c.deref.result.now c.in_ok-bytes.bytes.items c.deref-2.result.now c.in_ok-accepted_text.field-0.items c.in_ok-roster.roster c.in_ok-accepted.accepted
+    convicted _ _ _ _ c.in_ok-roster_bytes.roster_bytes.items c.deref.result.now c.in_ok-bytes.bytes.items c.deref-2.result.now c.in_ok-accepted_text.field-0.items (roster_of c.in_ok-roster.roster) c.in_ok-accepted.accepted
     c.in_ok-roster_bytes.ensures.shown c.in_ok-roster_bytes.ensures.kept c.in_ok-bytes.ensures.shown c.deref.ensures.value c.deref-2.ensures.value
     c.in_ok-roster.ensures.found c.in_ok-accepted.ensures.accepted c.in_ok-accepted.ensures.no_framing c.in_ok-accepted_text.ensures

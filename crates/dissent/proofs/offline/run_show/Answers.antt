@@ -1,5 +1,6 @@
-use Rattle.group_roster.specs.declared.roster.Roster.{Roster}
-use Rattle.group_roster.specs.Roster.{roster_read}
+use Rattle.group_roster.specs.Given.{roster_of}
+use Rattle.group_roster.specs.Roster.{Roster}
+use Rattle.group_roster.specs.Binary.{roster_read}
 use Rattle.phase_message.specs.declared.content.Content.{Content}
 use Rattle.dissent.specs.Show.{file_checked, shown_line}
 use Rattle.std.proofs.lemmas.Result.{err_from_is_err_and}
@@ -20,14 +21,14 @@ returns-in_err-roster-clause-answers g c =
 pub returns-in_err-bytes-clause-answers : goal.returns-in_err-bytes-clause-answers
 returns-in_err-bytes-clause-answers g c =
     let p = err_from_is_err_and c.from_residual-in_err-bytes.result c.from_residual-in_err-bytes.ensures.1 in
-    rw (p.1, p.2) (transcript_unread Roster Content 16777216 shown_line roster_read (file_checked c.args.round) _ _ _ _ _ _ _ c.in_ok-roster_file.roster_file.items c.deref.result.now c.in_ok-roster.roster c.in_err-bytes.field-0.0 (rose_earlier _ _ _ c.in_ok-roster_file.ensures.no_fall)
+    rw (p.1, p.2) (transcript_unread Roster Content 16777216 shown_line roster_read (file_checked c.args.round) _ _ _ _ _ _ _ c.in_ok-roster_file.roster_file.items c.deref.result.now (roster_of c.in_ok-roster.roster) c.in_err-bytes.field-0.0 (rose_earlier _ _ _ c.in_ok-roster_file.ensures.no_fall)
     c.in_ok-roster_file.ensures.kept c.deref.ensures.value c.in_ok-roster_file.ensures.answer c.in_ok-roster.ensures.exact
     c.in_err-bytes.ensures.answer)
 
 pub returns-in_err-content-clause-answers : goal.returns-in_err-content-clause-answers
 returns-in_err-content-clause-answers g c =
     let p = err_from_is_err_and c.from_residual-in_err-content.result c.from_residual-in_err-content.ensures.1 in
-    rw (p.1, p.2) (judge_refused Roster Content 16777216 shown_line roster_read (file_checked c.args.round) _ _ _ _ _ _ _ c.in_ok-roster_file.roster_file.items c.deref.result.now c.in_ok-bytes.bytes.items c.deref-2.result.now c.in_ok-roster.roster c.in_err-content.field-0.0 c.in_ok-roster_file.ensures.kept c.deref.ensures.value
+    rw (p.1, p.2) (judge_refused Roster Content 16777216 shown_line roster_read (file_checked c.args.round) _ _ _ _ _ _ _ c.in_ok-roster_file.roster_file.items c.deref.result.now c.in_ok-bytes.bytes.items c.deref-2.result.now (roster_of c.in_ok-roster.roster) c.in_err-content.field-0.0 c.in_ok-roster_file.ensures.kept c.deref.ensures.value
     c.deref-2.ensures.value c.in_ok-roster_file.ensures.answer c.in_ok-roster.ensures.exact c.in_ok-bytes.ensures.answer
     c.in_err-content.ensures.exact)
 
@@ -38,7 +39,7 @@ returns-in_err-shown_text-clause-answers g c =
 
 pub returns-clause-answers : goal.returns-clause-answers
 returns-clause-answers g c =
-    judge_accepted Roster Content 16777216 shown_line roster_read (file_checked c.args.round) _ _ _ _ _ _ _ c.in_ok-roster_file.roster_file.items c.deref.result.now c.in_ok-bytes.bytes.items c.deref-2.result.now c.in_ok-roster.roster c.in_ok-content.content c.in_ok-shown_text.field-0.items c.in_ok-roster_file.ensures.kept c.deref.ensures.value
+    judge_accepted Roster Content 16777216 shown_line roster_read (file_checked c.args.round) _ _ _ _ _ _ _ c.in_ok-roster_file.roster_file.items c.deref.result.now c.in_ok-bytes.bytes.items c.deref-2.result.now (roster_of c.in_ok-roster.roster) c.in_ok-content.content c.in_ok-shown_text.field-0.items c.in_ok-roster_file.ensures.kept c.deref.ensures.value
     c.deref-2.ensures.value c.in_ok-roster_file.ensures.answer c.in_ok-roster.ensures.exact c.in_ok-bytes.ensures.answer
     c.in_ok-content.ensures.exact c.in_ok-shown_text.ensures
 
@@ -64,6 +65,6 @@ returns-in_err-content-clause-shows g c =
 
 pub returns-clause-shows : goal.returns-clause-shows
 returns-clause-shows g c =
-    shown _ _ _ _ _ c.in_ok-roster_file.roster_file.items c.deref.result.now c.in_ok-bytes.bytes.items c.deref-2.result.now c.in_ok-shown_text.field-0.items c.in_ok-roster.roster c.in_ok-content.content
+    shown _ _ _ _ _ c.in_ok-roster_file.roster_file.items c.deref.result.now c.in_ok-bytes.bytes.items c.deref-2.result.now c.in_ok-shown_text.field-0.items (roster_of c.in_ok-roster.roster) c.in_ok-content.content
     c.in_ok-roster_file.ensures.shown c.in_ok-roster_file.ensures.kept c.in_ok-bytes.ensures.shown c.deref.ensures.value c.deref-2.ensures.value
     c.in_ok-roster.ensures.found c.in_ok-content.ensures.passes c.in_ok-shown_text.ensures

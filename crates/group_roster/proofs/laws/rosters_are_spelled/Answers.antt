@@ -1,5 +1,5 @@
 use Rattle.std.proofs.Common.{ap, ◌∙◌}
-use Rattle.group_roster.specs.Roster.{roster_read}
+use Rattle.group_roster.specs.Binary.{roster_read}
 use Rattle.group_roster.proofs.Rosters.{roster_read-found, roster_again}
 use Rattle.group_roster.proofs.laws.rosters_are_spelled.Goals as goal
 

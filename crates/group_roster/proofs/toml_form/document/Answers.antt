@@ -8,4 +8,4 @@ returns-in-Ok c = document-ok c.args.bytes.now (table_view c.in-Ok.top) c.in-Ok.
 
 pub returns-else-is_memory : goal.returns-else-is_memory
 returns-else-is_memory c =
-    document-err c.args.bytes.now (c.in-Err.ensures.refused (λ k. false≢true (c.if-is_memory.ensures.1 k)))
+    rw c.of.ensures (document-err c.args.bytes.now (c.in-Err.ensures.refused (λ k. false≢true (c.if-is_memory.ensures.1 k))))

@@ -12,9 +12,9 @@ returns-in-None-clause-keys c =
     let v = c.entry-item.result in
     let next = entry-next vs c.deref-entry-items.result.now k v c.deref-entry-items.ensures.value c.loop-k-test.true c.entry-item.is in
     let keys = c.loop-k.keys.items in
-    ap (keys_from 1) (list_of-items (map view vs))
+    rw c.of.ensures (ap (keys_from 1) (list_of-items (map view vs))
     ∙ keys-none keys (k + 1) (view v) (map view (drop (k + 1) vs)) (keys_from 1 (map view vs)) (sym c.entry_key.ensures ∙ c.in-None.is)
-    (ap (λ (xs : List Data). with_keys keys (keys_from (k + 1) xs)) (sym next) ∙ c.loop-k.invariant.0)
+    (ap (λ (xs : List Data). with_keys keys (keys_from (k + 1) xs)) (sym next) ∙ c.loop-k.invariant.0))
 
 pub loop-k-preserved : goal.loop-k-preserved
 loop-k-preserved c =

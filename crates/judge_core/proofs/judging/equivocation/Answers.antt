@@ -1,3 +1,4 @@
+use Rattle.group_roster.specs.Given.{roster_of}
 use Rattle.std.proofs.Common.{◌≡◌, ◌∷◌, [], ◌∙◌, ap, sym, true}
 use Rattle.std.proofs.lemmas.Result.{err_from_is_err_and}
 use Rattle.group_roster.specs.Roster.{shape_of_roster}
@@ -22,11 +23,11 @@ returns-then-eq c =
     let posts = two_posts c.args.posts _ _ c.in-Some-Some.first_post.now c.in-Some-Some.second_post.now c.in-Some-Some.ensures.steps c.in-Some-Some.ensures'.steps c.requires.two in
     ap (conviction_of (case_of c.args.case)) posts
     ∙ two-both (case_of c.args.case) _ _ (said_of c.in_ok-first.first) (said_of c.in_ok-second.second) c.in_ok-first.ensures.exact c.in_ok-second.ensures.exact
-    ∙ equal_contents (shape_of_roster c.args.case.roster.now) c.args.case.claim (said_of c.in_ok-first.first) (said_of c.in_ok-second.second) c.requires.claim (sym c.if-eq.ensures)
+    ∙ equal_contents (shape_of_roster (roster_of c.args.case.roster.now)) c.args.case.claim (said_of c.in_ok-first.first) (said_of c.in_ok-second.second) c.requires.claim (sym c.if-eq.ensures)
 
 pub returns : goal.returns
 returns c =
     let posts = two_posts c.args.posts _ _ c.in-Some-Some.first_post.now c.in-Some-Some.second_post.now c.in-Some-Some.ensures.steps c.in-Some-Some.ensures'.steps c.requires.two in
     ap (conviction_of (case_of c.args.case)) posts
     ∙ two-both (case_of c.args.case) _ _ (said_of c.in_ok-first.first) (said_of c.in_ok-second.second) c.in_ok-first.ensures.exact c.in_ok-second.ensures.exact
-    ∙ other_contents (shape_of_roster c.args.case.roster.now) c.args.case.claim (said_of c.in_ok-first.first) (said_of c.in_ok-second.second) c.requires.claim (sym c.if-eq.ensures)
+    ∙ other_contents (shape_of_roster (roster_of c.args.case.roster.now)) c.args.case.claim (said_of c.in_ok-first.first) (said_of c.in_ok-second.second) c.requires.claim (sym c.if-eq.ensures)

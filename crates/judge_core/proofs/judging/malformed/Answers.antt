@@ -1,3 +1,4 @@
+use Rattle.group_roster.specs.Given.{roster_of}
 use Rattle.std.proofs.Common.{◌≡◌, ◌∷◌, [], ◌∙◌, ap, sym, subst, true}
 use Rattle.std.proofs.lemmas.Result.{err_from_is_err_and}
 use Rattle.std.specs.Prelude.{is_ok}
@@ -24,11 +25,11 @@ returns-then-branch-clause-exact c =
     let posts = one_post c.args.posts _ c.in-Some.post.now c.in-Some.ensures.steps c.requires.one in
     ap (conviction_of (case_of c.args.case)) posts
     ∙ one-heard (case_of c.args.case) _ (said_of c.in_ok-said.said) c.in_ok-said.ensures.exact
-    ∙ formed (shape_of_roster c.args.case.roster.now) c.args.case.claim (said_of c.in_ok-said.said) c.requires.claim (ap (λ (shape : Shape). is_ok (content_read shape c.in_ok-said.said.content.now)) (sym c.shape.ensures) ∙ sym c.in_ok-is_well_formed.ensures ∙ c.if-branch.true)
+    ∙ formed (shape_of_roster (roster_of c.args.case.roster.now)) c.args.case.claim (said_of c.in_ok-said.said) c.requires.claim (ap (λ (shape : Shape). is_ok (content_read shape c.in_ok-said.said.content.now)) (sym c.shape.ensures) ∙ sym c.in_ok-is_well_formed.ensures ∙ c.if-branch.true)
 
 pub returns-clause-exact : goal.returns-clause-exact
 returns-clause-exact c =
     let posts = one_post c.args.posts _ c.in-Some.post.now c.in-Some.ensures.steps c.requires.one in
     ap (conviction_of (case_of c.args.case)) posts
     ∙ one-heard (case_of c.args.case) _ (said_of c.in_ok-said.said) c.in_ok-said.ensures.exact
-    ∙ unformed (shape_of_roster c.args.case.roster.now) c.args.case.claim (said_of c.in_ok-said.said) c.requires.claim (ap (λ (shape : Shape). is_ok (content_read shape c.in_ok-said.said.content.now)) (sym c.shape.ensures) ∙ sym c.in_ok-is_well_formed.ensures ∙ c.if-branch.false)
+    ∙ unformed (shape_of_roster (roster_of c.args.case.roster.now)) c.args.case.claim (said_of c.in_ok-said.said) c.requires.claim (ap (λ (shape : Shape). is_ok (content_read shape c.in_ok-said.said.content.now)) (sym c.shape.ensures) ∙ sym c.in_ok-is_well_formed.ensures ∙ c.if-branch.false)

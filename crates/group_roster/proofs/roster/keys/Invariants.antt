@@ -1,7 +1,0 @@
-use Rattle.std.proofs.Common.{◌≡◌}
-use Rattle.group_roster.specs.Roster.{keys_at}
-use Rattle.group_roster.proofs.Keys.{AreRight}
-use Rattle.group_roster.proofs.roster.keys.Given as goal
-
-abbrev pub invariant-loop-k : goal.invariant-loop-k
-invariant-loop-k l = (l.keys.items ≡ keys_at l.bytes l.k) × AreRight l.bytes l.k
