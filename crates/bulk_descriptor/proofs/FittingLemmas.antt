@@ -135,13 +135,13 @@ pad_row-other n own kept member seed entry pad d e read found =
     ∙ ap (λ (o : Option Description). unwrap_or (option_and_then (λ d. pad_found d member seed) o) []) read
     ∙ ap (λ (o : Option (List ℕ)). unwrap_or o []) found
 
-capsule_for-made : (n : ℕ) (keys seeds : List (List ℕ)) (maker member : ℕ) (message : List ℕ) → CanMake n keys seeds maker message → 1 ≤ member → member ≤ n
+pub capsule_for-made : (n : ℕ) (keys seeds : List (List ℕ)) (maker member : ℕ) (message : List ℕ) → CanMake n keys seeds maker message → 1 ≤ member → member ≤ n
     → capsule_for (made_descriptor keys seeds maker message) member ≡ capsule_of (get_or keys (member - 1) []) (get_or seeds (member - 1) [])
 unfolding made_descriptor
 capsule_for-made n keys seeds maker member message can first last =
     get_or-sealed_seeds keys seeds (member - 1) (omega (arith, can.as_many_keys)) (omega (arith, can.as_many_seeds))
 
-length_of-made : (keys seeds : List (List ℕ)) (maker : ℕ) (message : List ℕ) → (made_descriptor keys seeds maker message).length ≡ length message
+pub length_of-made : (keys seeds : List (List ℕ)) (maker : ℕ) (message : List ℕ) → (made_descriptor keys seeds maker message).length ≡ length message
 unfolding made_descriptor
 length_of-made keys seeds maker message = refl
 

@@ -1,0 +1,3 @@
+pub mod AccusationLemmas
+pub mod TestLemmas
+pub mod ItemLemmas
