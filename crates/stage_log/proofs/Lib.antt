@@ -5,3 +5,5 @@ pub mod Pasts
 pub mod SlotPlaces
 pub mod Steps
 pub mod Views
+pub mod Fronts
+pub mod EqualViews

@@ -46,7 +46,7 @@ slice_get-drop xs zero i = let e : i ≡ zero + i = omega arith in ap (slice_get
 slice_get-drop [] (suc a) i = refl
 slice_get-drop (x ∷ xs) (suc a) i = let e : suc (a + i) ≡ suc a + i = omega arith in slice_get-drop xs a i ∙ ap (slice_get (x ∷ xs)) e
 
-slice_get-take : {A : Type 0} (xs : List A) (n i : ℕ) → i < n → slice_get (take n xs) i ≡ slice_get xs i
+pub slice_get-take : {A : Type 0} (xs : List A) (n i : ℕ) → i < n → slice_get (take n xs) i ≡ slice_get xs i
 slice_get-take xs zero i lt = absurd (omega arith)
 slice_get-take [] (suc n) i lt = refl
 slice_get-take (x ∷ xs) (suc n) zero lt = refl
