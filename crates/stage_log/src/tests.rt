@@ -41,22 +41,32 @@ fn content(alloc: Global, slot: Slot, view: &[u8; 32], body: &[u8]) -> Result<Ve
     Ok(content)
 }
 
-// Puts a post, where a slot and the content may be put.
+// What became of a post with this signature.
+fn told(answer: &Put, signature: &[u8]) -> &'static str {
+    match answer {
+        Put::Stored => "stored",
+        Put::Same(post) if has_signature(Some(post), signature) => "same",
+        Put::Other(post) if has_signature(Some(post), signature) => "other",
+        _ => "not handed back",
+    }
+}
+
+// Puts a post, where the slot and the content may be put, and tells what became of it.
 fn put(
     alloc: Global,
     log: &mut StageLog,
     slot: Slot,
     content: &[u8],
     signature: &[u8],
-) -> Result<Option<Put>, AllocError> {
+) -> Result<&'static str, AllocError> {
     if content.len() < 76 || content.len() > 80 || !is_slot(log.shape(), slot) {
-        return Ok(None);
+        return Ok("no slot");
     }
     let post = Post {
         content: List::of(Vec::from_slice(alloc, content)?),
         signature: List::of(Vec::from_slice(alloc, signature)?),
     };
-    Ok(Some(log.put(slot, post)))
+    Ok(told(&log.put(slot, post), signature))
 }
 
 fn has_signature(post: Option<&Post>, signature: &[u8]) -> bool {
@@ -64,6 +74,21 @@ fn has_signature(post: Option<&Post>, signature: &[u8]) -> bool {
         Some(post) => post.signature.items().as_slice() == signature,
         None => false,
     }
+}
+
+// The view of a log at a stage and its first wrong slot before, where all stages before are complete.
+fn views(log: &StageLog, stage: u8) -> Option<([u8; 32], Option<Slot>)> {
+    for earlier in 0..stage {
+        if !log.complete(earlier) {
+            return None;
+        }
+    }
+    Some((log.view(stage), log.wrong_views(stage)))
+}
+
+// What the log tells of the places of stage 0.
+fn places(log: &StageLog) -> (u32, bool, Option<u8>) {
+    (log.missing(0), log.complete(0), log.first_incomplete())
 }
 
 // One slot of two members: the first post stays, whatever is put behind it.
@@ -77,30 +102,13 @@ fn a_slot_keeps_its_first_post(rt: HostRuntime) -> Result<(), Fail> {
     };
     let said = content(alloc, slot, &view_at(0), b"said")?;
     let other = content(alloc, slot, &view_at(0), b"other")?;
-    let stored = put(alloc, &mut log, slot, &said, b"one")?;
-    let same = put(alloc, &mut log, slot, &said, b"two")?;
-    let different = put(alloc, &mut log, slot, &other, b"three")?;
-    assert!(rt; matches!(&stored, Some(Put::Stored)));
-    assert!(rt; matches!(&same, Some(Put::Same(post)) if has_signature(Some(post), b"two")));
-    assert!(rt;
-        matches!(&different, Some(Put::Other(post)) if has_signature(Some(post), b"three"))
-    );
+    assert!(rt; put(alloc, &mut log, slot, &said, b"one")? == "stored");
+    assert!(rt; put(alloc, &mut log, slot, &said, b"two")? == "same");
+    assert!(rt; put(alloc, &mut log, slot, &other, b"three")? == "other");
     assert!(rt; has_signature(log.kept(slot), b"one"));
-    assert!(rt; log.missing(0) == 2);
-    assert!(rt; !log.complete(0));
-    assert!(rt; log.first_incomplete() == Some(0));
-    assert!(rt; log.view(0) == view_at(0));
+    assert!(rt; places(&log) == (2, false, Some(0)));
+    assert!(rt; views(&log, 0) == Some((view_at(0), None)));
     Ok(())
-}
-
-// The view of a log at a stage and its first wrong slot before, where all stages before are complete.
-fn views(log: &StageLog, stage: u8) -> Option<([u8; 32], Option<Slot>)> {
-    for earlier in 0..stage {
-        if !log.complete(earlier) {
-            return None;
-        }
-    }
-    Some((log.view(stage), log.wrong_views(stage)))
 }
 
 // The view that is carried over the contents of the first two stages.
