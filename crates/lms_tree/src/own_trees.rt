@@ -1,8 +1,8 @@
 //! The tree of a secret, with all its nodes (RFC 8554, section 5.3).
 
-ghost use Rattle.std.specs.Prelude.{◌≡◌, ◌*◌, ◌<◌, ◌≤◌, ◌^◌, ◌++◌, IfOk, length};
+ghost use Rattle.std.specs.Prelude.{◌≡◌, ◌+◌, ◌*◌, ◌<◌, ◌≤◌, ◌^◌, ◌++◌, IfOk, length};
 ghost use Rattle.lm_ots.specs.Signing.{ots_public, parts_of};
-ghost use Rattle.lms_tree.specs.Secret.{leaf_key, leaves, lms_signature, own_path, own_public};
+ghost use Rattle.lms_tree.specs.Secret.{leaf_key, leaves, lms_signature, own_path, own_public, sibling};
 ghost use Rattle.lms_tree.specs.States.{OwnNodes, secret_parts};
 ghost use Rattle.lms_tree.specs.Tree.{height};
 
@@ -149,6 +149,14 @@ fn put_inner(parts: &TreeParts, nodes: &mut [[u8; 32]])
     }
 }
 
+// The other child of a node's parent.
+fn sibling(node: u32) -> u32
+    requires { node + 1 < 2 ^ 32 }
+    ensures { result ≡ sibling node }
+{
+    if node % 2 == 0 { node + 1 } else { node - 1 }
+}
+
 // Appends the nodes beside the way from leaf `q` to the root.
 fn put_path(
     parts: &TreeParts,
@@ -164,8 +172,7 @@ fn put_path(
 {
     let mut node = parts.leaves() + q;
     for _level in 0..parts.lms_type.height() {
-        let beside = if node % 2 == 0 { node + 1 } else { node - 1 };
-        to.extend_from_slice(&nodes[beside as usize])?;
+        to.extend_from_slice(&nodes[sibling(node) as usize])?;
         node /= 2;
     }
     Ok(())

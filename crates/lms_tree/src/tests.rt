@@ -1,4 +1,5 @@
 ghost use Rattle.std.specs.Prelude.{◌<◌};
+ghost use Rattle.lms_tree.specs.States.{made_leaves};
 
 use crate::{
     KeyRefusal, LeafRun, LmsPublic, LmsRefusal, LmsSecret, MadeHeight, ReserveRefusal, verify,
@@ -114,6 +115,48 @@ fn signs_from_20(alloc: Global, run: &mut LeafRun, key: &LmsPublic) -> Result<bo
         }
     }
     Ok(run.left() == 0)
+}
+
+// Whether a key signs with its last leaf, validly, and then has no leaf.
+fn signs_with_its_last_leaf(
+    alloc: Global,
+    height: MadeHeight,
+    width: OtsType,
+    last: u32,
+) -> Result<bool, Fail>
+    requires { last < made_leaves height }
+{
+    let mut secret = LmsSecret::make(alloc, height, width, &MASTER, last)?;
+    let key = secret.public();
+    let Ok(mut run) = secret.reserve(alloc, 1) else {
+        return Err(Fail::from("no leaf"));
+    };
+    let sig = run.sign(alloc, b"a");
+    let left = run.left();
+    run.retire();
+    let sig = sig?;
+    let long = sig.len() == key.signature_length() as usize;
+    match secret.reserve(alloc, 1) {
+        Err(_) => {}
+        Ok(run) => {
+            run.retire();
+            return Ok(false);
+        }
+    }
+    Ok(verified(&key, b"a", &sig)? == Ok(()) && long && left == 0)
+}
+
+#[test]
+fn a_key_of_each_width_signs_to_its_last_leaf(rt: HostRuntime) -> Result<(), Fail> {
+    let alloc = rt.alloc();
+    for width in [OtsType::W1, OtsType::W2, OtsType::W4, OtsType::W8] {
+        assert!(rt;
+            signs_with_its_last_leaf(alloc, MadeHeight::H5, width, 31)?,
+            "at {width:?}"
+        );
+    }
+    assert!(rt; signs_with_its_last_leaf(alloc, MadeHeight::H10, OtsType::W1, 1023)?);
+    Ok(())
 }
 
 #[test]

@@ -27,3 +27,23 @@ fn exclusive_or_of_two_bytes(rt: HostRuntime) {
     xor_into(&mut into, &[0x0f]);
     assert_eq!(rt; into, [0x61]);
 }
+
+#[test]
+fn pads_at_the_limit_agree(rt: HostRuntime) -> Result<(), Fail> {
+    let alloc = rt.alloc();
+    let seed = [7; 32];
+    for length in [65_536, 65_537] {
+        let mut bytes = pad(alloc, &seed, length)?;
+        let mut register = Register::new(Tag::PadHash);
+        if bytes.len() < 100_000 {
+            register.piece(&bytes);
+        }
+        assert_eq!(rt; pad_hash(&seed, length), register.end(), "at {length}");
+        assert!(rt; is_pad(&seed, &bytes, length));
+        assert!(rt; !is_pad(&seed, &bytes, length + 1));
+        let last = bytes.pop().ok_or("a last byte")?;
+        bytes.push(last ^ 1)?;
+        assert!(rt; !is_pad(&seed, &bytes, length));
+    }
+    Ok(())
+}

@@ -1,11 +1,10 @@
-use Rattle.std.proofs.Common.{◌≡◌, ◌+◌, ◌<◌, ◌∙◌, sym, arith}
-use Rattle.lms_tree.specs.Secret.{leaves, sibling}
+use Rattle.std.proofs.Common.{◌≡◌, ◌+◌, ◌<◌, arith}
+use Rattle.lms_tree.specs.Secret.{leaves}
 use Rattle.lms_tree.specs.States.{secret_parts}
 use Rattle.lms_tree.specs.Tree.{height}
 use Rattle.lms_tree.proofs.Climbs.{halved}
-use Rattle.lms_tree.proofs.OwnTrees.{own_path_more, own_path_none, sibling_of_even, sibling_of_odd, way_begins, way_goes_on}
+use Rattle.lms_tree.proofs.OwnTrees.{own_path_more, own_path_none, way_begins, way_goes_on}
 use Rattle.lms_tree.proofs.own_trees.put_path.Goals as goal
-use Rattle.lms_tree.proofs.own_trees.put_path.Goals.{then-node-eq0, else-node-eq0}
 
 pub loop-level-init : goal.loop-level-init
 loop-level-init c =
@@ -23,16 +22,11 @@ loop-level-preserved c =
     let i = c.loop-level.invariant in
     let low : c.loop-level._level < height c.args.parts.now.lms_type = omega arith in
     let goes_on = way_goes_on (height c.args.parts.now.lms_type) c.loop-level._level c.loop-level.node low i.from_left i.to_right in
-    let beside : c.if-node-eq0.beside ≡ sibling c.loop-level.node =
-    elim c.if-node-eq0.branch [
-      | then-node-eq0 w ↦ w.beside-is ∙ sym (sibling_of_even c.loop-level.node (omega arith))
-      | else-node-eq0 w ↦ w.beside-is ∙ sym (sibling_of_odd c.loop-level.node (omega arith))
-    ] in
     record {
       from_left = goes_on.0;
       to_right = goes_on.1;
       halved = rw i.halved (halved (leaves s + c.args.q) c.loop-level._level);
       so_far = rw (c.in_ok-extend_from_slice.ensures.items, i.so_far)
-          (own_path_more s c.args.nodes.now c.args.q c.loop-level._level c.loop-level.node c.if-node-eq0.beside c.args.to.now.items
-          c.requires.own low i.from_left i.to_right i.halved beside);
+          (own_path_more s c.args.nodes.now c.args.q c.loop-level._level c.loop-level.node c.sibling.result c.args.to.now.items
+          c.requires.own low i.from_left i.to_right i.halved c.sibling.ensures);
     }
