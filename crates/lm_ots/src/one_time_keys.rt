@@ -52,7 +52,7 @@ impl OtsKey {
     }
 
     /// The signature of a message (section 4.5), after which the key is gone: 36 bytes and 32 for each
-    /// chain. Where memory is wanting nothing was signed, and the key comes back.
+    /// chain. Out of memory nothing was signed, and the key comes back.
     pub fn sign(self, alloc: Global, message: &[u8]) -> Result<Vec<u8>, (OtsKey, AllocError)>
         ensures signed { IfOk result (λ signature. signature.items ≡ ots_signature (parts_of self) message.now) }
         ensures kept { IfErr result (λ e. e.0 ≡ self) }

@@ -53,7 +53,7 @@ impl LeafRun {
     }
 
     /// The signature of a message with the least leaf, which is spent by it (RFC 8554, section 5.4.1). Its
-    /// bytes are as many as `LmsPublic::signature_length` says. Where memory is wanting no signature was
+    /// bytes are as many as `LmsPublic::signature_length` says. Out of memory no signature was
     /// given out, and the run is what it was.
     pub fn sign(&mut self, alloc: Global, message: &[u8]) -> Result<Vec<u8>, AllocError>
         requires { 0 < self.old.left }

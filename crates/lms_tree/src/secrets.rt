@@ -80,7 +80,7 @@ impl Model for LmsSecret {
 
 impl LmsSecret {
     /// The secret of a master: its identifier I is the first 16 bytes of one hash of the master, and
-    /// its SEED is another. Leaves below `next` are never given. An error says that memory is wanting.
+    /// its SEED is another. Leaves below `next` are never given. Its only error is out of memory.
     pub fn make(
         alloc: Global,
         height: MadeHeight,
@@ -99,7 +99,7 @@ impl LmsSecret {
     }
 
     /// The secret with this identifier I and this SEED (RFC 8554, appendix A). Leaves below `next` are
-    /// never given. An error says that memory is wanting.
+    /// never given. Its only error is out of memory.
     pub fn from_parts(
         alloc: Global,
         height: MadeHeight,

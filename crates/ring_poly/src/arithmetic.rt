@@ -1,6 +1,6 @@
 //! Sums, differences and products.
 
-ghost use Rattle.std.specs.Prelude.{◌≡◌, ◌+◌, ◌^◌, ◌<◌, ◌≤◌, ℕ, length, map, slice_index, slice_index_or, All, EachIndex, unsigned_abs, pos, ◌+ℤ◌};
+ghost use Rattle.std.specs.Prelude.{◌≡◌, ◌+◌, ◌^◌, ◌<◌, ◌≤◌, ℕ, length, map, slice_index, slice_index_or, All, EachIndex, unsigned_abs, neg_ℤ, pos, ◌+ℤ◌};
 ghost use Rattle.std.proofs.Math.IntN.{◌*ℤ◌};
 ghost use Rattle.ring_poly.specs.Residue.{residue};
 ghost use Rattle.ring_poly.specs.Product.{IsPolynomial, IsTernary, IsTrit, product_of, sum_of, difference_of, coefficient, product_at, turned};
@@ -67,7 +67,16 @@ fn add_row(sums: &mut [i32; DEGREE], a: &[u16; DEGREE], row: usize, factor: i32)
     ensures { EachIndex sums.new (λ k. coefficient sums.new k ≡ coefficient sums.old k +ℤ (turned (map pos a.now) row k *ℤ factor)) }
 {
     add_multiple(&mut sums[row..], &a[..DEGREE - row], factor);
-    add_multiple(&mut sums[..row], &a[DEGREE - row..], -factor);
+    add_multiple(&mut sums[..row], &a[DEGREE - row..], past_the_top(factor));
+}
+
+/// The factor of what is pushed past the top, where x^1024 = -1.
+fn past_the_top(factor: i32) -> i32
+    requires { IsTrit factor }
+    ensures value { result ≡ neg_ℤ factor }
+    ensures trit { IsTrit result }
+{
+    -factor
 }
 
 /// Adds `factor` times each term to the sum at its place.

@@ -51,3 +51,19 @@ fn turns_the_sign_past_the_top(rt: HostRuntime) -> Result<(), Fail> {
     }
     Ok(())
 }
+
+#[test]
+fn sums_and_differences_are_reduced(rt: HostRuntime) {
+    let one = Poly::of([1; 1024]);
+    let greatest = Poly::of([12288; 1024]);
+    let results = [
+        (add(&one, &greatest), 0),
+        (add(&greatest, &greatest), 12287),
+        (sub(&one, &greatest), 2),
+        (sub(&greatest, &one), 12287),
+    ];
+    for (result, coefficient) in results {
+        assert_eq!(rt; result.get(0), coefficient);
+        assert_eq!(rt; result.get(1023), coefficient);
+    }
+}

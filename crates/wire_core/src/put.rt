@@ -5,7 +5,7 @@ ghost use Rattle.std.specs.Int.{w16, w32, w64, to_be_bytes};
 
 use std::alloc::AllocError;
 
-/// A value, or want of memory.
+/// A value, or out of memory.
 pub type Mem<T> = Result<T, AllocError>;
 
 /// Appends a byte. Without memory the list stays.

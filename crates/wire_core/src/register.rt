@@ -1,6 +1,7 @@
 //! Hashing a tag with its pieces.
 
 ghost use Rattle.std.specs.Prelude.{◌≡◌, ◌<◌, ◌^◌, ◌++◌, ◌∷◌, ℕ, List, [], length};
+ghost use Rattle.std.specs.Int.{w32, to_be_bytes};
 ghost use Rattle.wire_core.specs.declared.tag.Tag.{Tag};
 ghost use Rattle.wire_core.specs.Hash.{hash_of};
 ghost use Rattle.wire_core.specs.Register.{Holds};
@@ -33,8 +34,7 @@ impl Register {
         ensures { (tag : Tag) (pieces : List (List ℕ)) →
             Holds self.old tag pieces → Holds self.new tag (pieces ++ b.now ∷ []) }
     {
-        let length = b.len() as u32;
-        self.hasher.update(length.to_be_bytes());
+        self.hasher.update(length_bytes(b));
         self.hasher.update(b);
     }
 
@@ -44,4 +44,12 @@ impl Register {
     {
         self.hasher.finalize()
     }
+}
+
+// The length of a piece, as it is hashed before it.
+fn length_bytes(b: &[u8]) -> [u8; 4]
+    requires { length b.now < 2 ^ 32 }
+    ensures { result ≡ to_be_bytes w32 (length b.now) }
+{
+    (b.len() as u32).to_be_bytes()
 }

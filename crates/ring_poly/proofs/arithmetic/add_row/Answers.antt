@@ -1,5 +1,5 @@
 use Rattle.std.proofs.Common.{◌≡◌, ◌-◌, length, arith, ◌∙◌, to_z, of_z, w32}
-use Rattle.ring_poly.proofs.Words.{read_back, read_negated}
+use Rattle.ring_poly.proofs.Words.{read_back, read_turned}
 use Rattle.ring_poly.proofs.Rows.{row_at, high_long, low_long, whole_long}
 use Rattle.ring_poly.proofs.arithmetic.add_row.Goals as goal
 
@@ -8,9 +8,9 @@ returns c = λ i h.
     let f = c.args.factor in
     let small = c.requires.factor in
     let factor : to_z w32 (of_z w32 f) ≡ f = read_back f (omega arith) in
-    let negated = read_negated f small in
+    let turned = read_turned f c.past_the_top.result small c.past_the_top.ensures.value in
     let high = rw factor at c.add_multiple.ensures in
-    let low = rw negated at c.add_multiple-2.ensures in
+    let low = rw turned at c.add_multiple-2.ensures in
     let xs = c.args.sums.now in
     let ys = c.add_multiple.new.sums in
     let zs = c.add_multiple-2.new.sums in

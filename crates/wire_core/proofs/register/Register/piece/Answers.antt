@@ -8,4 +8,4 @@ pub returns : goal.returns
 unfolding Holds
 returns c tag pieces holds =
     let fed = c.update-2.ensures _ (c.update.ensures (hashed tag pieces) holds) in
-    rw (hashed-push tag pieces c.args.b.now) (rw (c.to_be_bytes.ensures, append_assoc) at fed)
+    rw (hashed-push tag pieces c.args.b.now) (rw (c.length_bytes.ensures, append_assoc) at fed)
