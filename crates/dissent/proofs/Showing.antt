@@ -12,8 +12,8 @@ use Rattle.group_roster.specs.Roster.{Roster}
 use Rattle.signed_post.specs.declared.post.PostRefusal.TheVariants.{Memory, Body as BodyFault}
 use Rattle.group_roster.specs.Roster.{shape_of_roster}
 use Rattle.phase_message.specs.declared.post.Post.{Post}
-use Rattle.signed_post.specs.Frame.{framed}
-use Rattle.signed_post.specs.Admission.{admit, Admitted, checked, IsPostFile}
+use Rattle.signed_post.specs.Frame.{frame_of}
+use Rattle.signed_post.specs.Admission.{admission_of, Admitted, check_of, IsPostFile}
 use Rattle.signed_post.proofs.Admits.{admits_exactly}
 use Rattle.signed_post.proofs.Frames.{framed-found, framed-bytes}
 
@@ -21,11 +21,11 @@ use Rattle.signed_post.proofs.Frames.{framed-found, framed-bytes}
 abbrev header_ok : Header → Result Header Short
 header_ok header = Ok header
 
-checked-found : (roster : Roster) (round : ℕ) (post : Post) (content : Content) → IsBytes post.signature → checked roster round post ≡ Ok content
+checked-found : (roster : Roster) (round : ℕ) (post : Post) (content : Content) → IsBytes post.signature → check_of roster round post ≡ Ok content
     → Admitted roster round post content.header × (content_read (shape_of_roster roster) post.content ≡ Ok content)
-unfolding checked
+unfolding check_of
 checked-found roster round post content bytes e =
-    let a = bind_ok (admit roster round post) (λ header. fault_as (λ (o : Offence). BodyFault o.at o.rule) (content_read (shape_of_roster roster) post.content)) content e in
+    let a = bind_ok (admission_of roster round post) (λ header. fault_as (λ (o : Offence). BodyFault o.at o.rule) (content_read (shape_of_roster roster) post.content)) content e in
     let reads = fault_as_ok (λ (o : Offence). BodyFault o.at o.rule) (content_read (shape_of_roster roster) post.content) content a.2 in
     let admitted = (admits_exactly roster round post a.0 bytes).0 a.1 in
     let both : header_ok a.0 ≡ header_ok content.header = sym admitted.reads ∙ content-header (shape_of_roster roster) post.content content reads in
@@ -34,7 +34,7 @@ checked-found roster round post content bytes e =
 
 -- a file whose post passes
 pub file-passes : (roster : Roster) (round : ℕ) (bytes : List ℕ) (post : Post) (content : Content) (X : Type 0) → IsBytes bytes
-    → framed bytes ≡ Ok post → (Ok content ≡ checked roster round post) ⊎ ((Ok content ≡ Err Memory) × X)
+    → frame_of bytes ≡ Ok post → (Ok content ≡ check_of roster round post) ⊎ ((Ok content ≡ Err Memory) × X)
     → IsPostFile roster round bytes content
 file-passes roster round bytes post content X fits frame (inl e) =
     let found = checked-found roster round post content (framed-bytes bytes post fits frame) (sym e) in

@@ -9,8 +9,8 @@ use Rattle.group_roster.specs.Roster.{Roster}
 use Rattle.signed_post.specs.declared.post.PostRefusal.{PostRefusal}
 use Rattle.signed_post.specs.declared.post.PostRefusal.TheVariants.{Frame, Memory}
 use Rattle.transcript_form.specs.Refusals.{Failure}
-use Rattle.signed_post.specs.Frame.{framed}
-use Rattle.signed_post.specs.Admission.{checked, refusal_number, refusal_place}
+use Rattle.signed_post.specs.Frame.{frame_of}
+use Rattle.signed_post.specs.Admission.{check_of, refusal_number, refusal_place}
 use Rattle.dissent.specs.Status.{line_of}
 
 -- ---- the check of a file
@@ -22,7 +22,7 @@ failed_check refusal = record { check = refusal_number refusal; post = 1; at = r
 -- the content of the post that bytes spell for a round, or the first check that refuses them
 unfoldable pub file_checked : ℕ → Roster → List ℕ → Result Content Failure
 file_checked round roster bytes =
-    fault_as failed_check (fault_as (λ at. Frame at) (framed bytes) >>= λ post. checked roster round post)
+    fault_as failed_check (fault_as (λ at. Frame at) (frame_of bytes) >>= λ post. check_of roster round post)
 
 -- which refusals are told; want of memory tells none
 abbrev pub failure_told : PostRefusal → Option Failure

@@ -22,8 +22,8 @@ use Rattle.wire_core.specs.Answers.{fault_unless, value_unless}
 use Rattle.wire_core.proofs.AnswerLemmas.{fault_unless-holds}
 use Rattle.signed_post.specs.declared.post.PostRefusal.{PostRefusal}
 use Rattle.signed_post.specs.declared.post.PostRefusal.TheVariants.{Frame}
-use Rattle.signed_post.specs.Frame.{framed}
-use Rattle.signed_post.specs.Admission.{admit_framed, admit_bytes, Says}
+use Rattle.signed_post.specs.Frame.{frame_of}
+use Rattle.signed_post.specs.Admission.{framed_admission_of, admission_of_bytes, Says}
 use Rattle.signed_post.proofs.Frames.{framed-found, framed-again, framed-bytes}
 use Rattle.signed_post.proofs.Admits.{admit-found, admit-again}
 use Rattle.transcript_form.specs.declared.claim.Claim.{Claim}
@@ -50,19 +50,19 @@ use Rattle.judge_core.proofs.Hearings.{BothHeard, both_heard, two-both, other_co
 abbrev admitted_ok : Header × List ℕ → Result (Header × List ℕ) PostRefusal
 admitted_ok x = Ok x
 
-says-found : (roster : Roster) (round : ℕ) (bytes : List ℕ) (x : Header × List ℕ) → IsBytes bytes → admit_bytes roster round bytes ≡ Ok x → Says roster round bytes x.1 x.0
+says-found : (roster : Roster) (round : ℕ) (bytes : List ℕ) (x : Header × List ℕ) → IsBytes bytes → admission_of_bytes roster round bytes ≡ Ok x → Says roster round bytes x.1 x.0
 says-found roster round bytes x fits e =
-    let a = bind_ok (fault_as (λ at. Frame at) (framed bytes)) _ x e in
-    let b = bind_ok (admit_framed roster round a.0) _ x a.2 in
-    let frame = framed-found bytes a.0 fits (fault_as_ok (λ at. Frame at) (framed bytes) a.0 a.1) in
+    let a = bind_ok (fault_as (λ at. Frame at) (frame_of bytes)) _ x e in
+    let b = bind_ok (framed_admission_of roster round a.0) _ x a.2 in
+    let frame = framed-found bytes a.0 fits (fault_as_ok (λ at. Frame at) (frame_of bytes) a.0 a.1) in
     let same : (b.0, a.0.content) ≡ x = (let e : admitted_ok (b.0, a.0.content) ≡ admitted_ok x = b.2 in cc) in
-    let says : Says roster round bytes a.0.content b.0 = record { signature = a.0.signature; spelled = frame.1; admitted = admit-found roster round a.0 b.0 frame.0 (framed-bytes bytes a.0 fits (fault_as_ok (λ at. Frame at) (framed bytes) a.0 a.1)) b.1 } in
+    let says : Says roster round bytes a.0.content b.0 = record { signature = a.0.signature; spelled = frame.1; admitted = admit-found roster round a.0 b.0 frame.0 (framed-bytes bytes a.0 fits (fault_as_ok (λ at. Frame at) (frame_of bytes) a.0 a.1)) b.1 } in
     subst (λ (x : Header × List ℕ). Says roster round bytes x.1 x.0) same says
 
-says-again : (roster : Roster) (round : ℕ) (bytes content : List ℕ) (header : Header) → Says roster round bytes content header → admit_bytes roster round bytes ≡ Ok (header, content)
+says-again : (roster : Roster) (round : ℕ) (bytes content : List ℕ) (header : Header) → Says roster round bytes content header → admission_of_bytes roster round bytes ≡ Ok (header, content)
 says-again roster round bytes content header says =
     let post : Post = record { content = content; signature = says.signature } in
-    let frame : framed bytes ≡ Ok post = ap framed says.spelled ∙ framed-again post says.admitted.frame in
+    let frame : frame_of bytes ≡ Ok post = ap frame_of says.spelled ∙ framed-again post says.admitted.frame in
     rw (frame, admit-again roster round post header says.admitted) refl
 
 -- a post that is heard says what is heard, and the claim asks for it
@@ -70,10 +70,10 @@ heard-found : (case : Case) (first : Option Header) (number : ℕ) (bytes : List
     → Says case.roster case.round bytes x.content x.header × (is_asked case.claim case.accused first x.header ≡ true)
 unfolding heard_of
 heard-found case first number bytes x fits e =
-    let a = bind_ok (fault_as (λ refusal. RefusedPost number refusal) (admit_bytes case.roster case.round bytes)) _ x e in
+    let a = bind_ok (fault_as (λ refusal. RefusedPost number refusal) (admission_of_bytes case.roster case.round bytes)) _ x e in
     let said : Said = record { header = a.0.0; content = a.0.1 } in
     let asked = guard_ok (not (is_asked case.claim case.accused first a.0.0)) (Slot number a.0.0.stage) said x a.2 in
-    let says = says-found case.roster case.round bytes a.0 fits (fault_as_ok (λ refusal. RefusedPost number refusal) (admit_bytes case.roster case.round bytes) a.0 a.1) in
+    let says = says-found case.roster case.round bytes a.0 fits (fault_as_ok (λ refusal. RefusedPost number refusal) (admission_of_bytes case.roster case.round bytes) a.0 a.1) in
     subst (λ (x : Said). Says case.roster case.round bytes x.content x.header × (is_asked case.claim case.accused first x.header ≡ true)) asked.1
     (says, not-false (is_asked case.claim case.accused first a.0.0) asked.0)
 

@@ -9,7 +9,7 @@ use Rattle.group_roster.specs.Given.{roster_of}
 use Rattle.group_roster.specs.Roster.{Roster}
 use Rattle.wire_core.specs.Answers.{fault_unless, value_unless}
 use Rattle.group_roster.specs.Roster.{IsRosterForm, shape_of_roster}
-use Rattle.signed_post.specs.Admission.{admit_bytes}
+use Rattle.signed_post.specs.Admission.{admission_of_bytes}
 use Rattle.transcript_form.specs.declared.claim.Claim.{Claim}
 use Rattle.transcript_form.specs.declared.claim.Claim.TheVariants.{Equivocation, Malformed}
 use Rattle.transcript_form.specs.declared.refusal.FailedForm.TheVariants.{Form as WrongForm}
@@ -72,7 +72,7 @@ is_asked claim accused first header = header.sender == accused
 -- what is heard of a listed post, by its number from 1: it passes check 4 and check 5
 unfoldable pub heard_of : Case → Option Header → ℕ → List ℕ → Result Said FailedCheck
 heard_of case first number bytes = do
-  post ← fault_as (λ refusal. Post number refusal) (admit_bytes case.roster case.round bytes)
+  post ← fault_as (λ refusal. Post number refusal) (admission_of_bytes case.roster case.round bytes)
   unless (not (is_asked case.claim case.accused first post.0)) (Slot number post.0.stage) (record { header = post.0; content = post.1 })
 
 -- what is heard of the listed posts, one after the other, from the one of this number on

@@ -23,11 +23,11 @@ use Rattle.signed_post.specs.declared.post.PostRefusal.TheVariants.{Frame, Versi
 use Rattle.wire_core.specs.Answers.{fault_unless, value_unless}
 use Rattle.group_roster.specs.Roster.{roster_id, key_of, shape_of_roster}
 use Rattle.signed_post.specs.Frame.{FitsFrame, fits_frame}
-use Rattle.signed_post.specs.Admission.{invalid, signature_refusal, header_refusal, admit_framed, Admitted, AdmitsExactly}
+use Rattle.signed_post.specs.Admission.{validity_refusal, signature_refusal, header_refusal, framed_admission_of, Admitted, AdmitsExactly}
 use Rattle.wire_core.proofs.AnswerLemmas.{fault_unless-true, value_unless-ok, fault_unless-holds}
 use Rattle.std.proofs.lemmas.Bool.{and_parts}
 
-passed : (r : Result (Unit {0}) LmsRefusal) → invalid r ≡ None → r ≡ Ok tt
+passed : (r : Result (Unit {0}) LmsRefusal) → validity_refusal r ≡ None → r ≡ Ok tt
 passed (Ok u) e = refl
 passed (Err refusal) e = absurd cc
 
@@ -38,11 +38,11 @@ signed sender (Some key) post fits e =
 
 unrefused : (sender : ℕ) (o : Option LmsPublic) (post : Post) (key : LmsPublic) → o ≡ Some key → LmsValid key post.content post.signature → signature_refusal sender o post ≡ None
 unrefused sender o post key o-is valid =
-    ap (λ (o : Option LmsPublic). signature_refusal sender o post) o-is ∙ ap invalid (passed_if_valid key post.content post.signature valid)
+    ap (λ (o : Option LmsPublic). signature_refusal sender o post) o-is ∙ ap validity_refusal (passed_if_valid key post.content post.signature valid)
 
 -- a post in the frame that is not refused is admitted,
-pub admit-found : (roster : Roster) (round : ℕ) (post : Post) (header : Header) → FitsFrame post → IsBytes post.signature → admit_framed roster round post ≡ Ok header → Admitted roster round post header
-unfolding admit_framed
+pub admit-found : (roster : Roster) (round : ℕ) (post : Post) (header : Header) → FitsFrame post → IsBytes post.signature → framed_admission_of roster round post ≡ Ok header → Admitted roster round post header
+unfolding framed_admission_of
 admit-found roster round post header fits bytes e =
     let b = bind_ok (fault_as (λ (short : Short). Frame 0) (header_of post.content)) (λ header. value_unless (header_refusal roster round post header) header) header e in
     let parts = value_unless-ok (header_refusal roster round post b.0) b.0 header b.2 in
@@ -76,8 +76,8 @@ admit-found roster round post header fits bytes e =
         }
 
 -- and what is admitted is not refused
-pub admit-again : (roster : Roster) (round : ℕ) (post : Post) (header : Header) → Admitted roster round post header → admit_framed roster round post ≡ Ok header
-unfolding admit_framed
+pub admit-again : (roster : Roster) (round : ℕ) (post : Post) (header : Header) → Admitted roster round post header → framed_admission_of roster round post ≡ Ok header
+unfolding framed_admission_of
 admit-again roster round post h a =
     let n : ℕ = length roster.keys in
     let o1 = fault_unless (h.version == 1) (Version h.version) in
@@ -112,7 +112,7 @@ first_way false x y h never e = absurd (never e)
 pub admits_exactly : AdmitsExactly
 admits_exactly roster round post header bytes = (
   λ ok.
-      let way = first_way (fits_frame post) (admit_framed roster round post) (Err (Frame 0)) header (λ err. absurd cc) ok in
+      let way = first_way (fits_frame post) (framed_admission_of roster round post) (Err (Frame 0)) header (λ err. absurd cc) ok in
       admit-found roster round post header (fits-test post way.0) bytes way.1,
   λ admitted. rw (test-fits post admitted.frame) (admit-again roster round post header admitted),
 )

@@ -1,2 +1,3 @@
 pub mod Frames
 pub mod Admits
+pub mod Lengths

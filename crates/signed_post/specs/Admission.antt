@@ -17,17 +17,17 @@ use Rattle.group_roster.specs.Roster.{Roster}
 use Rattle.group_roster.specs.Roster.{roster_id, key_of, shape_of_roster}
 use Rattle.signed_post.specs.declared.post.PostRefusal.{PostRefusal}
 use Rattle.signed_post.specs.declared.post.PostRefusal.TheVariants.{Frame, Version, Group, Round, Sender, Stage, Signature, Body, Memory}
-use Rattle.signed_post.specs.Frame.{FitsFrame, fits_frame, framed}
+use Rattle.signed_post.specs.Frame.{FitsFrame, fits_frame, frame_of}
 
 -- the refusal of a signature that is not valid
-abbrev pub invalid : Result (Unit {0}) LmsRefusal → Option PostRefusal
-invalid (Ok valid) = None
-invalid (Err refusal) = Some (Signature refusal)
+abbrev pub validity_refusal : Result (Unit {0}) LmsRefusal → Option PostRefusal
+validity_refusal (Ok valid) = None
+validity_refusal (Err refusal) = Some (Signature refusal)
 
 -- what comes of a signature by the roster's key of the sender
 abbrev pub signature_refusal : ℕ → Option LmsPublic → Post → Option PostRefusal
 signature_refusal sender None post = Some (Sender sender)
-signature_refusal sender (Some key) post = invalid (lms_check key post.content post.signature)
+signature_refusal sender (Some key) post = validity_refusal (lms_check key post.content post.signature)
 
 -- the first refusal of a post with this header: of its version, group, round, sender, stage and
 -- signature
@@ -42,21 +42,21 @@ header_refusal roster round post header = first_some (
     ∷ [])
 
 -- the header of a post in the frame, or its first refusal
-unfoldable pub admit_framed : Roster → ℕ → Post → Result Header PostRefusal
-admit_framed roster round post =
+unfoldable pub framed_admission_of : Roster → ℕ → Post → Result Header PostRefusal
+framed_admission_of roster round post =
     fault_as (λ (short : Short). Frame 0) (header_of post.content)
     >>= λ header. value_unless (header_refusal roster round post header) header
 
 -- the header of a post, or the first of the seven checks that refuses it
-abbrev pub admit : Roster → ℕ → Post → Result Header PostRefusal
-admit roster round post =
-    if fits_frame post then admit_framed roster round post else Err (Frame 0)
+abbrev pub admission_of : Roster → ℕ → Post → Result Header PostRefusal
+admission_of roster round post =
+    if fits_frame post then framed_admission_of roster round post else Err (Frame 0)
 
 -- the header and the content of bytes that are an admitted post, or the first refusal
-abbrev pub admit_bytes : Roster → ℕ → List ℕ → Result (Header × List ℕ) PostRefusal
-admit_bytes roster round bytes = do
-  post ← fault_as (λ at. Frame at) (framed bytes)
-  header ← admit_framed roster round post
+abbrev pub admission_of_bytes : Roster → ℕ → List ℕ → Result (Header × List ℕ) PostRefusal
+admission_of_bytes roster round bytes = do
+  post ← fault_as (λ at. Frame at) (frame_of bytes)
+  header ← framed_admission_of roster round post
   Ok (header, post.content)
 
 -- A post is admitted for a roster and a round: it has a frame, and its header names the version, the
@@ -75,7 +75,7 @@ pub record Admitted (roster : Roster) (round : ℕ) (post : Post) (header : Head
 -- a post is admitted exactly where no check refuses it, with the header that it has
 abbrev pub AdmitsExactly : Type 0
 AdmitsExactly = (roster : Roster) (round : ℕ) (post : Post) (header : Header) → IsBytes post.signature
-    → (admit roster round post ≡ Ok header) ↔ Admitted roster round post header
+    → (admission_of roster round post ≡ Ok header) ↔ Admitted roster round post header
 
 -- bytes are a post of this content, which is admitted for the roster and the round with this header
 pub record Says (roster : Roster) (round : ℕ) (bytes content : List ℕ) (header : Header) : Type 0 where
@@ -91,9 +91,9 @@ pub record IsPostFile (roster : Roster) (round : ℕ) (bytes : List ℕ) (conten
 
 -- the content of an admitted post whose body is in the grammar, or the first of the eight checks that
 -- refuses it
-unfoldable pub checked : Roster → ℕ → Post → Result Content PostRefusal
-checked roster round post = do
-  header ← admit roster round post
+unfoldable pub check_of : Roster → ℕ → Post → Result Content PostRefusal
+check_of roster round post = do
+  header ← admission_of roster round post
   fault_as (λ offence. Body offence.at offence.rule) (content_read (shape_of_roster roster) post.content)
 
 -- ---- what the code holds

@@ -21,15 +21,15 @@ frame_fault bytes = first_some (
     ∷ [])
 
 -- the content and the signature that bytes without a fault spell
-abbrev pub signed_of : List ℕ → Post
-signed_of bytes = record {
+abbrev pub spelled_post : List ℕ → Post
+spelled_post bytes = record {
   content = take (word_at bytes 0) (drop 4 bytes);
   signature = drop (4 + word_at bytes 0) bytes;
 }
 
 -- the post that bytes spell, or their first fault
-unfoldable pub framed : List ℕ → Result Post ℕ
-framed bytes = value_unless (frame_fault bytes) (signed_of bytes)
+unfoldable pub frame_of : List ℕ → Result Post ℕ
+frame_of bytes = value_unless (frame_fault bytes) (spelled_post bytes)
 
 -- a content and a signature that can be sent: they are what some bytes spell
 pub record FitsFrame (post : Post) : Type 0 where
@@ -44,9 +44,9 @@ fits_frame post =
 -- bytes that spell a post in a frame have no fault and are read as it, and others have a fault
 abbrev pub FramedExactly : Type 0
 FramedExactly = (bytes : List ℕ) (post : Post) → IsBytes bytes
-    → (framed bytes ≡ Ok post) ↔ (FitsFrame post × (bytes ≡ post_spelling post))
+    → (frame_of bytes ≡ Ok post) ↔ (FitsFrame post × (bytes ≡ post_spelling post))
 
 -- which refusals a reader answers: the fault of the frame, or that memory is wanting
-abbrev pub frame_told : ReadRefusal → Option ℕ
-frame_told (ReadFrame at) = Some at
-frame_told ReadMemory = None
+abbrev pub fault_of_refusal : ReadRefusal → Option ℕ
+fault_of_refusal (ReadFrame at) = Some at
+fault_of_refusal ReadMemory = None

@@ -1,2 +1,4 @@
 pub mod Frame
 pub mod Admission
+pub mod Lengths
+pub mod Own

@@ -6,6 +6,13 @@ mod post;
 #[cfg(test)]
 mod tests;
 
-pub use laws::{posts_are_admitted, posts_are_framed};
-pub use phase_message::{LEAST_CONTENT, POST_LIMIT, Post};
-pub use post::{Parts, PostRefusal, ReadRefusal, check, check_header, check_parts, read, unframed};
+pub use group_roster::Roster;
+pub use laws::{
+    admitted_posts_are_short, own_posts_are_admitted, posts_are_admitted, posts_are_framed,
+};
+pub use lms_tree::LmsRefusal;
+pub use phase_message::{Content, Header, LEAST_CONTENT, POST_LIMIT, Post};
+pub use post::{
+    LONGEST_SIGNATURE, Parts, PostRefusal, ReadRefusal, check, check_header, check_parts, read,
+    unframed, write,
+};

@@ -3,8 +3,10 @@
 ghost use Rattle.std.specs.Prelude.{◌≡◌, ◌⊎◌, ◌≤◌, ◌<◌, ◌^◌, ◌+◌, length, Some, Ok, Err, IfOk, IfErr, IsOk};
 ghost use Rattle.wire_core.specs.Answers.{Gives};
 ghost use Rattle.group_roster.specs.Given.{roster_of};
-ghost use Rattle.signed_post.specs.Frame.{framed, frame_told};
-ghost use Rattle.signed_post.specs.Admission.{admit, admit_framed, checked, refusal_number, refusal_place};
+ghost use Rattle.phase_message.specs.declared.post.Post.{Post as Spoken};
+ghost use Rattle.phase_message.specs.Post.{post_spelling};
+ghost use Rattle.signed_post.specs.Frame.{FitsFrame, frame_of, fault_of_refusal};
+ghost use Rattle.signed_post.specs.Admission.{admission_of, framed_admission_of, check_of, refusal_number, refusal_place};
 
 use group_roster::Roster;
 use lms_tree::{LmsRefusal, verify};
@@ -13,7 +15,10 @@ use phase_message::{
     read_header,
 };
 use std::alloc::Global;
-use wire_core::{List, word_at};
+use wire_core::{List, Mem, put_bytes, put_u32, word_at};
+
+/// The most bytes of a signature: an LMS signature of a tree of height 25 with LM-OTS of width 1.
+pub const LONGEST_SIGNATURE: usize = 9_324;
 
 /// Why bytes are no post.
 #[derive(Clone, Copy, Debug, PartialEq, Eq)]
@@ -88,7 +93,22 @@ pub struct Parts<'a> {
 /// The post that bytes spell: the content's length in four bytes, the content, and the signature to
 /// the end. `Frame` names the first fault.
 pub fn read(alloc: Global, bytes: &[u8]) -> Result<Post, ReadRefusal>
-    ensures { Gives frame_told (λ post. post) result (framed bytes.now) }
+    // What is read can be sent, and is spelled so.
+    ensures found { IfOk result (λ post. FitsFrame post × (bytes.now ≡ post_spelling post)) }
+    // What can be sent and is spelled so is read, unless memory runs out.
+    ensures only { (post : Spoken) → FitsFrame post → bytes.now ≡ post_spelling post →
+        Gives fault_of_refusal (λ post. post) result (Ok post) }
+    // Which fault it is.
+    ensures exact { Gives fault_of_refusal (λ post. post) result (frame_of bytes.now) }
+    // Memory runs out only where there is none.
+    ensures memory { result ≡ Err ReadRefusal.Memory → IsOk (frame_of bytes.now) }
+{
+    read_post(alloc, bytes)
+}
+
+fn read_post(alloc: Global, bytes: &[u8]) -> Result<Post, ReadRefusal>
+    ensures exact { Gives fault_of_refusal (λ post. post) result (frame_of bytes.now) }
+    ensures memory { result ≡ Err ReadRefusal.Memory → IsOk (frame_of bytes.now) }
 {
     let parts = match unframed(bytes) {
         Ok(parts) => parts,
@@ -106,10 +126,31 @@ pub fn read(alloc: Global, bytes: &[u8]) -> Result<Post, ReadRefusal>
     })
 }
 
+/// The bytes of a post: the content's length in four bytes, the content, and the signature to the end.
+pub fn write(alloc: Global, post: &Post) -> Mem<Vec<u8>>
+    requires { length post.now.content < 2 ^ 32 }
+    ensures text { IfOk result (λ bytes. bytes.items ≡ post_spelling post.now) }
+    // Of a post that can be sent, they are read back.
+    ensures read_back { IfOk result (λ bytes. FitsFrame post.now → frame_of bytes.items ≡ Ok post.now) }
+{
+    written(alloc, post)
+}
+
+fn written(alloc: Global, post: &Post) -> Mem<Vec<u8>>
+    requires { length post.now.content < 2 ^ 32 }
+    ensures { IfOk result (λ bytes. bytes.items ≡ post_spelling post.now) }
+{
+    let mut bytes = Vec::new(alloc);
+    put_u32(&mut bytes, post.content.items().len() as u32)?;
+    put_bytes(&mut bytes, post.content.items())?;
+    put_bytes(&mut bytes, post.signature.items())?;
+    Ok(bytes)
+}
+
 /// The content and the signature of a post where they lie, or the place of the first fault.
-#[tactic(auto, unfolding(crate::specs::Frame::framed))]
+#[tactic(auto, unfolding(crate::specs::Frame::frame_of))]
 pub fn unframed(bytes: &[u8]) -> Result<Parts<'_>, u32>
-    ensures { Gives (λ e. Some e) (λ p. record { content = p.content.now; signature = p.signature.now }) result (framed bytes.now) }
+    ensures { Gives (λ e. Some e) (λ p. record { content = p.content.now; signature = p.signature.now }) result (frame_of bytes.now) }
 {
     if bytes.len() > POST_LIMIT {
         return Err(0);
@@ -133,7 +174,7 @@ pub fn unframed(bytes: &[u8]) -> Result<Parts<'_>, u32>
 /// The header of a post that passes the seven checks before its body, and else the first of them that
 /// refuses it. It takes no memory.
 pub fn check_header(roster: &Roster, round: u64, post: &Post) -> Result<Header, PostRefusal>
-    ensures { result ≡ admit (roster_of roster.now) round post.now }
+    ensures { result ≡ admission_of (roster_of roster.now) round post.now }
 {
     let content = post.content.items().as_slice();
     let signature = post.signature.items().as_slice();
@@ -149,16 +190,16 @@ pub fn check_header(roster: &Roster, round: u64, post: &Post) -> Result<Header, 
 
 /// The content of a post that passes the eight checks, and else the first of them that refuses it: the seven of
 /// `check_header`, and then `Body`. Memory is wanted after the seven alone.
-#[tactic(auto, unfolding(crate::specs::Admission::checked))]
+#[tactic(auto, unfolding(crate::specs::Admission::check_of))]
 pub fn check(
     alloc: Global,
     roster: &Roster,
     round: u64,
     post: &Post,
 ) -> Result<Content, PostRefusal>
-    ensures { (result ≡ checked (roster_of roster.now) round post.now)
+    ensures { (result ≡ check_of (roster_of roster.now) round post.now)
         ⊎ ((result ≡ Err PostRefusal.Memory)
-        × IsOk (admit (roster_of roster.now) round post.now)) }
+        × IsOk (admission_of (roster_of roster.now) round post.now)) }
 {
     let _header = check_header(roster, round, post)?;
     match decode(alloc, roster.shape(), post.content.items()) {
@@ -169,12 +210,12 @@ pub fn check(
 }
 
 /// The same for parts that are framed already.
-#[tactic(auto, unfolding(crate::specs::Admission::admit_framed))]
+#[tactic(auto, unfolding(crate::specs::Admission::framed_admission_of))]
 pub fn check_parts(roster: &Roster, round: u64, parts: Parts<'_>) -> Result<Header, PostRefusal>
     requires least { LEAST_CONTENT ≤ length parts.content.now }
     requires most { length parts.content.now < 2 ^ 32 }
     requires signature { length parts.signature.now < 2 ^ 32 }
-    ensures { result ≡ admit_framed (roster_of roster.now) round (record { content = parts.entry.content.now; signature = parts.entry.signature.now }) }
+    ensures { result ≡ framed_admission_of (roster_of roster.now) round (record { content = parts.entry.content.now; signature = parts.entry.signature.now }) }
 {
     let Ok(header) = read_header(parts.content) else {
         unreachable!()
