@@ -3,12 +3,13 @@ use Rattle.std.proofs.Common.{◌≡◌, ◌≢◌, ◌⊎◌, [], ◌∷◌, in
 use Rattle.std.specs.Prelude.{map, Any, IfSome, IfOk, option_map}
 use Rattle.wire_core.specs.Answers.{◌>>=◌}
 use Rattle.outside.specs.Changes.{Change, Failed}
-use Rattle.dissent.specs.declared.words.Command.TheVariants.{Judge, Show, Keygen}
+use Rattle.dissent.specs.declared.words.Command.TheVariants.{Judge, Show, Keygen, Roster as MakeRoster}
 use Rattle.dissent.specs.Outside.{Held, Shows, IsMissing, Gains}
-use Rattle.dissent.specs.Command.{Request, requested}
-use Rattle.dissent.specs.Outcome.{Input, inputs_of, reads_of, Yields, YieldsOr, YieldsBy, Tells, MayTell, Stood, known_files, Misses, within, or_bad_roster, or_refused, judge_outcome, show_outcome, keygen_outcome, outcome_of, accepted_line}
+use Rattle.dissent.specs.Command.{Request, written_name, requested}
+use Rattle.dissent.specs.Outcome.{Input, inputs_of, reads_of, Yields, YieldsOr, YieldsBy, Tells, MayTell, Stood, known_files, Misses, within, or_bad_roster, or_refused, judge_outcome, show_outcome, keygen_outcome, outcome_of, roster_outcome, TellsFiles, accepted_line, id_line}
+use Rattle.group_roster.specs.Toml.{toml_read}
 use Rattle.dissent.specs.Delivery.{Delivers, status_of, text_of}
-use Rattle.dissent.specs.Promise.{Asked, request_in, MakesKey, AnswersRequest, Answers, expected_of, expected_in, FaultOf, IsStatusOf, IsWhole, FilesConvict, FilesShow, IsMade, BearsOutRequest, BearsOut, OnOutput, PrintsOutput, IsAnswered, IsPrinted}
+use Rattle.dissent.specs.Promise.{IsRosterRun, FilesKept, IsUntouched, Asked, request_in, MakesKey, AnswersRequest, Answers, expected_of, expected_in, FaultOf, IsStatusOf, IsWhole, FilesConvict, FilesShow, IsMade, BearsOutRequest, BearsOut, OnOutput, PrintsOutput, IsAnswered, IsPrinted}
 use Rattle.lm_ots.specs.declared.types.OtsType.{OtsType}
 use Rattle.lms_tree.specs.declared.secrets.MadeHeight.{MadeHeight}
 use Rattle.std.proofs.Common.{◌≤◌, arith, lit<}
@@ -176,30 +177,45 @@ outcome_refused fresh told (Show roster round post) (file ∷ second ∷ []) sta
 outcome_refused fresh told (Show roster round post) [] status P missing long bad refused stood h = absurd stood
 outcome_refused fresh told (Show roster round post) (file ∷ []) status P missing long bad refused stood h = absurd stood.1
 outcome_refused fresh told (Show roster round post) (file ∷ second ∷ third ∷ more) status P missing long bad refused stood h = absurd stood.1.1
+outcome_refused fresh told (MakeRoster toml out) (file ∷ []) status P missing long bad refused (shows, done) h =
+    elim (bind-err (within 65536 file) _ status h) [
+      | inl e ↦ within_cases 65536 file P
+          (λ none. missing (0, record { name = toml; limit = 65536 }, lit< tt, refl, is_missing told toml file none shows)) (long 65536) status e
+      | inr p ↦ elim (bind-err (or_bad_roster (toml_read p.0)) _ status p.1) [
+        | inl e ↦ bad_cases (toml_read p.0) P bad status e
+        | inr q ↦ absurd (let e = q.1 in cc)
+      ]
+    ]
+outcome_refused fresh told (MakeRoster toml out) [] status P missing long bad refused stood h = absurd stood
+outcome_refused fresh told (MakeRoster toml out) (file ∷ second ∷ more) status P missing long bad refused stood h = absurd stood.1
 outcome_refused fresh told (Keygen key height width) [] status P missing long bad refused stood h = absurd cc
 outcome_refused fresh told (Keygen key height width) (file ∷ more) status P missing long bad refused stood h = absurd stood
 
 -- the faults that a command may tell
 fault_told : (request : Request) (files_fault disk_fault : Type 0) (status : Status) (P : Status → Type 0) → (files_fault → P ReadFault)
-    → (disk_fault → P DiskFault) → MayTell request files_fault disk_fault status → P status
-fault_told (Judge roster transcript) files_fault disk_fault status P read disk t = subst P (sym t.0) (read t.1)
-fault_told (Show roster round post) files_fault disk_fault status P read disk t = subst P (sym t.0) (read t.1)
-fault_told (Keygen key height width) files_fault disk_fault status P read disk t = subst P (sym t.0) (disk t.1)
+    → (files_fault × IsSome (written_name (Some request)) → P WriteFault) → (disk_fault → P DiskFault)
+    → MayTell request files_fault disk_fault status → P status
+fault_told (Judge roster transcript) files_fault disk_fault status P read write disk t = subst P (sym t.0) (read t.1)
+fault_told (Show roster round post) files_fault disk_fault status P read write disk t = subst P (sym t.0) (read t.1)
+fault_told (Keygen key height width) files_fault disk_fault status P read write disk t = subst P (sym t.0) (disk t.1)
+fault_told (MakeRoster toml out) files_fault disk_fault status P read write disk (inl e, rose) = subst P (sym e) (read rose)
+fault_told (MakeRoster toml out) files_fault disk_fault status P read write disk (inr e, rose) = subst P (sym e) (write (rose, refl))
 
 -- the statuses that an answer may be
 answer_cases : (fresh : List ℕ) (files : Change (Option Held)) (disk : Change (Option (List ℕ))) (request : Option Request) (status : Status)
     (P : Status → Type 0) → (request ≡ None → P Usage) → P OutOfMemory → (Failed files ⊎ IsSomeAnd request (Misses files.before) → P ReadFault)
-    → (Failed disk → P DiskFault) → ((limit : ℕ) → P (TooLong limit)) → ((at rule : ℕ) → P (BadRoster at rule))
-    → ((check post at : ℕ) → P (Refused check post at)) → AnswersRequest fresh files disk request (Err status) → P status
-answer_cases fresh files disk None status P usage memory read disk_fails long bad refused h =
+    → (Failed files × IsSome (written_name request) → P WriteFault) → (Failed disk → P DiskFault) → ((limit : ℕ) → P (TooLong limit))
+    → ((at rule : ℕ) → P (BadRoster at rule)) → ((check post at : ℕ) → P (Refused check post at))
+    → AnswersRequest fresh files disk request (Err status) → P status
+answer_cases fresh files disk None status P usage memory read write disk_fails long bad refused h =
     let e : Usage ≡ status = cc in subst P e (usage refl)
-answer_cases fresh files disk (Some request) status P usage memory read disk_fails long bad refused (contents, stood, inl e) =
+answer_cases fresh files disk (Some request) status P usage memory read write disk_fails long bad refused (contents, stood, inl e) =
     outcome_refused fresh files.before request contents status P (λ missing. read (inr missing)) long bad refused stood (sym e)
-answer_cases fresh files disk (Some request) status P usage memory read disk_fails long bad refused (contents, stood, inr (inl e)) =
+answer_cases fresh files disk (Some request) status P usage memory read write disk_fails long bad refused (contents, stood, inr (inl e)) =
     let e' : OutOfMemory ≡ status = cc in subst P e' memory
-answer_cases fresh files disk (Some request) status P usage memory read disk_fails long bad refused (contents, stood, inr (inr (failed, e, t))) =
+answer_cases fresh files disk (Some request) status P usage memory read write disk_fails long bad refused (contents, stood, inr (inr (failed, e, t))) =
     let e' : failed ≡ status = cc in
-    subst P e' (fault_told request (Failed files) (Failed disk) failed P (λ rose. read (inl rose)) disk_fails t)
+    subst P e' (fault_told request (Failed files) (Failed disk) failed P (λ rose. read (inl rose)) write disk_fails t)
 
 -- the answer that is printed whole, under its status
 answer_at : (asked : Asked) (files : Change (Option Held)) (disk : Change (Option (List ℕ))) (answer : Result (List ℕ) Status) (status : Status)
@@ -232,7 +248,7 @@ module _ (asked : Asked) (files : Change (Option Held)) (disk sink : Change (Opt
           (yields_known asked.fresh files disk (request_in asked) answer expected answered.answers e) printed.delivers
 
   -- a status other than Done that was printed whole, or that another cause has
-  by_status : (P : Status → Type 0) → P OutOfMemory → (Failed sink → P WriteFault) → P Done → (request_in asked ≡ None → P Usage)
+  by_status : (P : Status → Type 0) → P OutOfMemory → (Failed sink ⊎ (Failed files × IsSome (written_name (request_in asked))) → P WriteFault) → P Done → (request_in asked ≡ None → P Usage)
       → (Failed files ⊎ IsSomeAnd (request_in asked) (Misses files.before) → P ReadFault) → (Failed disk → P DiskFault)
       → ((limit : ℕ) → P (TooLong limit)) → ((at rule : ℕ) → P (BadRoster at rule)) → ((check post at : ℕ) → P (Refused check post at))
       → P status
@@ -241,11 +257,11 @@ module _ (asked : Asked) (files : Change (Option Held)) (disk sink : Change (Opt
       by_answer : (a : Result (List ℕ) Status) → Answers asked files disk a → P (status_of a)
       by_answer (Ok output) h = done
       by_answer (Err refusal) h =
-          answer_cases asked.fresh files disk (request_in asked) refusal P usage memory read disk_fails long bad refused h
+          answer_cases asked.fresh files disk (request_in asked) refusal P usage memory read (λ w. write (inr w)) disk_fails long bad refused h
 
       by_delivery : Delivers sink answer status → P status
       by_delivery (gained, gains, inl all) = subst P (sym all.0) (by_answer answer answered.answers)
-      by_delivery (gained, gains, inr (inl unwritten)) = subst P (sym unwritten.0) (write unwritten.1)
+      by_delivery (gained, gains, inr (inl unwritten)) = subst P (sym unwritten.0) (write (inl unwritten.1))
       by_delivery (gained, gains, inr (inr gone)) = subst P (sym gone.0) memory
 
   pub usage : status ≡ Usage → request_in asked ≡ None
@@ -261,9 +277,17 @@ module _ (asked : Asked) (files : Change (Option Held)) (disk sink : Change (Opt
   disk_fault = by_status (λ s. s ≡ DiskFault → Failed disk) (λ e. absurd cc) (λ _ e. absurd cc) (λ e. absurd cc) (λ _ e. absurd cc)
       (λ _ e. absurd cc) (λ rose _. rose) (λ _ e. absurd cc) (λ _ _ e. absurd cc) (λ _ _ _ e. absurd cc)
 
-  pub write_fault : status ≡ WriteFault → Failed sink
-  write_fault = by_status (λ s. s ≡ WriteFault → Failed sink) (λ e. absurd cc) (λ rose _. rose) (λ e. absurd cc) (λ _ e. absurd cc)
+  pub write_fault : status ≡ WriteFault → Failed sink ⊎ (Failed files × IsSome (written_name (request_in asked)))
+  write_fault = by_status (λ s. s ≡ WriteFault → Failed sink ⊎ (Failed files × IsSome (written_name (request_in asked)))) (λ e. absurd cc) (λ rose _. rose) (λ e. absurd cc) (λ _ e. absurd cc)
       (λ _ e. absurd cc) (λ _ e. absurd cc) (λ _ e. absurd cc) (λ _ _ e. absurd cc) (λ _ _ _ e. absurd cc)
+
+  pub untouched : IsUntouched files status
+  untouched = by_delivery printed.delivers
+    where
+      by_delivery : Delivers sink answer status → IsUntouched files status
+      by_delivery (gained, gains, inl all) = subst (IsUntouched files) (sym all.0) answered.untouched
+      by_delivery (gained, gains, inr (inl unwritten)) = λ _ other _. absurd (other unwritten.0)
+      by_delivery (gained, gains, inr (inr gone)) = λ _ _ other. absurd (other gone.0)
 
   pub borne_out : status ≡ Done → PrintsOutput (BearsOut asked files disk) sink
   borne_out e = by_delivery printed.delivers
@@ -290,15 +314,17 @@ widened failed fault expected answer (inr (inr t)) = inr (inr (failed, t.0, (ref
 -- a request of files alone that was answered
 over_files : (asked : Asked) (files : Change (Option Held)) (disk : Change (Option (List ℕ))) (request : Option Request)
     (answer : Result (List ℕ) Status) → request_in asked ≡ request → AnswersRequest asked.fresh files disk request answer
-    → OnOutput (BearsOutRequest asked.fresh files.before disk.now request) answer → files.now ≡ files.before
-    → files.faults_before ≤ files.faults_now → disk.now ≡ disk.before → disk.faults_now ≡ disk.faults_before
-    → IsAnswered asked files disk answer
-over_files asked files disk request answer e answers bears kept count disk_kept disk_count =
+    → OnOutput (BearsOutRequest asked.fresh files disk request) answer → FilesKept files (written_name request)
+    → IsUntouched files (status_of answer) → files.faults_before ≤ files.faults_now
+    → disk.now ≡ disk.before → disk.faults_now ≡ disk.faults_before → IsAnswered asked files disk answer
+over_files asked files disk request answer e answers bears kept untouched count disk_kept disk_count =
     let At : Option Request → Type 0 = λ r. AnswersRequest asked.fresh files disk r answer in
-    let Borne : Option Request → Type 0 = λ r. OnOutput (BearsOutRequest asked.fresh files.before disk.now r) answer in record {
+    let Kept : Option Request → Type 0 = λ r. FilesKept files (written_name r) in
+    let Borne : Option Request → Type 0 = λ r. OnOutput (BearsOutRequest asked.fresh files disk r) answer in record {
       answers = subst At (sym e) answers;
       borne_out = subst Borne (sym e) bears;
-      files_kept = kept;
+      files_kept = subst Kept (sym e) kept;
+      untouched = untouched;
       files_count = count;
       disk_kept = λ _. (disk_kept, disk_count);
       disk_count = omega (arith, disk_count);
@@ -308,7 +334,7 @@ pub usage_answered : (asked : Asked) (files : Change (Option Held)) (disk : Chan
     → files.now ≡ files.before → files.faults_now ≡ files.faults_before → disk.now ≡ disk.before → disk.faults_now ≡ disk.faults_before
     → IsAnswered asked files disk (Err Usage)
 usage_answered asked files disk e kept count disk_kept disk_count =
-    over_files asked files disk None (Err Usage) e refl (λ f. absurd cc) kept (omega (arith, count)) disk_kept disk_count
+    over_files asked files disk None (Err Usage) e refl (λ f. absurd cc) kept (λ _ _ _. kept) (omega (arith, count)) disk_kept disk_count
 
 pub judge_answered : (asked : Asked) (files : Change (Option Held)) (disk : Change (Option (List ℕ))) (roster transcript : List ℕ)
     (answer : Result (List ℕ) Status) → request_in asked ≡ Some (Judge roster transcript)
@@ -320,7 +346,7 @@ pub judge_answered : (asked : Asked) (files : Change (Option Held)) (disk : Chan
 judge_answered asked files disk roster transcript answer e (file, second, shows, shows', y) bears kept count disk_kept disk_count =
     over_files asked files disk (Some (Judge roster transcript)) answer e
     (file ∷ second ∷ [], (shows, (shows', tt)), widened ReadFault (Failed files) (judge_outcome (within 4096 file) (within 134217728 second)) answer y)
-    bears kept count disk_kept disk_count
+    bears kept (λ _ _ _. kept) count disk_kept disk_count
 
 pub show_answered : (asked : Asked) (files : Change (Option Held)) (disk : Change (Option (List ℕ))) (roster : List ℕ) (round : ℕ) (post : List ℕ)
     (answer : Result (List ℕ) Status) → request_in asked ≡ Some (Show roster round post)
@@ -332,7 +358,14 @@ pub show_answered : (asked : Asked) (files : Change (Option Held)) (disk : Chang
 show_answered asked files disk roster round post answer e (file, second, shows, shows', y) bears kept count disk_kept disk_count =
     over_files asked files disk (Some (Show roster round post)) answer e
     (file ∷ second ∷ [], (shows, (shows', tt)), widened ReadFault (Failed files) (show_outcome round (within 4096 file) (within 16777216 second)) answer y)
-    bears kept count disk_kept disk_count
+    bears kept (λ _ _ _. kept) count disk_kept disk_count
+
+pub roster_answered : (asked : Asked) (files : Change (Option Held)) (disk : Change (Option (List ℕ))) (toml out : List ℕ)
+    (answer : Result (List ℕ) Status) → request_in asked ≡ Some (MakeRoster toml out) → IsRosterRun files toml out answer
+    → disk.now ≡ disk.before → disk.faults_now ≡ disk.faults_before → IsAnswered asked files disk answer
+roster_answered asked files disk toml out answer e ran disk_kept disk_count =
+    over_files asked files disk (Some (MakeRoster toml out)) answer e
+    (ran.answers.0 ∷ [], (ran.answers.1, tt), ran.answers.2) ran.borne_out ran.others ran.untouched ran.count disk_kept disk_count
 
 pub keygen_answered : (asked : Asked) (files : Change (Option Held)) (disk : Change (Option (List ℕ))) (key : List ℕ) (height : MadeHeight) (width : OtsType)
     (answer : Result (List ℕ) Status) → request_in asked ≡ Some (Keygen key height width)
@@ -342,11 +375,13 @@ pub keygen_answered : (asked : Asked) (files : Change (Option Held)) (disk : Cha
 keygen_answered asked files disk key height width answer e y bears disk_count kept count =
     let request = Some (Keygen key height width) in
     let At : Option Request → Type 0 = λ r. AnswersRequest asked.fresh files disk r answer in
-    let Borne : Option Request → Type 0 = λ r. OnOutput (BearsOutRequest asked.fresh files.before disk.now r) answer in
+    let Borne : Option Request → Type 0 = λ r. OnOutput (BearsOutRequest asked.fresh files disk r) answer in
+    let Others : Option Request → Type 0 = λ r. FilesKept files (written_name r) in
     let Kept : Option Request → Type 0 = λ r. ¬ MakesKey r → (disk.now ≡ disk.before) × (disk.faults_now ≡ disk.faults_before) in record {
       answers = subst At (sym e) ([], tt, widened DiskFault (Failed disk) (keygen_outcome asked.fresh height width) answer y);
       borne_out = subst Borne (sym e) bears;
-      files_kept = kept;
+      files_kept = subst Others (sym e) kept;
+      untouched = λ _ _ _. kept;
       files_count = omega (arith, count);
       disk_kept = subst Kept (sym e) (λ other. absurd (other refl));
       disk_count = disk_count;

@@ -8,7 +8,7 @@ use Rattle.lm_ots.specs.declared.types.OtsType.TheVariants.{W1, W2, W4, W8}
 use Rattle.lms_tree.specs.declared.secrets.MadeHeight.{MadeHeight}
 use Rattle.lms_tree.specs.declared.secrets.MadeHeight.TheVariants.{H5, H10}
 use Rattle.dissent.specs.declared.words.Command.{Command}
-use Rattle.dissent.specs.declared.words.Command.TheVariants.{Judge, Show, Keygen}
+use Rattle.dissent.specs.declared.words.Command.TheVariants.{Judge, Show, Keygen, Roster}
 
 -- a command with its names as bytes
 abbrev pub Request : Type 0
@@ -19,11 +19,17 @@ abbrev pub request_of : {N : Type 0} → Command N → (N → List ℕ) → Requ
 request_of (Judge roster transcript) bytes = Judge (bytes roster) (bytes transcript)
 request_of (Show roster round post) bytes = Show (bytes roster) round (bytes post)
 request_of (Keygen key height width) bytes = Keygen (bytes key) height width
+request_of (Roster toml out) bytes = Roster (bytes toml) (bytes out)
 
 -- a command makes a key file
 abbrev pub makes_key : Option Request → Bool
 makes_key (Some (Keygen key height width)) = true
 makes_key request = false
+
+-- the name of the file that a command writes, if it writes one
+abbrev pub written_name : Option Request → Option (List ℕ)
+written_name (Some (Roster toml out)) = Some out
+written_name request = None
 
 -- the bytes of each word
 abbrev pub texts : List (String Global) → List (List ℕ)
@@ -49,6 +55,9 @@ show_form = codes "show" ∷ codes "--roster" ∷ codes "--round" ∷ codes "--p
 
 abbrev pub keygen_form : List (List ℕ)
 keygen_form = codes "keygen" ∷ codes "--key" ∷ codes "--height" ∷ codes "--width" ∷ []
+
+abbrev pub roster_form : List (List ℕ)
+roster_form = codes "roster" ∷ codes "--toml" ∷ codes "--out" ∷ []
 
 -- whether words are those of a form, each at its place
 abbrev pub has_form : List (List ℕ) → List (List ℕ) → Bool
@@ -78,10 +87,14 @@ abbrev pub keygen_values : List ℕ → List ℕ → List ℕ → Option Request
 keygen_values key height width =
     if is_value key then option_and_then (λ h. option_map (λ w. Keygen key h w) (width_of width)) (height_of height) else None
 
+abbrev pub roster_values : List ℕ → List ℕ → Option Request
+roster_values toml out = if is_value toml && is_value out then Some (Roster toml out) else None
+
 -- what the words ask for: they are exactly those of a command's form, each option with its value behind it
 abbrev pub requested : List (List ℕ) → Option Request
 requested (command ∷ first_option ∷ first ∷ second_option ∷ second ∷ []) =
-    if has_form (command ∷ first_option ∷ second_option ∷ []) judge_form then judge_values first second else None
+    if has_form (command ∷ first_option ∷ second_option ∷ []) judge_form then judge_values first second else
+    (if has_form (command ∷ first_option ∷ second_option ∷ []) roster_form then roster_values first second else None)
 requested (command ∷ first_option ∷ first ∷ second_option ∷ second ∷ third_option ∷ third ∷ []) =
     if has_form (command ∷ first_option ∷ second_option ∷ third_option ∷ []) show_form then show_values first second third else
     (if has_form (command ∷ first_option ∷ second_option ∷ third_option ∷ []) keygen_form then keygen_values first second third else None)

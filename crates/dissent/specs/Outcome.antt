@@ -2,7 +2,7 @@
 -- three tables: the files that it reads, what it comes to over them, and the faults that it may end with.
 use Rattle.std.specs.Prelude.{◌≡◌, ◌⊎◌, ⊤, ℕ, List, [], ◌∷◌, map, Any, nat_lt, if◌then◌else◌, length, Option, Some, None, Result, Ok, Err, codes, decimal}
 use Rattle.dissent.specs.declared.status.Status.{Status}
-use Rattle.dissent.specs.declared.status.Status.TheVariants.{Usage, Refused, ReadFault, DiskFault, BadRoster, TooLong, OutOfMemory}
+use Rattle.dissent.specs.declared.status.Status.TheVariants.{Usage, Refused, ReadFault, WriteFault, DiskFault, BadRoster, TooLong, OutOfMemory}
 use Rattle.hex.specs.Hex.{encode_lower}
 use Rattle.lm_ots.specs.declared.types.OtsType.{OtsType}
 use Rattle.lms_tree.specs.declared.keys.LmsPublic.{LmsPublic}
@@ -11,11 +11,13 @@ use Rattle.lms_tree.specs.Tree.{key_bytes}
 use Rattle.lms_tree.specs.Secret.{SecretParts, own_public, parts_of_master}
 use Rattle.lms_tree.specs.States.{made_type}
 use Rattle.judge_core.specs.declared.judging.Accepted.{Accepted}
-use Rattle.dissent.specs.declared.words.Command.TheVariants.{Judge, Show, Keygen}
+use Rattle.dissent.specs.declared.words.Command.TheVariants.{Judge, Show, Keygen, Roster}
 use Rattle.dissent.specs.Command.{Request}
 use Rattle.wire_core.specs.Answers.{◌>>=◌}
 use Rattle.dissent.specs.Outside.{Held, Shows, IsMissing}
 use Rattle.group_roster.specs.Binary.{roster_read}
+use Rattle.group_roster.specs.Roster.{Roster as RosterKeys, roster_id}
+use Rattle.group_roster.specs.Toml.{toml_read}
 use Rattle.transcript_form.specs.Refusals.{Failure}
 use Rattle.judge_core.specs.Checks.{printed_judgement_of}
 use Rattle.transcript_form.specs.Claim.{claim_name}
@@ -35,6 +37,7 @@ inputs_of (Judge roster transcript) =
     (record { name = roster; limit = 4096 }) ∷ (record { name = transcript; limit = 134217728 }) ∷ []
 inputs_of (Show roster round post) = (record { name = roster; limit = 4096 }) ∷ (record { name = post; limit = 16777216 }) ∷ []
 inputs_of (Keygen key height width) = []
+inputs_of (Roster toml out) = (record { name = toml; limit = 65536 }) ∷ []
 
 -- a file that is read is there, and has at most this many bytes
 abbrev pub within : ℕ → Option (List ℕ) → Result (List ℕ) Status
@@ -91,11 +94,23 @@ key_line key = line_of (encode_lower (key_bytes key) ∷ [])
 abbrev pub keygen_outcome : List ℕ → MadeHeight → OtsType → Result (List ℕ) Status
 keygen_outcome master height width = Ok (key_line (own_public (made_parts height width master)))
 
+-- the output of `roster`: the roster's id in lower-case hexadecimal digits
+abbrev pub id_line : RosterKeys → List ℕ
+id_line roster = line_of (encode_lower (roster_id roster) ∷ [])
+
+-- `roster`: the file in TOML is read, and stands for a roster
+abbrev pub roster_outcome : Result (List ℕ) Status → Result (List ℕ) Status
+roster_outcome toml_file = do
+  bytes ← toml_file
+  roster ← or_bad_roster (toml_read bytes)
+  Ok (id_line roster)
+
 -- what each command comes to over its files as they were read, in their order; `keygen` takes the fresh bytes
 abbrev pub outcome_over : List ℕ → Request → List (Result (List ℕ) Status) → Result (List ℕ) Status
 outcome_over fresh (Judge roster transcript) (roster_file ∷ transcript_file ∷ []) = judge_outcome roster_file transcript_file
 outcome_over fresh (Show roster round post) (roster_file ∷ post_file ∷ []) = show_outcome round roster_file post_file
 outcome_over fresh (Keygen key height width) [] = keygen_outcome fresh height width
+outcome_over fresh (Roster toml out) (toml_file ∷ []) = roster_outcome toml_file
 outcome_over fresh request files = Err Usage
 
 -- the same over what stood at the names
@@ -108,11 +123,16 @@ outcome_of fresh request files = outcome_over fresh request (reads_of (inputs_of
 abbrev pub Tells : Status → Type 0 → Status → Type 0
 Tells failed fault status = (status ≡ failed) × fault
 
+-- a fault of the files, in a read or in a write
+abbrev pub TellsFiles : Type 0 → Status → Type 0
+TellsFiles fault status = ((status ≡ ReadFault) ⊎ (status ≡ WriteFault)) × fault
+
 -- the faults that each command may end with
 abbrev pub MayTell : Request → (files_fault disk_fault : Type 0) → Status → Type 0
 MayTell (Judge roster transcript) files_fault disk_fault = Tells ReadFault files_fault
 MayTell (Show roster round post) files_fault disk_fault = Tells ReadFault files_fault
 MayTell (Keygen key height width) files_fault disk_fault = Tells DiskFault disk_fault
+MayTell (Roster toml out) files_fault disk_fault = TellsFiles files_fault
 
 -- ---- answers
 

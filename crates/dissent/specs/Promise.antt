@@ -1,16 +1,16 @@
 -- What the top call promises: a sentence each, over what was asked and over what the files, the disk and the sink held
 -- before the call and hold now.
-use Rattle.std.specs.Prelude.{◌≡◌, ◌≢◌, ◌≤◌, ◌⊎◌, IsTrue, ℕ, List, take, Option, None, Some, option_map, Result, Ok, Err, IfSome, IfOk, IsSomeAnd}
+use Rattle.std.specs.Prelude.{◌≡◌, ◌≢◌, ◌≤◌, ◌⊎◌, IsTrue, ℕ, List, take, Option, None, Some, option_map, Result, Ok, Err, IfSome, IfOk, IsSome, IsSomeAnd}
 use Rattle.outside.specs.Changes.{Change, Failed}
 use Rattle.dissent.specs.declared.status.Status.{Status}
 use Rattle.dissent.specs.declared.status.Status.TheVariants.{Done, Usage, ReadFault, WriteFault, DiskFault, OutOfMemory}
-use Rattle.dissent.specs.declared.words.Command.TheVariants.{Judge, Show, Keygen}
-use Rattle.dissent.specs.Outside.{Held, Shows, Gains}
-use Rattle.dissent.specs.Command.{Request, makes_key, requested}
-use Rattle.dissent.specs.Outcome.{Input, inputs_of, outcome_of, MayTell, YieldsBy, Stood, known_files, Misses, made_parts, key_line, accepted_line}
-use Rattle.group_roster.specs.Roster.{Roster}
+use Rattle.dissent.specs.declared.words.Command.TheVariants.{Judge, Show, Keygen, Roster as MakeRoster}
+use Rattle.dissent.specs.Outside.{Held, Shows, HoldsNow, OthersStay, Gains}
+use Rattle.dissent.specs.Command.{Request, makes_key, written_name, requested}
+use Rattle.dissent.specs.Outcome.{Input, within, inputs_of, roster_outcome, outcome_of, TellsFiles, MayTell, YieldsBy, Stood, known_files, Misses, made_parts, key_line, accepted_line, id_line}
+use Rattle.group_roster.specs.Toml.{toml_read}
 use Rattle.judge_core.specs.declared.judging.Accepted.{Accepted}
-use Rattle.group_roster.specs.Roster.{IsRosterFile, roster_spelling, shape_of_roster}
+use Rattle.group_roster.specs.Roster.{Roster, IsRosterFile, roster_spelling, shape_of_roster}
 use Rattle.judge_core.specs.Accepts.{Accepts}
 use Rattle.judge_core.specs.Framing.{GivesNoGround, ListsSaid}
 use Rattle.phase_message.specs.declared.content.Content.{Content}
@@ -118,16 +118,32 @@ pub record IsMade (height : MadeHeight) (width : OtsType) (master : List ℕ) (t
   pub printed : output ≡ key_line (own_public (made_parts height width master))
   pub holds : IfSome told (λ file. key_read (take 128 file) ≡ Ok (new_content height width master))
 
+-- A file stands for a roster in TOML, and an output is this roster's id. The file of the name `out`, where the files
+-- tell it, now holds the roster's bytes.
+pub record IsWritten (files : Change (Option Held)) (toml_file : Option (List ℕ)) (out output : List ℕ) : Type 0 where
+  pub bytes : List ℕ
+  pub roster : Roster
+  pub toml_is : toml_file ≡ Some bytes
+  pub stands_for : toml_read bytes ≡ Ok roster
+  pub form : IsRosterFile roster
+  pub holds : HoldsNow files.before files.now out (roster_spelling roster)
+  pub printed : output ≡ id_line roster
+
+-- the file of this name stands for the roster that was written
+abbrev pub FilesHold : Change (Option Held) → List ℕ → List ℕ → List ℕ → Type 0
+FilesHold files toml out output = (toml_file : Option (List ℕ)) × Shows files.before toml toml_file × IsWritten files toml_file out output
+
 -- The outside bears an output out: the files that the words name convict whom `judge` names, or hold what `show` tells;
--- or the disk holds the key file that `keygen` makes of the master.
-abbrev pub BearsOutRequest : List ℕ → Option Held → (key_file : Option (List ℕ)) → Option Request → List ℕ → Type 0
-BearsOutRequest fresh told key_file None output = ⊥
-BearsOutRequest fresh told key_file (Some (Judge roster transcript)) output = FilesConvict told roster transcript output
-BearsOutRequest fresh told key_file (Some (Show roster round post)) output = FilesShow told roster round post output
-BearsOutRequest fresh told key_file (Some (Keygen key height width)) output = IsMade height width fresh key_file output
+-- or the disk holds the key file that `keygen` makes of the master; or a file holds the roster that `roster` tells of.
+abbrev pub BearsOutRequest : List ℕ → Change (Option Held) → Change (Option (List ℕ)) → Option Request → List ℕ → Type 0
+BearsOutRequest fresh files disk None output = ⊥
+BearsOutRequest fresh files disk (Some (Judge roster transcript)) output = FilesConvict files.before roster transcript output
+BearsOutRequest fresh files disk (Some (Show roster round post)) output = FilesShow files.before roster round post output
+BearsOutRequest fresh files disk (Some (Keygen key height width)) output = IsMade height width fresh disk.now output
+BearsOutRequest fresh files disk (Some (MakeRoster toml out)) output = FilesHold files toml out output
 
 abbrev pub BearsOut : Asked → Change (Option Held) → Change (Option (List ℕ)) → List ℕ → Type 0
-BearsOut asked files disk output = BearsOutRequest asked.fresh files.before disk.now (request_in asked) output
+BearsOut asked files disk output = BearsOutRequest asked.fresh files disk (request_in asked) output
 
 -- an answer that is an output has P, and one that is a status is not Done
 abbrev pub OnOutput : (List ℕ → Type 0) → Result (List ℕ) Status → Type 0
@@ -138,6 +154,17 @@ OnOutput P (Err status) = status ≢ Done
 abbrev pub PrintsOutput : (List ℕ → Type 0) → Change (Option (List ℕ)) → Type 0
 PrintsOutput P sink = (output : List ℕ) × P output × Gains sink.before sink.now output
 
+-- ---- what stays
+
+-- all files stay, or all but the one of a name
+abbrev pub FilesKept : Change (Option Held) → Option (List ℕ) → Type 0
+FilesKept files None = files.now ≡ files.before
+FilesKept files (Some name) = OthersStay files.before files.now name
+
+-- no file is touched where the status says that no write was come to
+abbrev pub IsUntouched : Change (Option Held) → Status → Type 0
+IsUntouched files status = status ≢ Done → status ≢ WriteFault → status ≢ OutOfMemory → files.now ≡ files.before
+
 -- ---- the promises
 
 -- what came of the words, before it is printed
@@ -145,10 +172,20 @@ pub record IsAnswered (asked : Asked) (files : Change (Option Held)) (disk : Cha
     (answer : Result (List ℕ) Status) : Type 0 where
   pub answers : Answers asked files disk answer
   pub borne_out : OnOutput (BearsOut asked files disk) answer
-  pub files_kept : files.now ≡ files.before
+  pub files_kept : FilesKept files (written_name (request_in asked))
+  pub untouched : IsUntouched files (status_of answer)
   pub files_count : files.faults_before ≤ files.faults_now
   pub disk_kept : ¬ MakesKey (request_in asked) → (disk.now ≡ disk.before) × (disk.faults_now ≡ disk.faults_before)
   pub disk_count : disk.faults_before ≤ disk.faults_now
+
+-- what came of the command `roster` with these names
+pub record IsRosterRun (files : Change (Option Held)) (toml out : List ℕ) (answer : Result (List ℕ) Status) : Type 0 where
+  pub answers : (toml_file : Option (List ℕ)) × Shows files.before toml toml_file
+      × YieldsBy (TellsFiles (Failed files)) (roster_outcome (within 65536 toml_file)) answer
+  pub borne_out : OnOutput (FilesHold files toml out) answer
+  pub others : OthersStay files.before files.now out
+  pub untouched : IsUntouched files (status_of answer)
+  pub count : files.faults_before ≤ files.faults_now
 
 -- how an answer was printed
 pub record IsPrinted (sink : Change (Option (List ℕ))) (answer : Result (List ℕ) Status) (status : Status) : Type 0 where
@@ -164,15 +201,17 @@ pub record IsRun (asked : Asked) (files : Change (Option Held)) (disk sink : Cha
   -- and with no fault the whole output is printed
   pub complete : IfSome (expected_in asked files) (IsWhole (FaultOf files disk (request_in asked)) sink status)
   -- Done comes of `judge` only where the files convict, and nobody is framed by them; of `show` only where the post passes
-  -- the eight checks; and of `keygen` only where the disk has the key file that the fresh bytes make
+  -- the eight checks; of `keygen` only where the disk has the key file that the fresh bytes make; and of `roster` only
+  -- where the file of its name now holds the roster that the file in TOML stands for
   pub borne_out : status ≡ Done → PrintsOutput (BearsOut asked files disk) sink
   -- what each status of words and faults tells
   pub usage : status ≡ Usage → request_in asked ≡ None
   pub read_fault : status ≡ ReadFault → Failed files ⊎ IsSomeAnd (request_in asked) (Misses files.before)
   pub disk_fault : status ≡ DiskFault → Failed disk
-  pub write_fault : status ≡ WriteFault → Failed sink
-  -- what stays: the files, and the disk but in `keygen`; and no count falls
-  pub files_kept : files.now ≡ files.before
+  pub write_fault : status ≡ WriteFault → Failed sink ⊎ (Failed files × IsSome (written_name (request_in asked)))
+  -- what stays: the files but for the one that `roster` writes, the disk but in `keygen`; and no count falls
+  pub files_kept : FilesKept files (written_name (request_in asked))
+  pub untouched : IsUntouched files status
   pub disk_kept : ¬ MakesKey (request_in asked) → (disk.now ≡ disk.before) × (disk.faults_now ≡ disk.faults_before)
   pub files_count : files.faults_before ≤ files.faults_now
   pub disk_count : disk.faults_before ≤ disk.faults_now

@@ -1,5 +1,5 @@
-//! Dissent: the program. It judges the transcripts that convict the disrupters of a round, shows what a post says, and
-//! makes key files.
+//! Dissent: the program. It judges the transcripts that convict the disrupters of a round, shows what a post says, makes
+//! key files, and makes the file of a roster from one in TOML.
 #![tactic(auto)]
 
 #[cfg(test)]
@@ -21,7 +21,7 @@ pub use host_disk::HostDisk;
 pub use interfaces::{FileRead, FileWrite, Files, Sink, SinkAnswer};
 pub use memory::{MemoryFiles, MemorySink};
 use offline::print;
-pub use offline::{POST_FILE_LIMIT, ROSTER_LIMIT, TRANSCRIPT_LIMIT, run_offline};
+pub use offline::{POST_FILE_LIMIT, ROSTER_LIMIT, TOML_LIMIT, TRANSCRIPT_LIMIT, run_offline};
 use rand::TryRng;
 use rand::rngs::SysRng;
 pub use status::Status;

@@ -1,19 +1,20 @@
 //! The commands that use files alone, and the one that makes a key file.
-ghost use Rattle.std.specs.Prelude.{◌≡◌, ◌≢◌, ◌≤◌, Some, IfOk, IfErr, IfSome, IsSomeAnd, length, string_bytes};
+ghost use Rattle.std.specs.Prelude.{◌≡◌, ◌≢◌, ◌⊎◌, ◌≤◌, OnOk, Some, IfOk, IfErr, IfSome, IsSomeAnd, length, string_bytes};
 ghost use Rattle.outside.specs.Faults.{Rose};
 ghost use Rattle.outside.specs.Changes.{change_of};
-ghost use Rattle.dissent.specs.Outside.{Shows, GainsFirstOf};
+ghost use Rattle.group_roster.specs.Given.{roster_of};
+ghost use Rattle.dissent.specs.Outside.{Shows, HoldsNow, OthersStay, GainsFirstOf};
 ghost use Rattle.dissent.specs.Command.{texts};
-ghost use Rattle.dissent.specs.Outcome.{Yields, YieldsOr, within, judge_outcome, show_outcome, keygen_outcome, key_line, accepted_line};
+ghost use Rattle.dissent.specs.Outcome.{Yields, YieldsOr, within, judge_outcome, show_outcome, keygen_outcome, key_line, accepted_line, id_line};
 ghost use Rattle.dissent.specs.Delivery.{DeliversText, answer_bytes, status_of, text_of};
 ghost use Rattle.dissent.specs.Status.{status_line};
-ghost use Rattle.dissent.specs.Promise.{IsAnswered, IsMade, IsPrinted, IsRun, FilesConvict, FilesShow, OnOutput};
+ghost use Rattle.dissent.specs.Promise.{IsAnswered, IsMade, IsPrinted, IsRosterRun, IsRun, FilesConvict, FilesShow, OnOutput};
 
-use crate::interfaces::{FileRead, Files, Sink, SinkAnswer};
+use crate::interfaces::{FileRead, FileWrite, Files, Sink, SinkAnswer};
 use crate::show::{check_file, shown_text};
 use crate::status::Status;
 use crate::words::{Command, read_words};
-use group_roster::{RosterRefusal, decode};
+use group_roster::{Roster, decode, from_toml};
 use judge_core::{Accepted, judge};
 use key_store::{Disk, DiskAnswer, StoreRefusal};
 use lms_tree::{LmsPublic, MadeHeight, OtsType};
@@ -23,6 +24,9 @@ use transcript_form::Refused;
 
 /// The most bytes of a roster file.
 pub const ROSTER_LIMIT: u32 = 4096;
+
+/// The most bytes of a roster in TOML.
+pub const TOML_LIMIT: u32 = 65_536;
 
 /// The most bytes of a transcript.
 pub const TRANSCRIPT_LIMIT: u32 = 134_217_728;
@@ -75,6 +79,7 @@ fn answer_words<F: Files, D: Disk>(
                 post,
             },
         ) => run_show(alloc, roster, round, post, files),
+        Some(Command::Roster { toml, out }) => run_roster(alloc, toml, out, files),
         Some(Command::Keygen { key, height, width }) => {
             run_keygen(alloc, key, height, width, disk, fresh)
         }
@@ -127,6 +132,24 @@ fn run_show<F: Files>(
     Ok(shown_text(alloc, &content)?)
 }
 
+// The command `roster`. Nothing is written before there is memory for all of the answer.
+fn run_roster<F: Files>(
+    alloc: Global,
+    toml: &String,
+    out: &String,
+    files: &mut F,
+) -> Result<Vec<u8>, Status>
+    ensures { IsRosterRun (change_of F.faults F.told files.old files.new) (string_bytes toml.now) (string_bytes out.now)
+        (answer_bytes result) }
+{
+    let bytes = read_within(files, toml, TOML_LIMIT)?;
+    let roster = from_toml(alloc, &bytes)?;
+    let spelled = roster.encode(alloc)?;
+    let text = id_text(alloc, &roster)?;
+    write_whole(files, out, &spelled)?;
+    Ok(text)
+}
+
 // The command `keygen`.
 fn run_keygen<D: Disk>(
     alloc: Global,
@@ -171,6 +194,21 @@ fn read_within<F: Files>(files: &mut F, name: &String, limit: u32) -> Result<Vec
     }
 }
 
+// Writes a file that a command names.
+fn write_whole<F: Files>(files: &mut F, name: &String, bytes: &Vec<u8>) -> Result<(), Status>
+    ensures written { OnOk result (HoldsNow (F.told files.old) (F.told files.new) (string_bytes name.now) bytes.now.items) }
+    ensures failed { IfErr result (λ status. (status ≡ Status.OutOfMemory)
+        ⊎ ((status ≡ Status.WriteFault) × Rose (F.faults files.old) (F.faults files.new))) }
+    ensures others { OthersStay (F.told files.old) (F.told files.new) (string_bytes name.now) }
+    ensures no_fall { F.faults files.old ≤ F.faults files.new }
+{
+    match files.write(name, bytes) {
+        FileWrite::Written => Ok(()),
+        FileWrite::Failed => Err(Status::WriteFault),
+        FileWrite::OutOfMemory => Err(Status::OutOfMemory),
+    }
+}
+
 // The output of `judge`.
 fn accepted_text(alloc: Global, accepted: Accepted) -> Result<Vec<u8>, AllocError>
     ensures { IfOk result (λ text. text.items ≡ accepted_line accepted) }
@@ -178,6 +216,15 @@ fn accepted_text(alloc: Global, accepted: Accepted) -> Result<Vec<u8>, AllocErro
     let accused = accepted.accused;
     let claim = accepted.claim;
     let text = format!(in alloc; "accepted member {accused} claim {claim}\n")?;
+    Ok(text.into_bytes())
+}
+
+// The output of `roster`.
+fn id_text(alloc: Global, roster: &Roster) -> Result<Vec<u8>, AllocError>
+    ensures { IfOk result (λ text. text.items ≡ id_line (roster_of roster.now)) }
+{
+    let digits = hex::encode(alloc, roster.id())?;
+    let text = format!(in alloc; "{digits}\n")?;
     Ok(text.into_bytes())
 }
 

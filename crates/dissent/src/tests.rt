@@ -68,6 +68,8 @@ fn other_words_are_usage(rt: HostRuntime) -> Result<(), Fail> {
             "t",
         ]
         .as_slice(),
+        ["roster", "--toml", "", "--out", "o"].as_slice(),
+        ["roster", "--out", "o", "--toml", "t"].as_slice(),
         ["keygen", "--key", "--height", "5", "--width", "8"].as_slice(),
         ["keygen", "--key", "", "--height", "5", "--width", "8"].as_slice(),
         ["keygen", "--key", "k", "--height", "6", "--width", "8"].as_slice(),
@@ -177,6 +179,64 @@ fn wrong_rosters_have_their_status(rt: HostRuntime) -> Result<(), Fail> {
         let (status, out) = run_words(&rt, alloc, &JUDGE, &mut files)?;
         assert_eq!(rt; status.number(), number);
         assert_eq!(rt; out.written(), line);
+    }
+    Ok(())
+}
+
+// The roster of two in TOML.
+fn toml_of_two(alloc: Global) -> Result<Vec<u8>, AllocError> {
+    let mut text = Vec::from_slice(alloc, b"version = 1\n")?;
+    for digit in [b'1', b'2'] {
+        text.extend_from_slice(b"[[member]]\nkey = \"0000000500000003")?;
+        for _ in 0..48 {
+            text.extend_from_slice(&[b'0', digit])?;
+        }
+        text.extend_from_slice(b"\"\n")?;
+    }
+    Ok(text)
+}
+
+const ROSTER: [&str; 5] = ["roster", "--toml", "t", "--out", "o"];
+
+// The id is the SHA-256 of "DSNT1", the byte 2, the length 118 in four bytes, and the roster, by another program.
+#[test]
+fn a_roster_is_made_from_toml(rt: HostRuntime) -> Result<(), Fail> {
+    let alloc = rt.alloc();
+    let toml = toml_of_two(alloc)?;
+    let mut files = files_of(alloc, Vec::new(alloc), &[("t", &toml)])?;
+    let (status, out) = run_words(&rt, alloc, &ROSTER, &mut files)?;
+    assert_eq!(rt; status, Status::Done);
+    assert_eq!(rt;
+        out.written(),
+        b"17c2500c1e21f6290949ca9ccf3e0206ae311e24b1aa59f31de8dc793543b9ec\n".as_slice()
+    );
+    let name = String::from_str(alloc, "o")?;
+    let roster = roster_of_two(alloc)?;
+    assert_eq!(rt; roster.len(), 118);
+    assert!(rt; matches!(files.read(&name, 118), FileRead::Bytes(read) if read.items() == &roster));
+    Ok(())
+}
+
+#[test]
+fn wrong_toml_and_a_failed_write_have_their_status(rt: HostRuntime) -> Result<(), Fail> {
+    let alloc = rt.alloc();
+    let toml = toml_of_two(alloc)?;
+    let empty = Vec::new(alloc);
+    for (bytes, failing, number, line) in [
+        (
+            &empty,
+            vec![in alloc; 9]?,
+            11,
+            b"bad roster at 0 rule 11\n".as_slice(),
+        ),
+        (&toml, vec![in alloc; 3]?, 6, b"".as_slice()),
+    ] {
+        let mut files = files_of(alloc, failing, &[("t", bytes)])?;
+        let (status, out) = run_words(&rt, alloc, &ROSTER, &mut files)?;
+        assert_eq!(rt; status.number(), number);
+        assert_eq!(rt; out.written(), line);
+        let name = String::from_str(alloc, "o")?;
+        assert!(rt; matches!(files.read(&name, 118), FileRead::Failed));
     }
     Ok(())
 }

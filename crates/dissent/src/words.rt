@@ -1,6 +1,6 @@
 //! The words of a command line.
 ghost use Rattle.std.specs.Prelude.{◌≡◌, None, Some, MatchOption, IsTrue, ◌↔◌, ◌∷◌, [], length, option_map, string_bytes};
-ghost use Rattle.dissent.specs.Command.{requested, makes_key, request_of, texts, is_value, number_of, height_of, width_of, has_form, judge_form, show_form, keygen_form, show_values, keygen_values};
+ghost use Rattle.dissent.specs.Command.{requested, makes_key, request_of, texts, is_value, number_of, height_of, width_of, has_form, judge_form, show_form, keygen_form, roster_form, judge_values, show_values, keygen_values, roster_values};
 
 use lms_tree::{MadeHeight, OtsType};
 
@@ -18,6 +18,11 @@ pub enum Command<N> {
         round: u64,
         post: N,
     },
+    /// Writes the roster that a file in TOML stands for into another file, and tells the roster's id.
+    Roster {
+        toml: N,
+        out: N,
+    },
     /// Makes a key file of a height and a width, and tells the public key.
     Keygen {
         key: N,
@@ -27,7 +32,8 @@ pub enum Command<N> {
 }
 
 /// The command that the words name, where they are exactly those of a command, in order: `judge --roster FILE
-/// --transcript FILE`, `show --roster FILE --round R --post FILE` or `keygen --key FILE --height H --width W`. No FILE
+/// --transcript FILE`, `show --roster FILE --round R --post FILE`, `roster --toml FILE --out FILE` or `keygen --key FILE
+/// --height H --width W`. No FILE
 /// is empty or begins with `-`, R is a number from 1 to 2^64 - 1 in decimal digits, of which the first is not 0, H is
 /// `5` or `10`, and W is `1`, `2`, `4` or `8`.
 #[tactic(auto, using(crate::proofs::Requests::other_count))]
@@ -36,7 +42,7 @@ pub fn read_words(words: &Vec<String>) -> Option<Command<&String>>
         (λ command. requested (texts words.now.items) ≡ Some (request_of command (λ name. string_bytes name.now))) }
 {
     match words.len() {
-        5 => judge_words(words),
+        5 => five_words(words),
         7 => seven_words(words),
         _ => None,
     }
@@ -49,27 +55,19 @@ pub fn is_keygen(words: &Vec<String>) -> bool
     matches!(read_words(words), Some(Command::Keygen { .. }))
 }
 
-// The same for five words, which only `judge` has.
-fn judge_words(words: &Vec<String>) -> Option<Command<&String>>
+// The same for five words, which `judge` and `roster` have.
+fn five_words(words: &Vec<String>) -> Option<Command<&String>>
     requires { length words.now.items ≡ 5 }
     ensures { MatchOption result (requested (texts words.now.items) ≡ None)
         (λ command. requested (texts words.now.items) ≡ Some (request_of command (λ name. string_bytes name.now))) }
 {
-    let [
-        command,
-        roster_option,
-        roster,
-        transcript_option,
-        transcript,
-    ] = words.as_slice()
-    else {
+    let [command, first_option, first, second_option, second] = words.as_slice() else {
         return None;
     };
-    if is_judge_form(command, roster_option, transcript_option)
-        && is_plain(roster)
-        && is_plain(transcript)
-    {
-        Some(Command::Judge { roster, transcript })
+    if is_judge_form(command, first_option, second_option) {
+        judge_words(first, second)
+    } else if is_roster_form(command, first_option, second_option) {
+        roster_words(first, second)
     } else {
         None
     }
@@ -97,6 +95,30 @@ fn seven_words(words: &Vec<String>) -> Option<Command<&String>>
         show_words(first, second, third)
     } else if is_keygen_form(command, first_option, second_option, third_option) {
         keygen_words(first, second, third)
+    } else {
+        None
+    }
+}
+
+// The command `judge` of these values.
+fn judge_words<'a>(roster: &'a String, transcript: &'a String) -> Option<Command<&'a String>>
+    ensures { option_map (λ command. request_of command (λ name. string_bytes name.now)) result
+        ≡ judge_values (string_bytes roster.now) (string_bytes transcript.now) }
+{
+    if is_plain(roster) && is_plain(transcript) {
+        Some(Command::Judge { roster, transcript })
+    } else {
+        None
+    }
+}
+
+// The command `roster` of these values.
+fn roster_words<'a>(toml: &'a String, out: &'a String) -> Option<Command<&'a String>>
+    ensures { option_map (λ command. request_of command (λ name. string_bytes name.now)) result
+        ≡ roster_values (string_bytes toml.now) (string_bytes out.now) }
+{
+    if is_plain(toml) && is_plain(out) {
+        Some(Command::Roster { toml, out })
     } else {
         None
     }
@@ -143,6 +165,16 @@ fn is_judge_form(command: &String, first_option: &String, second_option: &String
     command.as_str() == "judge"
         && first_option.as_str() == "--roster"
         && second_option.as_str() == "--transcript"
+}
+
+// Whether the words that are no values are those of `roster`.
+fn is_roster_form(command: &String, first_option: &String, second_option: &String) -> bool
+    ensures { result ≡ has_form
+        (string_bytes command.now ∷ string_bytes first_option.now ∷ string_bytes second_option.now ∷ []) roster_form }
+{
+    command.as_str() == "roster"
+        && first_option.as_str() == "--toml"
+        && second_option.as_str() == "--out"
 }
 
 // Whether the words that are no values are those of `show`.

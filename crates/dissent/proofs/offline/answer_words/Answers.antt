@@ -1,5 +1,5 @@
 use Rattle.std.proofs.Common.{refl}
-use Rattle.dissent.proofs.Promised.{judge_answered, show_answered, keygen_answered}
+use Rattle.dissent.proofs.Promised.{judge_answered, show_answered, keygen_answered, roster_answered}
 use Rattle.dissent.proofs.offline.answer_words.Goals as goal
 
 pub returns-in-Some-Judge : goal.returns-in-Some-Judge
@@ -16,3 +16,7 @@ pub returns-in-Some-Keygen : goal.returns-in-Some-Keygen
 returns-in-Some-Keygen g c =
     keygen_answered _ _ _ _ _ _ _ (rw c.in-Some-Keygen.field-0-is at c.in-Some-Keygen.ensures) c.run_keygen.ensures.answers
     c.run_keygen.ensures.made c.run_keygen.ensures.no_fall refl refl
+
+pub returns-in-Some-Roster : goal.returns-in-Some-Roster
+returns-in-Some-Roster g c =
+    roster_answered _ _ _ _ _ _ (rw c.in-Some-Roster.field-0-is at c.in-Some-Roster.ensures) c.run_roster.ensures refl refl

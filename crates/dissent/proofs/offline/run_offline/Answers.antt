@@ -1,4 +1,4 @@
-use Rattle.dissent.proofs.Promised.{follows, complete, borne_out, usage, read_fault, disk_fault, write_fault}
+use Rattle.dissent.proofs.Promised.{follows, complete, borne_out, usage, read_fault, disk_fault, write_fault, untouched}
 use Rattle.dissent.proofs.offline.run_offline.Goals as goal
 
 pub returns : goal.returns
@@ -14,6 +14,7 @@ returns g c =
       disk_fault = disk_fault _ _ _ _ _ _ answered printed;
       write_fault = write_fault _ _ _ _ _ _ answered printed;
       files_kept = answered.files_kept;
+      untouched = untouched _ _ _ _ _ _ answered printed;
       disk_kept = answered.disk_kept;
       files_count = answered.files_count;
       disk_count = answered.disk_count;
