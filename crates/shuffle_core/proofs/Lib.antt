@@ -1,4 +1,5 @@
 pub mod Drawn
+pub mod LayerSeeds
 pub mod Opened
 pub mod Submitted
 pub mod Turns

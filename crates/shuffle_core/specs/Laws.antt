@@ -1,13 +1,26 @@
 -- What holds of shuffles.
 use Rattle.std.specs.Prelude.{◌≡◌, ℕ, ◌+◌, ◌*◌, ◌^◌, ◌<◌, List, [], ◌++◌, length, map, true, false, ◌⊎◌, ◌↔◌, Some, Any, AllPairs, Contains, IsPermutation, None, slice_get, slice_index_or}
 use Rattle.std.specs.List.{AllByRecursion, range_with_len}
+use Rattle.wire_core.specs.Hash.{layer_seed}
 use Rattle.ring_encrypt.specs.Capsule.{key_of_seed}
 use Rattle.ring_encrypt.specs.Opening.{IsMessage}
 use Rattle.layer_cipher.specs.declared.sealing.TheConstants.{LAYER_BYTES}
 use Rattle.layer_cipher.specs.Layer.{wrapping_of, opened_through}
 use Rattle.layer_cipher.specs.Stripping.{stripped, IsClosed}
 use Rattle.phase_message.specs.declared.content.Body.TheVariants.{Shuffled, Abort}
-use Rattle.shuffle_core.specs.Shuffle.{submission_of, has_equal, drawn_order, in_drawn_order, turn_of, place_of, opened_item}
+use Rattle.shuffle_core.specs.Shuffle.{layer_seeds_of, submission_of, has_equal, drawn_order, in_drawn_order, turn_of, place_of, opened_item}
+
+-- ---- the seeds of layers
+
+-- a seed for each layer, each of 32 bytes
+abbrev pub SeedsAreMessages : Type 0
+SeedsAreMessages = (opening : List ℕ) (round shuffle side member n : ℕ) →
+    (length (layer_seeds_of opening round shuffle side member n) ≡ n) × AllByRecursion IsMessage (layer_seeds_of opening round shuffle side member n)
+
+-- the first is that of layer 1
+abbrev pub SeedsAreByLayer : Type 0
+SeedsAreByLayer = (opening : List ℕ) (round shuffle side member n place : ℕ) → place < n →
+    slice_index_or (layer_seeds_of opening round shuffle side member n) place [] ≡ layer_seed opening round shuffle side member (place + 1)
 
 -- ---- the drawn order
 

@@ -1,6 +1,12 @@
 //! The laws of shuffles.
 
-ghost use Rattle.shuffle_core.specs.Laws.{DrawnOrderPermutes, EntriesArePermuted, EqualsAreFound, DistinctAreFound, PermutationKeeps, TurnPermutes, TurnSaysBodies, TurnAborts, OpensToWhatIsWrapped, OpensInParts, SubmissionOpens, SubmissionAdds, PlaceIsLeast, PlaceIsFound};
+ghost use Rattle.shuffle_core.specs.Laws.{SeedsAreMessages, SeedsAreByLayer, DrawnOrderPermutes, EntriesArePermuted, EqualsAreFound, DistinctAreFound, PermutationKeeps, TurnPermutes, TurnSaysBodies, TurnAborts, OpensToWhatIsWrapped, OpensInParts, SubmissionOpens, SubmissionAdds, PlaceIsLeast, PlaceIsFound};
+
+/// A member has a seed of 32 bytes for each layer, that of layer 1 first. This function does nothing.
+pub fn seed_laws()
+    ensures messages { SeedsAreMessages }
+    ensures by_layer { SeedsAreByLayer }
+{}
 
 /// The drawn order names each place once, so entries in it are the entries in another order. This
 /// function does nothing.
