@@ -1,4 +1,3 @@
-pub mod First
 pub mod Shape
 pub mod Stages
 pub mod Header

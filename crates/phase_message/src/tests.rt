@@ -2,10 +2,16 @@ ghost use Rattle.std.specs.Prelude.{◌≤◌, IfOk};
 ghost use Rattle.phase_message.specs.Grammar.{OfGrammar};
 
 use super::*;
-use std::alloc::Global;
+use std::alloc::{AllocError, Global};
 use std::test::Fail;
+use wire_core::{put_bytes, put_u8};
 
-// A round of three members, and one of eight.
+// A round of two members, one of three and one of eight.
+const TWO: Shape = Shape {
+    version: 1,
+    members: 2,
+};
+
 const THREE: Shape = Shape {
     version: 1,
     members: 3,
@@ -164,4 +170,80 @@ fn slots_and_lengths(rt: HostRuntime) {
     assert!(rt; length_rule(EIGHT, StageKind::Submit { shuffle: 2 }) == 36_386);
     assert!(rt; length_rule(EIGHT, StageKind::Go { shuffle: 1 }) == 1);
     assert!(rt; length_rule(EIGHT, StageKind::Pad) == 0);
+}
+
+// A content of so many bytes, all 0 but for the version, the stage, the sender and the kind.
+fn plain(
+    alloc: Global,
+    stage: u8,
+    sender: u8,
+    kind: u8,
+    length: usize,
+) -> Result<Vec<u8>, AllocError> {
+    let mut bytes = Vec::new(alloc);
+    put_u8(&mut bytes, 1)?;
+    put_bytes(&mut bytes, &[0; 40])?;
+    put_u8(&mut bytes, stage)?;
+    put_u8(&mut bytes, sender)?;
+    put_bytes(&mut bytes, &[0; 32])?;
+    put_u8(&mut bytes, kind)?;
+    bytes.resize(length, 0)?;
+    Ok(bytes)
+}
+
+// Whether bytes are read as a content of two members, and written as they were.
+fn is_read_and_written(alloc: Global, bytes: &[u8]) -> Result<bool, AllocError> {
+    if bytes.len() > 100_000 {
+        return Ok(false);
+    }
+    match decode(alloc, TWO, bytes) {
+        Ok(content) => Ok(encode(alloc, TWO, &content)?.as_slice() == bytes),
+        Err(_) => Ok(false),
+    }
+}
+
+// Each kind of each stage of two members with the number of its bytes: the keys and the entries have all theirs,
+// posts and pads none. A byte more or less is refused.
+#[test]
+fn contents_of_each_stage(rt: HostRuntime) -> Result<(), Fail> {
+    let alloc = rt.alloc();
+    let kinds = [
+        (0, 1, 1, 9196),
+        (1, 2, 2, 13_744),
+        (2, 1, 3, 22_868),
+        (2, 1, 4, 76),
+        (3, 2, 3, 18_324),
+        (4, 2, 5, 77),
+        (5, 1, 6, 116),
+        (5, 2, 7, 172),
+        (6, 1, 8, 84),
+        (7, 2, 9, 77),
+        (8, 1, 10, 84),
+        (8, 2, 11, 132),
+        (9, 1, 2, 9198),
+        (10, 1, 3, 13_776),
+        (11, 2, 3, 9232),
+        (11, 2, 4, 76),
+        (12, 1, 5, 77),
+        (13, 1, 6, 116),
+        (13, 2, 7, 228),
+    ];
+    for (stage, sender, kind, length) in kinds {
+        let bytes = plain(alloc, stage, sender, kind, length)?;
+        let more = plain(alloc, stage, sender, kind, length.saturating_add(1))?;
+        let less = plain(alloc, stage, sender, kind, length.saturating_sub(1))?;
+        assert!(rt;
+            is_read_and_written(alloc, &bytes)?,
+            "stage {stage} kind {kind}"
+        );
+        assert!(rt;
+            !is_read_and_written(alloc, &more)?,
+            "stage {stage} kind {kind}"
+        );
+        assert!(rt;
+            !is_read_and_written(alloc, &less)?,
+            "stage {stage} kind {kind}"
+        );
+    }
+    Ok(())
 }

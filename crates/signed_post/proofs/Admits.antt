@@ -12,7 +12,7 @@ use Rattle.phase_message.specs.declared.post.TheConstants.{LEAST_CONTENT, POST_L
 use Rattle.phase_message.specs.declared.header.Header.{Header}
 use Rattle.phase_message.specs.Header.{header_of}
 use Rattle.phase_message.specs.Stages.{is_member, is_slot}
-use Rattle.phase_message.proofs.First.{first_some-none, first_some-none_parts}
+use Rattle.wire_core.proofs.AnswerLemmas.{first_some-none, first_some-none_parts}
 use Rattle.lms_tree.specs.declared.keys.LmsPublic.{LmsPublic}
 use Rattle.lms_tree.specs.declared.verifier.LmsRefusal.{LmsRefusal}
 use Rattle.lms_tree.specs.Tree.{LmsValid, lms_check}

@@ -8,7 +8,7 @@ use Rattle.std.proofs.lemmas.Nat.{be_bytes_4, from_be_bytes-to_be_bytes_4}
 use Rattle.phase_message.specs.declared.post.Post.{Post}
 use Rattle.phase_message.specs.declared.post.TheConstants.{LEAST_CONTENT, POST_LIMIT}
 use Rattle.phase_message.specs.Post.{post_spelling}
-use Rattle.phase_message.proofs.First.{first_some-none, first_some-none_parts}
+use Rattle.wire_core.proofs.AnswerLemmas.{first_some-none, first_some-none_parts}
 use Rattle.wire_core.specs.Bytes.{IsBytes}
 use Rattle.wire_core.proofs.ByteLists.{IsBytes-back, IsBytes-take}
 use Rattle.wire_core.specs.Places.{word_at, part}
