@@ -165,5 +165,6 @@ stripped_push seed entries bodies entry m body so_far opens =
     (strips_exactly seed (entries ++ entry ∷ []) (bodies ++ body ∷ [])).1
     (AllZip-push (HasBody seed) entries bodies entry body ((strips_exactly seed entries bodies).0 so_far) (m, opens))
 
-pub stripped_closed : (seed : List ℕ) (entries : List (List ℕ)) (k : ℕ) (entry : List ℕ) → k < length entries → get_or entries k entry ≡ entry → IsClosed seed entry → stripped seed entries ≡ None
+pub stripped_closed : (seed : List ℕ) (entries : List (List ℕ)) (k : ℕ) (entry : List ℕ) → k < length entries
+    → get_or entries k entry ≡ entry → IsClosed seed entry → stripped seed entries ≡ None
 stripped_closed seed entries k entry below is closed = closed_back seed entries k entry below is closed

@@ -26,7 +26,8 @@ through-cons : (seed : List ℕ) (seeds entries : List (List ℕ)) → stripped_
 unfolding stripped_through
 through-cons seed seeds entries = refl
 
-through_way : (seed : List ℕ) (seeds entries bodies : List (List ℕ)) → stripped_through (seed ∷ seeds) entries ≡ Some bodies → Way (stripped_through seeds) (stripped seed entries) bodies
+through_way : (seed : List ℕ) (seeds entries bodies : List (List ℕ)) → stripped_through (seed ∷ seeds) entries ≡ Some bodies
+    → Way (stripped_through seeds) (stripped seed entries) bodies
 through_way seed seeds entries bodies e = way_of (stripped_through seeds) (stripped seed entries) bodies (sym (through-cons seed seeds entries) ∙ e)
 
 same_last : (x y : List (List ℕ) × List ℕ) → Some x ≡ Some y → x.1 ≡ y.1
@@ -56,7 +57,8 @@ last_found m (Some q) ms body e =
     let same : q.1 ≡ body = same_last (m ∷ q.0, q.1) (ms, body) e in
     (q.0, ap (λ (b : List ℕ). Some (q.0, b)) same)
 
-opens_apart : (seed : List ℕ) (seeds : List (List ℕ)) (entry body : List ℕ) → OpensTo (seed ∷ seeds) entry body → (middle : List ℕ) × HasBody seed entry middle × OpensTo seeds middle body
+opens_apart : (seed : List ℕ) (seeds : List (List ℕ)) (entry body : List ℕ) → OpensTo (seed ∷ seeds) entry body
+    → (middle : List ℕ) × HasBody seed entry middle × OpensTo seeds middle body
 unfolding opened_more
 opens_apart seed seeds entry body opens =
     let way = way_of (opened_more seed seeds) (peeled seed entry) (opens.0, body) (sym (opened-cons seed seeds entry) ∙ opens.1) in (
@@ -80,7 +82,8 @@ unsealed_same (entry ∷ entries) (body ∷ bodies) all =
     let same : entry ≡ body = same_last ([], entry) (all.0.0, body) all.0.1 in
     rw (same, unsealed_same entries bodies all.1) refl
 
-joined : (seed : List ℕ) (seeds entries middles bodies : List (List ℕ)) → AllZip (HasBody seed) entries middles → AllZip (OpensTo seeds) middles bodies → AllZip (OpensTo (seed ∷ seeds)) entries bodies
+joined : (seed : List ℕ) (seeds entries middles bodies : List (List ℕ)) → AllZip (HasBody seed) entries middles
+    → AllZip (OpensTo seeds) middles bodies → AllZip (OpensTo (seed ∷ seeds)) entries bodies
 joined seed seeds [] [] [] outer inner = tt
 joined seed seeds [] [] (body ∷ bodies) outer inner = absurd inner
 joined seed seeds [] (middle ∷ middles) bodies outer inner = absurd outer
@@ -126,7 +129,8 @@ strips_through_more [] seed entries bodies e =
     through-cons seed [] entries ∙ through_none (stripped seed entries) ∙ ap (stripped seed) same
 strips_through_more (first ∷ seeds) seed entries bodies e =
     let way = through_way first seeds entries bodies e in
-    through-cons first (seeds ++ seed ∷ []) entries ∙ ap (option_and_then (stripped_through (seeds ++ seed ∷ []))) way.first ∙ strips_through_more seeds seed way.middle bodies way.rest
+    through-cons first (seeds ++ seed ∷ []) entries ∙ ap (option_and_then (stripped_through (seeds ++ seed ∷ []))) way.first
+    ∙ strips_through_more seeds seed way.middle bodies way.rest
 
 -- ---- in any order
 pub strips_through_in_any_order : StripsThroughInAnyOrder

@@ -21,7 +21,8 @@ IsClosed seed entry = (m body : List ℕ) → Opens seed entry m body → ⊥
 
 -- a list is stripped to just those bodies of which its entries are the layers, one by one
 abbrev pub StripsExactly : Type 0
-StripsExactly = (seed : List ℕ) (entries bodies : List (List ℕ)) → (stripped seed entries ≡ Some bodies) ↔ AllZip (HasBody seed) entries bodies
+StripsExactly = (seed : List ℕ) (entries bodies : List (List ℕ)) →
+    (stripped seed entries ≡ Some bodies) ↔ AllZip (HasBody seed) entries bodies
 
 -- it is not stripped exactly where some entry is no layer
 abbrev pub StripsUnlessClosed : Type 0
@@ -33,12 +34,14 @@ StripsAll = (seed : List ℕ) (entries bodies : List (List ℕ)) → stripped se
 
 -- entries in another order are stripped to the bodies in another order
 abbrev pub StripsInAnyOrder : Type 0
-StripsInAnyOrder = (seed : List ℕ) (entries others bodies : List (List ℕ)) → IsPermutation entries others → stripped seed entries ≡ Some bodies →
+StripsInAnyOrder = (seed : List ℕ) (entries others bodies : List (List ℕ)) → IsPermutation entries others →
+    stripped seed entries ≡ Some bodies →
     (rest : List (List ℕ)) × (stripped seed others ≡ Some rest) × IsPermutation bodies rest
 
 -- seeds of one key strip alike
 abbrev pub KeyStrips : Type 0
-KeyStrips = (seed seed' : List ℕ) (entries : List (List ℕ)) → key_of_seed seed ≡ key_of_seed seed' → stripped seed entries ≡ stripped seed' entries
+KeyStrips = (seed seed' : List ℕ) (entries : List (List ℕ)) → key_of_seed seed ≡ key_of_seed seed' →
+    stripped seed entries ≡ stripped seed' entries
 
 -- ---- through many layers
 
@@ -53,19 +56,23 @@ OpensTo seeds entry body = (ms : List (List ℕ)) × (opened_through seeds entry
 
 -- a list is stripped through many layers to just what its entries open to, one by one
 abbrev pub StripsThroughExactly : Type 0
-StripsThroughExactly = (seeds entries bodies : List (List ℕ)) → (stripped_through seeds entries ≡ Some bodies) ↔ AllZip (OpensTo seeds) entries bodies
+StripsThroughExactly = (seeds entries bodies : List (List ℕ)) →
+    (stripped_through seeds entries ≡ Some bodies) ↔ AllZip (OpensTo seeds) entries bodies
 
 -- one layer more
 abbrev pub StripsThroughMore : Type 0
-StripsThroughMore = (seeds : List (List ℕ)) (seed : List ℕ) (entries bodies : List (List ℕ)) → stripped_through seeds entries ≡ Some bodies →
+StripsThroughMore = (seeds : List (List ℕ)) (seed : List ℕ) (entries bodies : List (List ℕ)) →
+    stripped_through seeds entries ≡ Some bodies →
     stripped_through (seeds ++ seed ∷ []) entries ≡ stripped seed bodies
 
 -- entries in another order come through to the bodies in another order
 abbrev pub StripsThroughInAnyOrder : Type 0
-StripsThroughInAnyOrder = (seeds entries others bodies : List (List ℕ)) → IsPermutation entries others → stripped_through seeds entries ≡ Some bodies →
+StripsThroughInAnyOrder = (seeds entries others bodies : List (List ℕ)) → IsPermutation entries others →
+    stripped_through seeds entries ≡ Some bodies →
     (rest : List (List ℕ)) × (stripped_through seeds others ≡ Some rest) × IsPermutation bodies rest
 
 -- what an entry of the list opens to is among the bodies
 abbrev pub StripsThroughKeeps : Type 0
-StripsThroughKeeps = (seeds entries bodies : List (List ℕ)) (entry body : List ℕ) → stripped_through seeds entries ≡ Some bodies → Contains entries entry → OpensTo seeds entry body →
+StripsThroughKeeps = (seeds entries bodies : List (List ℕ)) (entry body : List ℕ) → stripped_through seeds entries ≡ Some bodies →
+    Contains entries entry → OpensTo seeds entry body →
     Contains bodies body

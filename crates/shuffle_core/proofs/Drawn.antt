@@ -215,7 +215,8 @@ record IsNarrowed {X : Type 0} (xs : List X) (k : ℕ) (p : List X × Chooser ×
   sound : IsSound p.1
   rest : IsWordy p.2
 
-narrow_step_is_narrowed : {X : Type 0} (xs : List X) (k : ℕ) (p : List X × Chooser × Stream) → k < length xs → length xs < 2 ^ 32 → IsNarrowed xs k p → IsNarrowed xs (suc k) (narrow_step p)
+narrow_step_is_narrowed : {X : Type 0} (xs : List X) (k : ℕ) (p : List X × Chooser × Stream) → k < length xs → length xs < 2 ^ 32
+    → IsNarrowed xs k p → IsNarrowed xs (suc k) (narrow_step p)
 unfolding narrow_step
 narrow_step_is_narrowed xs k p below few before =
     let next = next_is_next p.1 p.2 (omega (arith, before.bound)) before.sound before.rest in

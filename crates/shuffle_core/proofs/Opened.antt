@@ -29,7 +29,8 @@ unfolding opened_item opened_through
 opened_item-cons seed seeds entry = last_found (peeled seed entry) seeds
 
 -- ---- one layer more
-after_first : (seed : List ℕ) (seeds : List (List ℕ)) (o : Option (List ℕ)) → ((entry : List ℕ) → opened_item (seeds ++ seed ∷ []) entry ≡ option_and_then (body_of seed) (opened_item seeds entry))
+after_first : (seed : List ℕ) (seeds : List (List ℕ)) (o : Option (List ℕ))
+    → ((entry : List ℕ) → opened_item (seeds ++ seed ∷ []) entry ≡ option_and_then (body_of seed) (opened_item seeds entry))
     → option_and_then (opened_item (seeds ++ seed ∷ [])) o ≡ option_and_then (body_of seed) (option_and_then (opened_item seeds) o)
 after_first seed seeds None rest = refl
 after_first seed seeds (Some body) rest = rest body
@@ -54,7 +55,8 @@ opened_list-push seed seeds [] = refl
 opened_list-push seed seeds (entry ∷ entries) = rw (← opened_item-push seed seeds entry, opened_list-push seed seeds entries) refl
 
 -- ---- what is opened is no longer than it was
-body_shorter : (seed entry body : List ℕ) (o : Option (List ℕ × List ℕ)) → peeled seed entry ≡ o → option_map (λ (found : List ℕ × List ℕ). found.1) o ≡ Some body → length body ≤ length entry
+body_shorter : (seed entry body : List ℕ) (o : Option (List ℕ × List ℕ)) → peeled seed entry ≡ o
+    → option_map (λ (found : List ℕ × List ℕ). found.1) o ≡ Some body → length body ≤ length entry
 body_shorter seed entry body None is e = cc
 body_shorter seed entry body (Some p) is e =
     let opens = (peels_exactly seed entry p.0 p.1).0 is in
@@ -78,7 +80,8 @@ item_shorter [] entry item e =
 item_shorter (seed ∷ seeds) entry item e =
     through seed entry item seeds (body_of seed entry) refl (sym (opened_item-cons seed seeds entry) ∙ e) (λ body f. item_shorter seeds body item f)
 
-pub opened_list_short : (seeds entries : List (List ℕ)) (bound : ℕ) → All (λ entry. length entry < bound) entries → All (λ item. ForSome item (λ bytes. length bytes < bound)) (opened_list seeds entries)
+pub opened_list_short : (seeds entries : List (List ℕ)) (bound : ℕ) → All (λ entry. length entry < bound) entries
+    → All (λ item. ForSome item (λ bytes. length bytes < bound)) (opened_list seeds entries)
 opened_list_short seeds entries bound short k d below item is =
     let within : k < length entries = omega (arith, length-map entries (opened_item seeds)) in
     let found : opened_item seeds (get_or entries k []) ≡ Some item = sym (get_or-map (opened_item seeds) entries k [] d within) ∙ is in

@@ -21,7 +21,8 @@ use Rattle.shuffle_core.proofs.Opened.{opened_item-nil, opened_item-cons}
 same_found : (x y : List ℕ) → Some x ≡ Some y → x ≡ y
 same_found x y e = cc
 
-opens_body : (seed entry body : List ℕ) (o : Option (List ℕ × List ℕ)) → peeled seed entry ≡ o → option_map (λ (found : List ℕ × List ℕ). found.1) o ≡ Some body → (m : List ℕ) × Opens seed entry m body
+opens_body : (seed entry body : List ℕ) (o : Option (List ℕ × List ℕ)) → peeled seed entry ≡ o
+    → option_map (λ (found : List ℕ × List ℕ). found.1) o ≡ Some body → (m : List ℕ) × Opens seed entry m body
 opens_body seed entry body None is e = cc
 opens_body seed entry body (Some p) is e =
     let same : p.1 ≡ body = same_found p.1 body e in

@@ -140,7 +140,8 @@ same_list : (x y : List (List ℕ)) → Shuffled x ≡ Shuffled y → x ≡ y
 same_list x y e = cc
 
 says : (seed order_seed : List ℕ) (entries list : List (List ℕ)) (equal : Bool) (bodies : Option (List (List ℕ))) → has_equal entries ≡ equal → stripped seed entries ≡ bodies
-    → turn_of seed order_seed entries ≡ Shuffled list → AreDistinct entries × ((bodies : List (List ℕ)) × (stripped seed entries ≡ Some bodies) × (list ≡ in_drawn_order order_seed bodies))
+    → turn_of seed order_seed entries ≡ Shuffled list
+    → AreDistinct entries × ((bodies : List (List ℕ)) × (stripped seed entries ≡ Some bodies) × (list ≡ in_drawn_order order_seed bodies))
 says seed order_seed entries list true bodies equal is e = let abort : Abort ≡ Shuffled list = sym (said seed order_seed entries true bodies equal is) ∙ e in cc
 says seed order_seed entries list false None equal is e = let abort : Abort ≡ Shuffled list = sym (said seed order_seed entries false None equal is) ∙ e in cc
 says seed order_seed entries list false (Some bodies) equal is e =
@@ -157,7 +158,8 @@ aborts seed order_seed entries false (Some list) equal is e =
     let shuffled : Shuffled (in_drawn_order order_seed list) ≡ Abort = sym (said seed order_seed entries false (Some list) equal is) ∙ e in
     cc
 
-closed_aborts : (seed order_seed : List ℕ) (entries : List (List ℕ)) (equal : Bool) → has_equal entries ≡ equal → stripped seed entries ≡ None → turn_of seed order_seed entries ≡ Abort
+closed_aborts : (seed order_seed : List ℕ) (entries : List (List ℕ)) (equal : Bool) → has_equal entries ≡ equal
+    → stripped seed entries ≡ None → turn_of seed order_seed entries ≡ Abort
 closed_aborts seed order_seed entries true equal is = said seed order_seed entries true None equal is
 closed_aborts seed order_seed entries false equal is = said seed order_seed entries false None equal is
 

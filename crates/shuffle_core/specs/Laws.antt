@@ -30,7 +30,8 @@ DrawnOrderPermutes = (seed : List ℕ) (n : ℕ) → n < 2 ^ 32 → IsPermutatio
 
 -- what stands in the drawn order are the entries in another order
 abbrev pub EntriesArePermuted : Type 0
-EntriesArePermuted = (seed : List ℕ) (entries : List (List ℕ)) → length entries < 2 ^ 32 → IsPermutation entries (in_drawn_order seed entries)
+EntriesArePermuted = (seed : List ℕ) (entries : List (List ℕ)) → length entries < 2 ^ 32 →
+    IsPermutation entries (in_drawn_order seed entries)
 
 -- ---- lists in another order
 
@@ -51,13 +52,16 @@ DistinctAreFound = (entries : List (List ℕ)) → (has_equal entries ≡ false)
 -- another order has as many entries, the same ones, and distinct ones where they were distinct
 abbrev pub PermutationKeeps : Type 0
 PermutationKeeps = (entries others : List (List ℕ)) → IsPermutation entries others →
-    (length others ≡ length entries) × ((entry : List ℕ) → Contains entries entry ↔ Contains others entry) × (AreDistinct entries → AreDistinct others)
+    (length others ≡ length entries)
+    × ((entry : List ℕ) → Contains entries entry ↔ Contains others entry)
+    × (AreDistinct entries → AreDistinct others)
 
 -- ---- a turn
 
 -- a turn over distinct entries that are layers says their bodies, in another order
 abbrev pub TurnPermutes : Type 0
-TurnPermutes = (seed order_seed : List ℕ) (entries bodies : List (List ℕ)) → length entries < 2 ^ 32 → AreDistinct entries → stripped seed entries ≡ Some bodies →
+TurnPermutes = (seed order_seed : List ℕ) (entries bodies : List (List ℕ)) → length entries < 2 ^ 32 → AreDistinct entries →
+    stripped seed entries ≡ Some bodies →
     (list : List (List ℕ)) × (turn_of seed order_seed entries ≡ Shuffled list) × IsPermutation bodies list
 
 -- a turn that says a list had distinct entries that are layers
@@ -67,7 +71,8 @@ TurnSaysBodies = (seed order_seed : List ℕ) (entries list : List (List ℕ)) �
 
 -- a turn says Abort exactly where two entries are equal or one is no layer
 abbrev pub TurnAborts : Type 0
-TurnAborts = (seed order_seed : List ℕ) (entries : List (List ℕ)) → (turn_of seed order_seed entries ≡ Abort) ↔ (HasTwins entries ⊎ Any (IsClosed seed) entries)
+TurnAborts = (seed order_seed : List ℕ) (entries : List (List ℕ)) →
+    (turn_of seed order_seed entries ≡ Abort) ↔ (HasTwins entries ⊎ Any (IsClosed seed) entries)
 
 -- ---- submitting and opening
 
@@ -81,7 +86,8 @@ OpensToWhatIsWrapped = (seeds : List (List ℕ)) (entry item : List ℕ) → (op
 
 -- the layers of some seeds, and then those of the others
 abbrev pub OpensInParts : Type 0
-OpensInParts = (first others : List (List ℕ)) (entry inside item : List ℕ) → opened_item first entry ≡ Some inside → opened_item others inside ≡ Some item →
+OpensInParts = (first others : List (List ℕ)) (entry inside item : List ℕ) → opened_item first entry ≡ Some inside →
+    opened_item others inside ≡ Some item →
     opened_item (first ++ others) entry ≡ Some item
 
 -- four lists of one length, and layer seeds of 32 bytes: what a submission is made with
@@ -101,7 +107,8 @@ SubmissionOpens = (inner outer inner_ms outer_ms : List (List ℕ)) (item : List
 
 -- a submission is 2,272 bytes longer than its item for each of its keys
 abbrev pub SubmissionAdds : Type 0
-SubmissionAdds = (inner outer inner_ms outer_ms : List (List ℕ)) (item : List ℕ) → length inner ≡ length inner_ms → length outer ≡ length outer_ms →
+SubmissionAdds = (inner outer inner_ms outer_ms : List (List ℕ)) (item : List ℕ) → length inner ≡ length inner_ms →
+    length outer ≡ length outer_ms →
     let submission = submission_of inner outer inner_ms outer_ms item in
     (length submission.inner_ciphertext ≡ length item + LAYER_BYTES * length inner)
     × (length submission.ciphertext ≡ length item + LAYER_BYTES * (length inner + length outer))
