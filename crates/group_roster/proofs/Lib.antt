@@ -3,3 +3,4 @@ pub mod Keys
 pub mod Spelled
 pub mod Rosters
 pub mod TomlLemmas
+pub mod Ids

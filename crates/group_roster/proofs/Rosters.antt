@@ -229,7 +229,7 @@ spelled_key : (r : Roster) → IsRosterForm r → (k : ℕ) → k < length r.key
 spelled_key r form k lt =
     rw (← drop-drop (56 * k) 6 (roster_spelling r)) (concat-key r.keys k (keys_are_56 r form) lt)
 
-spelled_length : (r : Roster) → IsRosterForm r → length (roster_spelling r) ≡ 6 + 56 * length r.keys
+pub spelled_length : (r : Roster) → IsRosterForm r → length (roster_spelling r) ≡ 6 + 56 * length r.keys
 spelled_length r form = omega (arith, length-concat r.keys (keys_are_56 r form))
 
 spelled_magic : (r : Roster) (p : ℕ) → 6 ≤ length (roster_spelling r) → p < 4 → has_byte (roster_spelling r) p (get_or roster_magic p 0) ≡ true
@@ -250,6 +250,10 @@ spelled_once r file k lt = pass_none (λ j. bytes_eq (key_at (roster_spelling r)
         unequal : (a b : List ℕ) → a ≢ b → bytes_eq a b ≡ false
         unequal a b other = false_from_ne_true (bytes_eq a b) (λ same. other ((bytes_eq-Decides a b).0 same))
 
+-- the keys that are spelled are those of the roster
+pub spelled_keys : (r : Roster) → IsRosterForm r → keys_at (roster_spelling r) (length r.keys) ≡ r.keys
+spelled_keys r form = sym (fill_by_all (key_at (roster_spelling r)) r.keys (length r.keys) [] refl (λ k lt. sym (spelled_key r form k lt)))
+
 -- what is spelled so has no offence, and is what is spelled
 pub roster_again : (r : Roster) → IsRosterFile r → roster_read (roster_spelling r) ≡ Ok r
 roster_again r file =
@@ -269,8 +273,7 @@ roster_again r file =
       keys = right;
       ends = omega (arith, long);
     }) in
-    let same : keys_at bytes n ≡ r.keys = sym (fill_by_all (key_at bytes) r.keys n [] refl (λ k lt. sym (spelled_key r form k lt))) in
-    ap (λ (o : Option Offence). fault_as numbered (value_unless o (spelled_roster bytes))) none ∙ ap (λ (keys : List (List ℕ)). ok (record { version = r.version; keys = keys })) same
+    ap (λ (o : Option Offence). fault_as numbered (value_unless o (spelled_roster bytes))) none ∙ ap (λ (keys : List (List ℕ)). ok (record { version = r.version; keys = keys })) (spelled_keys r form)
   where
     ok : Roster → Result Roster (ℕ × ℕ)
     ok r = Ok r

@@ -4,3 +4,4 @@ pub mod Binary
 pub mod Given
 pub mod Places
 pub mod Toml
+pub mod Ids

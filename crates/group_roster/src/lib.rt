@@ -12,7 +12,7 @@ mod tests;
 mod toml_form;
 
 pub use binary::decode;
-pub use laws::rosters_are_spelled;
+pub use laws::{ids_determine_rosters, rosters_are_spelled};
 pub use refusal::RosterRefusal;
 pub use roster::Roster;
 pub use toml_form::from_toml;
