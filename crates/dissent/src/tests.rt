@@ -125,16 +125,15 @@ fn a_cut_post_and_one_of_another_round_are_not_shown(rt: HostRuntime) -> Result<
     let alloc = rt.alloc();
     let roster = roster_of_two(alloc)?;
     let cut = vec![in alloc; 0u8; 3]?;
+    let mut files = files_of(alloc, Vec::new(alloc), &[("r", &roster), ("t", &cut)])?;
+    let (status, out) = run_words(&rt, alloc, &SHOW, &mut files)?;
+    assert_eq!(rt; status.number(), 4);
+    assert_eq!(rt; out.written(), b"refused check 1 post 1 at 3\n".as_slice());
     let other = post_of_round_7(alloc)?;
-    for (post, line) in [
-        (&cut, b"refused check 1 post 1 at 3\n".as_slice()),
-        (&other, b"refused check 4 post 1 at 0\n".as_slice()),
-    ] {
-        let mut files = files_of(alloc, Vec::new(alloc), &[("r", &roster), ("t", post)])?;
-        let (status, out) = run_words(&rt, alloc, &SHOW, &mut files)?;
-        assert_eq!(rt; status.number(), 4);
-        assert_eq!(rt; out.written(), line);
-    }
+    let mut files = files_of(alloc, Vec::new(alloc), &[("r", &roster), ("t", &other)])?;
+    let (status, out) = run_words(&rt, alloc, &SHOW, &mut files)?;
+    assert_eq!(rt; status.number(), 4);
+    assert_eq!(rt; out.written(), b"refused check 4 post 1 at 0\n".as_slice());
     Ok(())
 }
 
@@ -218,26 +217,27 @@ fn a_roster_is_made_from_toml(rt: HostRuntime) -> Result<(), Fail> {
 }
 
 #[test]
-fn wrong_toml_and_a_failed_write_have_their_status(rt: HostRuntime) -> Result<(), Fail> {
+fn toml_without_a_version_is_a_bad_roster(rt: HostRuntime) -> Result<(), Fail> {
+    let alloc = rt.alloc();
+    let empty = Vec::new(alloc);
+    let mut files = files_of(alloc, Vec::new(alloc), &[("t", &empty)])?;
+    let (status, out) = run_words(&rt, alloc, &ROSTER, &mut files)?;
+    assert_eq!(rt; status.number(), 11);
+    assert_eq!(rt; out.written(), b"bad roster at 0 rule 11\n".as_slice());
+    Ok(())
+}
+
+#[test]
+fn a_failed_write_of_a_roster_is_a_write_fault(rt: HostRuntime) -> Result<(), Fail> {
     let alloc = rt.alloc();
     let toml = toml_of_two(alloc)?;
-    let empty = Vec::new(alloc);
-    for (bytes, failing, number, line) in [
-        (
-            &empty,
-            vec![in alloc; 9]?,
-            11,
-            b"bad roster at 0 rule 11\n".as_slice(),
-        ),
-        (&toml, vec![in alloc; 3]?, 6, b"".as_slice()),
-    ] {
-        let mut files = files_of(alloc, failing, &[("t", bytes)])?;
-        let (status, out) = run_words(&rt, alloc, &ROSTER, &mut files)?;
-        assert_eq!(rt; status.number(), number);
-        assert_eq!(rt; out.written(), line);
-        let name = String::from_str(alloc, "o")?;
-        assert!(rt; matches!(files.read(&name, 118), FileRead::Failed));
-    }
+    let failing = vec![in alloc; 3]?;
+    let mut files = files_of(alloc, failing, &[("t", &toml)])?;
+    let (status, out) = run_words(&rt, alloc, &ROSTER, &mut files)?;
+    assert_eq!(rt; status.number(), 6);
+    assert_eq!(rt; out.written().len(), 0);
+    let name = String::from_str(alloc, "o")?;
+    assert!(rt; matches!(files.read(&name, 118), FileRead::Failed));
     Ok(())
 }
 
