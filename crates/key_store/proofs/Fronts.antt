@@ -1,11 +1,15 @@
 -- Reading the front of a file.
-use Rattle.std.proofs.Common.{◌≡◌, ℕ, ◌+◌, ◌-◌, ◌≤◌, List, ◌++◌, Option, Some, None, IfSome, length, take, drop, sym, ap, ◌∙◌, subst, arith}
+use Rattle.std.proofs.Common.{◌≡◌, ℕ, ◌+◌, ◌-◌, ◌≤◌, List, ◌++◌, Option, Some, None, IfSome, length, take, drop, refl, sym, ap, ◌∙◌, subst, arith}
 use Rattle.std.proofs.lemmas.List.{append-nil, take_all}
 use Rattle.std.proofs.Math.Seq.{take-add}
 
 -- the front was read as far as this
 abbrev pub IsRead : (size : ℕ) (image file : List ℕ) → Type 0
 IsRead size image file = (size ≤ length file) × (take size image ≡ take size file)
+
+pub none_read : (told : Option (List ℕ)) (image : List ℕ) → IfSome told (IsRead 0 image)
+none_read None image = tt
+none_read (Some file) image = (omega arith, refl)
 
 -- some more of it was read
 abbrev pub More : (size taken : ℕ) (image now file : List ℕ) → Type 0

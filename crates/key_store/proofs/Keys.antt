@@ -78,7 +78,7 @@ pub not_enough : (a b leaves total whole most : ℕ) → a + leaves ≤ most →
 not_enough a b leaves total whole most enough same is found short = omega arith
 
 -- the numbers of a round fit
-few_leaves : (h : MadeHeight) → made_leaves h ≤ 1024
+pub few_leaves : (h : MadeHeight) → made_leaves h ≤ 1024
 few_leaves H5 = omega arith
 few_leaves H10 = omega arith
 

@@ -1,3 +1,9 @@
+mod Disks
+pub mod Torn
+pub mod Kept
+pub mod Midway
+pub mod Begun
+pub mod Moments
 pub mod Overwrites
 pub mod Parts
 pub mod Slots

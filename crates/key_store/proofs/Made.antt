@@ -15,6 +15,7 @@ use Rattle.key_store.specs.declared.layout.Slot.{Slot}
 use Rattle.key_store.specs.declared.layout.KeyContent.{KeyContent}
 use Rattle.key_store.specs.Disk.{overwritten}
 use Rattle.key_store.specs.KeyFiles.{Mirrors, content_of, counted, fields_written, greatest, head_of, head_read, is_valid, key_read, long_at, made, magic, opened, part, parts_in, slot_at, stands, word_at}
+use Rattle.key_store.specs.Crashes.{Keeps}
 use Rattle.key_store.proofs.Overwrites.{length-overwritten}
 use Rattle.key_store.proofs.Parts.{byte-by_part, byte-written, drop-after, part-apart, part-inside}
 use Rattle.key_store.proofs.Slots.{same_long, same_slot, same_word, slot_by_parts}
@@ -200,6 +201,19 @@ made_read c i s =
     (still now 5 4 w.whole (omega arith) ∙ w.p3) (still now 9 4 w.whole (omega arith) ∙ w.p4))
     slots.0
     (content_made c (opened now 64) (still now 13 16 w.whole (omega arith) ∙ w.p5) (still now 29 32 w.whole (omega arith) ∙ w.p6) slots.1)
+
+-- it stands for nothing used, and one gate is closed
+pub made_keeps : (c : KeyContent) → length c.identifier ≡ 16 → length c.seed ≡ 32
+    → Keeps record c { kept = record { round = 0; next = 0 } } (opened (made (parts_in c)) 64)
+made_keeps c i s =
+    let w = (are_fields c i s).written in
+    record {
+      stands = record { round = 0; next = 0 };
+      read = made_read c i s;
+      round = omega arith;
+      next = omega arith;
+      paired = λ first second. absurd (second (ap (λ (s : Slot). s.gate) (second_slot (made (parts_in c)) w.whole w.back)));
+    }
 
 -- as the disk's file is told
 pub made_told : (told : Option (List ℕ)) (c : KeyContent) → length c.identifier ≡ 16 → length c.seed ≡ 32

@@ -29,7 +29,7 @@ length-overwritten file at bytes within =
     omega (arith, front, length-append (take at file ++ bytes) (drop (at + length bytes) file), length-drop (at + length bytes) file)
 
 -- bytes behind those that were overwritten, in the front of a file
-back_taken : (file : List ℕ) (n ends : ℕ) → drop ends (take n file) ≡ take (n - ends) (drop ends file)
+pub back_taken : (file : List ℕ) (n ends : ℕ) → drop ends (take n file) ≡ take (n - ends) (drop ends file)
 back_taken file n ends =
     back (cases_lt n ends)
   where

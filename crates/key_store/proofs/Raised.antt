@@ -55,7 +55,7 @@ greatest-second round next a r n =
     let f : max a.next next ≡ next = omega arith in
     rw (e, f) refl
 
-or_true : (b : Bool) → (b || true) ≡ true
+pub or_true : (b : Bool) → (b || true) ≡ true
 or_true true = refl
 or_true false = refl
 
@@ -95,7 +95,7 @@ before_slot at k n (inl is) before = inl (omega arith)
 before_slot at k n (inr is) before = inl (omega arith)
 
 -- the fields before I
-head_same : (f g : List ℕ) → length f ≡ length g → word_at f 0 ≡ word_at g 0 → slice_index f 4 ≡ slice_index g 4
+pub head_same : (f g : List ℕ) → length f ≡ length g → word_at f 0 ≡ word_at g 0 → slice_index f 4 ≡ slice_index g 4
     → word_at f 5 ≡ word_at g 5 → word_at f 9 ≡ word_at g 9 → head_read f ≡ head_read g
 unfolding head_read
 head_same f g size first version lms ots =
@@ -118,20 +118,30 @@ head-raised file at round next whole slot =
 pub record WasRead (file : List ℕ) (c : KeyContent) : Type 0 where
   pub types : MadeHeight × OtsType
   pub head : head_read file ≡ Ok types
+  pub valid : has_valid (made_leaves types.0) file ≡ true
   pub content : content_of types file ≡ c
 
 pub was_read : (file : List ℕ) (c : KeyContent) → key_read file ≡ Ok c → WasRead file c
 unfolding key_read
 was_read file c e =
     let head = bind_ok (head_read file) (with_slots file) c e in
-    record { types = head.0; head = head.1; content = slots (has_valid (made_leaves (head.0).0) file) (content_of head.0 file) c head.2 }
+    record {
+      types = head.0;
+      head = head.1;
+      valid = valid (has_valid (made_leaves (head.0).0) file) (content_of head.0 file) c head.2;
+      content = slots (has_valid (made_leaves (head.0).0) file) (content_of head.0 file) c head.2;
+    }
   where
+    valid : (valid : Bool) (content c : KeyContent) → ◌≡◌ {A = Result KeyContent ℕ} (if valid then Ok content else Err 64) (Ok c) → valid ≡ true
+    valid true content c e = refl
+    valid false content c e = absurd (cc)
+
     slots : (valid : Bool) (content c : KeyContent) → ◌≡◌ {A = Result KeyContent ℕ} (if valid then Ok content else Err 64) (Ok c) → content ≡ c
     slots true content c e = cc
     slots false content c e = absurd (cc)
 
 -- what it says is of its types
-content_raised : (types : MadeHeight × OtsType) (file now : List ℕ) (kept : Standing) → part now 13 16 ≡ part file 13 16
+pub content_raised : (types : MadeHeight × OtsType) (file now : List ℕ) (kept : Standing) → part now 13 16 ≡ part file 13 16
     → part now 29 32 ≡ part file 29 32 → stands (made_leaves types.0) now ≡ kept
     → content_of types now ≡ record (content_of types file) { kept = kept }
 content_raised types file now kept i s k = rw (i, s, k) refl

@@ -24,7 +24,7 @@ use Rattle.lms_tree.specs.States.{made_leaves, made_type}
 use Rattle.key_store.specs.declared.layout.Slot.{Slot}
 use Rattle.key_store.specs.declared.layout.Standing.{Standing}
 use Rattle.key_store.specs.declared.layout.KeyContent.{KeyContent}
-use Rattle.key_store.specs.Disk.{overwritten}
+use Rattle.key_store.specs.Disk.{IsTorn, Only, overwritten}
 
 -- ---- numbers and parts at their offsets
 
@@ -182,3 +182,12 @@ raised file at round next = opened (written (closed file at) at round next) at
 -- the file's first 128 bytes are these, where the disk tells
 abbrev pub Mirrors : Option (List ℕ) → List ℕ → Type 0
 Mirrors told image = IfSome told (λ file. take 128 file ≡ image)
+
+-- the file's first 128 bytes are these, and the file is just what a crash leaves, where the disk tells
+abbrev pub IsAtRest : Option (List ℕ) → (images : List ℕ → Type 0) → List ℕ → Type 0
+IsAtRest told images image = IfSome told (λ file. (take 128 file ≡ image) × Only file images)
+
+-- an image of a file while a gate is closed: at most the gate differs, and nothing where it is closed already
+pub record IsClosing (at : ℕ) (file image : List ℕ) : Type 0 where
+  pub beside : IsTorn file at 1 image
+  pub closed_already : slice_index file at ≡ 0 → image ≡ file

@@ -1,4 +1,5 @@
 pub mod Disk
 pub mod Memory
 pub mod KeyFiles
+pub mod Crashes
 pub mod Store

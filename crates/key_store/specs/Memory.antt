@@ -1,38 +1,162 @@
--- Disks in memory.
-use Rattle.std.specs.Prelude.{ℕ, ◌+◌, ◌-◌, ◌^◌, ◌==◌, min, Bool, List, vec_items}
-use Rattle.std.specs.List.{list_any}
-use Rattle.key_store.specs.declared.plan.FaultPlan.{FaultPlan}
-use Rattle.key_store.specs.declared.memory_disk.SteadyDisk.{SteadyDisk}
-use Rattle.key_store.specs.declared.memory_disk.MemoryDisk.{MemoryDisk}
+-- Disks in memory: what their steps made of the file, the images that a crash may leave, and what a call answers by
+-- the disk's plan.
+use Rattle.std.specs.Prelude.{◌≡◌, ◌⊎◌, ◌==◌, ◌&&◌, ◌||◌, ℕ, ◌+◌, ◌-◌, ◌<◌, ◌≤◌, nat_le, if◌then◌else◌, Bool, false, not, List, [], ◌∷◌, ◌++◌, length, take, replicate, Option, Some, None}
+use Rattle.outside.specs.Plans.{PlanState, call_counted, fails_next, fault_counted}
+use Rattle.std.proofs.Common.{inl, inr}
+use Rattle.std.proofs.Math.Nat.{not-le_of_lt}
+use Rattle.key_store.specs.Disk.{IsTorn, overwritten}
+use Rattle.key_store.specs.declared.disk.DiskAnswer.{DiskAnswer}
+use Rattle.key_store.specs.declared.disk.DiskAnswer.TheVariants.{Done, Failed}
+use Rattle.key_store.specs.declared.steps_taken.Step.{Step}
+use Rattle.key_store.specs.declared.steps_taken.Step.TheVariants.{Wrote, Synced, Emptied}
+use Rattle.key_store.specs.declared.steps_taken.Pick.{Pick}
+use Rattle.key_store.specs.declared.steps_taken.Pick.TheVariants.{Old, New, Ones}
 
--- one more; a count stays at the end of its 64 bits
-abbrev pub counted : ℕ → ℕ
-counted count = min (count + 1) (2 ^ 64 - 1)
+-- n bytes may be written from `at` on in a file of `size` bytes: `at` is no place past the end, and 128 bytes are room
+abbrev pub fits : (size at n : ℕ) → Bool
+fits size at n = nat_le at size && nat_le n (128 - at)
 
--- the numbers of the calls that fail by a plan, and the calls and faults that it has counted
-abbrev pub planned_calls : FaultPlan → List ℕ
-planned_calls plan = vec_items plan.failing
+-- bytes that were written from a place on
+pub record Range : Type 0 where
+  pub at : ℕ
+  pub bytes : List ℕ
 
-abbrev pub call_count : FaultPlan → ℕ
-call_count plan = plan.calls
+-- what a read gives, what a crash left at the last sync, and what was written since, the latest first
+pub record Contents : Type 0 where
+  pub file : List ℕ
+  pub durable : List ℕ
+  pub pending : List Range
 
-abbrev pub fault_count : FaultPlan → ℕ
-fault_count plan = plan.faults
+-- a file that is on the disk as it reads
+abbrev pub synced : List ℕ → Contents
+synced file = record { file = file; durable = file; pending = [] }
 
--- whether the next call is one that fails
-abbrev pub fails_next : FaultPlan → Bool
-fails_next plan = list_any (λ call. call == counted plan.calls) (planned_calls plan)
+-- the contents after a step, and after some
+abbrev pub after_step : Contents → Step → Contents
+after_step c (Wrote at size bytes) = record {
+  file = overwritten c.file at (take size bytes);
+  durable = c.durable;
+  pending = record { at = at; bytes = take size bytes } ∷ c.pending;
+}
+after_step c Synced = synced c.file
+after_step c Emptied = synced []
 
--- the file of a disk that never fails, and how often it had no room
-abbrev pub steady_file : SteadyDisk → List ℕ
-steady_file disk = disk.room
+abbrev pub after_steps : Contents → List Step → Contents
+after_steps c [] = c
+after_steps c (step ∷ steps) = after_steps (after_step c step) steps
 
-abbrev pub steady_faults : SteadyDisk → ℕ
-steady_faults disk = disk.faults
+abbrev pub file_after : List ℕ → Step → List ℕ
+file_after file (Wrote at size bytes) = overwritten file at (take size bytes)
+file_after file Synced = file
+file_after file Emptied = []
 
--- the file of a disk with a plan, and the plan
-abbrev pub memory_file : MemoryDisk → List ℕ
-memory_file disk = disk.room
+-- a step that may be done to a file
+abbrev pub StepFits : List ℕ → Step → Type 0
+StepFits file (Wrote at size bytes) = (at ≤ length file) × (at + size ≤ 128) × (length bytes ≡ 128)
+StepFits file Synced = Unit {0}
+StepFits file Emptied = Unit {0}
 
-abbrev pub disk_plan : MemoryDisk → FaultPlan
-disk_plan disk = disk.plan
+-- the step of a write
+abbrev pub write_step : (at : ℕ) → List ℕ → Step
+write_step at bytes = Wrote at (length bytes) (overwritten (replicate 128 0) 0 bytes)
+
+-- a file that was written in these ranges, each of which may hold any bytes
+abbrev pub IsTornIn : List ℕ → List Range → List ℕ → Type 0
+IsTornIn durable [] image = image ≡ durable
+IsTornIn durable (range ∷ earlier) image = (was : List ℕ) × IsTornIn durable earlier was × IsTorn was range.at (length range.bytes) image
+
+-- an image that a crash may leave
+abbrev pub IsImage : Contents → List ℕ → Type 0
+IsImage c image = (image ≡ c.file) ⊎ IsTornIn c.durable c.pending image
+
+-- ---- a disk
+
+-- the file as it was made, what was done to it, how many steps there is room for, the plan, and the number of calls that
+-- pass where the others fail
+pub record DiskState : Type 0 where
+  pub first : List ℕ
+  pub steps : List Step
+  pub room : ℕ
+  pub plan : PlanState
+  pub passing : Option ℕ
+
+-- a disk with this file before any call
+abbrev pub new_disk : List ℕ → ℕ → PlanState → DiskState
+new_disk file room plan = record { first = file; steps = []; room = room; plan = plan; passing = None }
+
+abbrev pub contents_of : DiskState → Contents
+contents_of disk = after_steps (synced disk.first) disk.steps
+
+abbrev pub file_of : DiskState → List ℕ
+file_of disk = (contents_of disk).file
+
+-- what a crash may leave, and what a crash since so many steps might have left
+abbrev pub MayLeave : DiskState → List ℕ → Type 0
+MayLeave disk image = IsImage (contents_of disk) image
+
+abbrev pub moment_of : DiskState → ℕ
+moment_of disk = length disk.steps
+
+abbrev pub LeftSince : DiskState → ℕ → List ℕ → Type 0
+LeftSince disk start image =
+    MayLeave disk image ⊎ ((count : ℕ) × (start ≤ count) × (count < length disk.steps) × IsImage (after_steps (synced disk.first) (take count disk.steps)) image)
+
+pub only_now : (disk : DiskState) (image : List ℕ) → LeftSince disk (moment_of disk) image → MayLeave disk image
+only_now disk image (inl now) = now
+only_now disk image (inr earlier) = absurd (not-le_of_lt earlier.2 earlier.1)
+
+-- ---- what a call answers
+
+-- no call passes any more
+abbrev pub is_stopped : Option ℕ → Bool
+is_stopped None = false
+is_stopped (Some calls) = calls == 0
+
+abbrev pub one_less : Option ℕ → Option ℕ
+one_less None = None
+one_less (Some calls) = Some (calls - 1)
+
+-- the next call fails, whatever it is
+abbrev pub fails_any : DiskState → Bool
+fails_any disk = fails_next disk.plan || is_stopped disk.passing
+
+-- the next call that is a step fails
+abbrev pub fails_step : DiskState → Bool
+fails_step disk = fails_any disk || nat_le disk.room (length disk.steps)
+
+-- the next write of n bytes fails
+abbrev pub fails_write : DiskState → (at n : ℕ) → Bool
+fails_write disk at n = fails_step disk || not (fits (length (file_of disk)) at n)
+
+-- the disk after a call that did nothing to the file, after one that failed, and after one that was this step
+abbrev pub after_look : DiskState → DiskState
+after_look disk = record { first = disk.first; steps = disk.steps; room = disk.room; plan = call_counted disk.plan; passing = one_less disk.passing }
+
+abbrev pub after_fault : DiskState → DiskState
+after_fault disk = record { first = disk.first; steps = disk.steps; room = disk.room; plan = fault_counted (call_counted disk.plan); passing = one_less disk.passing }
+
+abbrev pub after_doing : DiskState → Step → DiskState
+after_doing disk step = record { first = disk.first; steps = disk.steps ++ step ∷ []; room = disk.room; plan = call_counted disk.plan; passing = one_less disk.passing }
+
+-- a call that does nothing to the file, and one that does this step, where it fails and where it does not
+abbrev pub looks : DiskState → DiskState
+looks disk = if fails_any disk then after_fault disk else after_look disk
+
+abbrev pub after_call : (fails : Bool) → DiskState → Step → DiskState
+after_call fails disk step = if fails then after_fault disk else after_doing disk step
+
+abbrev pub answer_of : (fails : Bool) → DiskAnswer
+answer_of fails = if fails then Failed else Done
+
+-- ---- a crash
+
+-- the file with all ranges full of ones
+abbrev pub filled_in : List ℕ → List Range → List ℕ
+filled_in durable [] = durable
+filled_in durable (range ∷ earlier) = overwritten (filled_in durable earlier) range.at (replicate (length range.bytes) 255)
+
+-- the image that is picked
+abbrev pub picked : Pick → Contents → List ℕ
+picked Old c = c.durable
+picked New c = c.file
+picked Ones c = filled_in c.durable c.pending

@@ -6,8 +6,8 @@ use Rattle.key_store.specs.declared.layout.Standing.{Standing}
 use Rattle.key_store.specs.declared.layout.KeyContent.{KeyContent}
 use Rattle.key_store.specs.declared.refusals.StoreRefusal.{StoreRefusal}
 use Rattle.key_store.specs.declared.refusals.StoreRefusal.TheVariants.{DiskFault, NotKeyFile, OldRound, Exhausted, Memory}
-use Rattle.key_store.specs.Disk.{Rose}
-use Rattle.key_store.specs.KeyFiles.{Mirrors, key_read, parts_in, stands}
+use Rattle.outside.specs.Faults.{Rose}
+use Rattle.key_store.specs.KeyFiles.{IsAtRest, key_read, parts_in, stands}
 
 -- what the key is of, the file's first 128 bytes as they were last read or written, and whether the disk failed
 pub record KeyState : Type 0 where
@@ -22,9 +22,9 @@ kept_by key = stands (leaves key.parts) key.image
 abbrev pub leaves_of : KeyState → ℕ
 leaves_of key = leaves key.parts
 
--- the file is as the key file holds it, unless the disk failed
-abbrev pub IsCurrent : KeyState → Option (List ℕ) → Type 0
-IsCurrent key told = key.failed ≡ false → Mirrors told key.image
+-- the file, and whatever a crash leaves of it, is as the key file holds it, unless the disk failed
+abbrev pub IsCurrent : KeyState → Option (List ℕ) → (images : List ℕ → Type 0) → Type 0
+IsCurrent key told images = key.failed ≡ false → IsAtRest told images key.image
 
 -- the secret is that of a file that was read so, and its next leaf is that which the file stands for
 abbrev pub IsSecretOf : Result KeyContent ℕ → SecretState → Type 0

@@ -1,7 +1,8 @@
 //! A disk with one file, as a key file is written on it. What a clause says of the file's bytes it says of disks that
 //! tell them; an adapter over a real file tells nothing.
-ghost use Rattle.std.specs.Prelude.{◌≡◌, ◌⊎◌, ℕ, ◌≤◌, List, [], length, Option, None, IfSome, option_map, IsTrue, Bool, false};
-ghost use Rattle.key_store.specs.Disk.{IfRead, IsFilled, Rose, Tears, Writes};
+ghost use Rattle.std.specs.Prelude.{◌≡◌, ◌⊎◌, ℕ, ◌<◌, ◌≤◌, List, [], length, Option, None, IsSome, IfSome, option_map, IsTrue, Bool, false};
+ghost use Rattle.outside.specs.Faults.{Rose};
+ghost use Rattle.key_store.specs.Disk.{Elapses, IfRead, ImagesTear, IsFilled, Only, Tears, Writes};
 
 /// What a call answers.
 #[derive(Clone, Copy, Debug, PartialEq, Eq)]
@@ -14,19 +15,28 @@ pub enum DiskAnswer {
 /// What a read answers.
 #[derive(Clone, Copy, Debug, PartialEq, Eq)]
 pub enum DiskRead {
-    /// So many bytes were read: at most those that were asked for, and none only at the file's end.
+    /// The number of bytes that were read: at most as many as were asked for, and 0 only at the file's end.
     Read { taken: u32 },
     /// The disk failed, and counted the fault.
     Failed,
 }
 
-/// One file. No call takes memory.
+/// One file, which a crash may leave in one of several images. No call takes memory.
 pub trait Disk {
     /// How often a call has failed. The count stays at 2^64 - 1.
     ghost faults: { Self → ℕ };
 
-    /// The bytes of the file, where the disk tells them.
+    /// The bytes of the file, as a read gives them, where the disk tells them.
     ghost file: { Self → Option (List ℕ) };
+
+    /// The images of the file that a crash at this moment may leave. A missing file is one without bytes.
+    ghost may_leave: { Self → List ℕ → Type 0 };
+
+    /// The moment, as a number that never falls.
+    ghost moment: { Self → ℕ };
+
+    /// The images that a crash at some moment from that one on might have left, during a call or between two.
+    ghost left_since: { Self → ℕ → List ℕ → Type 0 };
 
     /// Chooses the file of this name for all further calls. A fresh one is empty, in the place of whatever had
     /// the name; else the file stays.
@@ -35,6 +45,8 @@ pub trait Disk {
             → file self.new ≡ option_map (λ _. []) (file self.old) }
         ensures untold { file self.old ≡ None → file self.new ≡ None }
         ensures kept { fresh ≡ false → file self.new ≡ file self.old }
+        ensures images { fresh ≡ false → (image : List ℕ) → may_leave self.new image → may_leave self.old image }
+        ensures time { Elapses (moment self.old) (moment self.new) (left_since self.old) (left_since self.new) (may_leave self.new) }
         ensures failed { result ≡ DiskAnswer.Failed → Rose (faults self.old) (faults self.new) }
         ensures no_fall { faults self.old ≤ faults self.new };
 
@@ -46,20 +58,37 @@ pub trait Disk {
         ensures ended { result ≡ DiskRead.Read 0
             → (length into.old ≡ 0) ⊎ IfSome (file self.old) (λ bytes. length bytes ≤ at) }
         ensures kept { file self.new ≡ file self.old }
+        ensures images { (image : List ℕ) → may_leave self.new image → may_leave self.old image }
+        ensures time { Elapses (moment self.old) (moment self.new) (left_since self.old) (left_since self.new) (may_leave self.new) }
         ensures failed { result ≡ DiskRead.Failed → Rose (faults self.old) (faults self.new) }
         ensures no_fall { faults self.old ≤ faults self.new };
 
-    /// Writes bytes from `at` on, over what is there and past the end. Where it fails, any bytes may stand in the
-    /// range, and those past the old end may be missing.
+    /// Writes bytes from `at` on, over what is there and past the end. A write that begins past the end fails. Where
+    /// it fails, any bytes may stand in the range, and those past the old end may be missing. Until a sync that is
+    /// Done, whether the write was Done or failed, so may a crash leave it.
     fn write_at(&mut self, at: u32, bytes: &[u8]) -> DiskAnswer
         ensures written { result ≡ DiskAnswer.Done → Writes (file self.old) (file self.new) at bytes.now }
         ensures torn { result ≡ DiskAnswer.Failed → Tears (file self.old) (file self.new) at (length bytes.now) }
+        ensures images { ImagesTear (may_leave self.old) (may_leave self.new) at (length bytes.now) }
+        ensures time { Elapses (moment self.old) (moment self.new) (left_since self.old) (left_since self.new) (may_leave self.new) }
         ensures failed { result ≡ DiskAnswer.Failed → Rose (faults self.old) (faults self.new) }
         ensures no_fall { faults self.old ≤ faults self.new };
 
-    /// Brings what was written onto the disk.
+    /// Brings what was written onto the disk: where it is Done, a crash leaves what a read gives.
     fn sync(&mut self) -> DiskAnswer
+        ensures durable { result ≡ DiskAnswer.Done → IfSome (file self.old) (λ bytes. Only bytes (may_leave self.new)) }
         ensures kept { file self.new ≡ file self.old }
+        ensures images { (image : List ℕ) → may_leave self.new image → may_leave self.old image }
+        ensures time { Elapses (moment self.old) (moment self.new) (left_since self.old) (left_since self.new) (may_leave self.new) }
         ensures failed { result ≡ DiskAnswer.Failed → Rose (faults self.old) (faults self.new) }
         ensures no_fall { faults self.old ≤ faults self.new };
+
+    /// What a read gives is one of the images.
+    ghost read_is_image: { (disk : Self) → IfSome (file disk) (may_leave disk) };
+
+    /// This moment is one of those since an earlier one.
+    ghost counts_now: { (disk : Self) (start : ℕ) (image : List ℕ) → start ≤ moment disk → may_leave disk image → left_since disk start image };
+
+    /// Since this moment there is no other.
+    ghost only_now: { (disk : Self) (image : List ℕ) → left_since disk (moment disk) image → may_leave disk image };
 }

@@ -1,7 +1,8 @@
 //! Reading the front of a disk's file.
-ghost use Rattle.std.specs.Prelude.{◌≡◌, ◌⊎◌, ◌+◌, ◌-◌, ◌<◌, ◌≤◌, ◌++◌, length, take, drop, IfOk, IfErr, IfSome};
+ghost use Rattle.std.specs.Prelude.{◌≡◌, ◌⊎◌, ℕ, List, ◌+◌, ◌-◌, ◌<◌, ◌≤◌, ◌++◌, length, take, drop, IfOk, IfErr, IfSome};
 ghost use Rattle.key_store.specs.declared.refusals.StoreRefusal.TheVariants.{DiskFault};
-ghost use Rattle.key_store.specs.Disk.{IfRead, Rose};
+ghost use Rattle.outside.specs.Faults.{Rose};
+ghost use Rattle.key_store.specs.Disk.{Elapses, IfRead, LeavesOnly};
 ghost use Rattle.key_store.specs.Store.{IsFault};
 
 use crate::disk::{Disk, DiskRead};
@@ -13,6 +14,8 @@ pub fn read_front<D: Disk>(disk: &mut D, image: &mut [u8; 128]) -> Result<u32, S
     ensures read { IfOk result (λ size. IfSome (D.file disk.old) (λ file. take size image.new ≡ take 128 file)) }
     ensures refused { IfErr result (λ e. IsFault e (D.faults disk.old) (D.faults disk.new)) }
     ensures kept { D.file disk.new ≡ D.file disk.old }
+    ensures images { (image : List ℕ) → D.may_leave disk.new image → D.may_leave disk.old image }
+    ensures moments { LeavesOnly D.moment D.left_since disk.old disk.new (D.may_leave disk.old) }
     ensures no_fall { D.faults disk.old ≤ D.faults disk.new }
 {
     let mut size = 0;
@@ -40,6 +43,8 @@ fn read_more<D: Disk>(disk: &mut D, image: &mut [u8; 128], size: u32) -> DiskRea
     ensures ended { result ≡ DiskRead.Read 0 → IfSome (D.file disk.old) (λ file. length file ≤ size) }
     ensures failed { result ≡ DiskRead.Failed → Rose (D.faults disk.old) (D.faults disk.new) }
     ensures kept { D.file disk.new ≡ D.file disk.old }
+    ensures images { (image : List ℕ) → D.may_leave disk.new image → D.may_leave disk.old image }
+    ensures time { Elapses (D.moment disk.old) (D.moment disk.new) (D.left_since disk.old) (D.left_since disk.new) (D.may_leave disk.new) }
     ensures no_fall { D.faults disk.old ≤ D.faults disk.new }
 {
     disk.read_at(size, &mut image[size as usize..])

@@ -5,15 +5,14 @@ mod disk;
 mod front;
 mod layout;
 mod memory_disk;
-mod plan;
 mod refusals;
 mod room;
 mod steps;
+mod steps_taken;
 mod store;
 
 pub use disk::{Disk, DiskAnswer, DiskRead};
-pub use memory_disk::{MemoryDisk, SteadyDisk};
-pub use plan::FaultPlan;
+pub use memory_disk::MemoryDisk;
 pub use refusals::StoreRefusal;
 pub use store::{KeyFile, create};
 

@@ -1,7 +1,7 @@
 //! The bytes of a file in memory, in room that was taken before.
-ghost use Rattle.std.specs.Prelude.{◌≡◌, ◌⊎◌, ◌+◌, ◌<◌, ◌≤◌, ◌↔◌, [], length, IfOk, IsTrue};
-ghost use Rattle.std.specs.Bool.{OnFalse, OnTrue};
+ghost use Rattle.std.specs.Prelude.{◌≡◌, ◌⊎◌, ◌+◌, ◌<◌, ◌≤◌, [], length, IfOk};
 ghost use Rattle.key_store.specs.Disk.{IsFilled, overwritten};
+ghost use Rattle.key_store.specs.Memory.{fits};
 
 use std::alloc::{AllocError, Global};
 use std::marker::Model;
@@ -61,19 +61,23 @@ impl Room {
         read_from(self.bytes(), at, into)
     }
 
-    /// Writes bytes from `at` on, and says whether there was room. Else nothing is written.
-    pub fn write(&mut self, at: u32, bytes: &[u8]) -> bool
-        ensures room { IsTrue result ↔ (at + length bytes.now ≤ 128) }
-        ensures written { OnTrue result (at ≤ length self.old → self.new ≡ overwritten self.old at bytes.now) }
-        ensures kept { OnFalse result (self.new ≡ self.old) }
+    /// Whether bytes may be written from `at` on: there is room, and `at` is no place past the end.
+    pub fn fits(&self, at: u32, size: usize) -> bool
+        ensures value { result ≡ fits (length self.now) at size }
+        ensures within { length self.now ≤ 128 }
+    {
+        at <= self.size && size <= 128 - at as usize
+    }
+
+    /// Writes bytes from `at` on.
+    pub fn write(&mut self, at: u32, bytes: &[u8])
+        requires place { at ≤ length self.old }
+        requires room { at + length bytes.now ≤ 128 }
+        ensures { self.new ≡ overwritten self.old at bytes.now }
     {
         let at = at as usize;
-        if bytes.len() > 128 || at > 128 - bytes.len() {
-            return false;
-        }
         overwrite(&mut self.buffer, at, bytes);
         self.size = self.size.max((at + bytes.len()) as u32);
-        true
     }
 }
 

@@ -1,7 +1,10 @@
 //! The steps by which a key file is written: each changes the image in memory and the file alike.
 ghost use Rattle.std.specs.Prelude.{◌≡◌, ◌+◌, ◌<◌, ◌≤◌, ◌∷◌, [], length, option_map};
-ghost use Rattle.key_store.specs.Disk.{Rose, Tears, Writes, overwritten};
-ghost use Rattle.key_store.specs.KeyFiles.{IsSlot, Mirrors, closed, numbers, opened, raised, written};
+ghost use Rattle.outside.specs.Faults.{Rose};
+ghost use Rattle.key_store.specs.Disk.{IsTorn, LeavesOf, Tears, overwritten};
+ghost use Rattle.key_store.specs.Crashes.{IsMidway, IsRise};
+ghost use Rattle.key_store.specs.declared.layout.KeyContent.{KeyContent};
+ghost use Rattle.key_store.specs.KeyFiles.{IsAtRest, IsClosing, IsSlot, closed, numbers, opened, raised, written};
 
 use crate::disk::{Disk, DiskAnswer};
 use crate::room::overwrite;
@@ -9,12 +12,14 @@ use crate::room::overwrite;
 /// Writes bytes into the image and the file, and syncs.
 pub fn put<D: Disk>(disk: &mut D, image: &mut [u8; 128], at: u32, bytes: &[u8]) -> DiskAnswer
     requires within { at + length bytes.now ≤ 128 }
-    requires current { Mirrors (D.file disk.old) image.old }
+    requires current { IsAtRest (D.file disk.old) (D.may_leave disk.old) image.old }
     ensures image { image.new ≡ overwritten image.old at bytes.now }
     ensures done { result ≡ DiskAnswer.Done
         → D.file disk.new ≡ option_map (λ file. overwritten file at bytes.now) (D.file disk.old) }
-    ensures current { result ≡ DiskAnswer.Done → Mirrors (D.file disk.new) image.new }
+    ensures current { result ≡ DiskAnswer.Done → IsAtRest (D.file disk.new) (D.may_leave disk.new) image.new }
     ensures torn { Tears (D.file disk.old) (D.file disk.new) at (length bytes.now) }
+    ensures moments { LeavesOf D.moment D.left_since (D.file disk.old) disk.old disk.new
+        (λ file. IsTorn file at (length bytes.now)) }
     ensures failed { result ≡ DiskAnswer.Failed → Rose (D.faults disk.old) (D.faults disk.new) }
     ensures no_fall { D.faults disk.old ≤ D.faults disk.new }
 {
@@ -28,12 +33,13 @@ pub fn put<D: Disk>(disk: &mut D, image: &mut [u8; 128], at: u32, bytes: &[u8]) 
 /// Closes the gate of a slot. Where it reads 0 already it is not written, and there is a sync all the same.
 pub fn close_gate<D: Disk>(disk: &mut D, image: &mut [u8; 128], at: u32) -> DiskAnswer
     requires slot { IsSlot at }
-    requires current { Mirrors (D.file disk.old) image.old }
+    requires current { IsAtRest (D.file disk.old) (D.may_leave disk.old) image.old }
     ensures image { image.new ≡ closed image.old at }
     ensures done { result ≡ DiskAnswer.Done
         → D.file disk.new ≡ option_map (λ file. closed file at) (D.file disk.old) }
-    ensures current { result ≡ DiskAnswer.Done → Mirrors (D.file disk.new) image.new }
+    ensures current { result ≡ DiskAnswer.Done → IsAtRest (D.file disk.new) (D.may_leave disk.new) image.new }
     ensures torn { Tears (D.file disk.old) (D.file disk.new) at 1 }
+    ensures moments { LeavesOf D.moment D.left_since (D.file disk.old) disk.old disk.new (IsClosing at) }
     ensures failed { result ≡ DiskAnswer.Failed → Rose (D.faults disk.old) (D.faults disk.new) }
     ensures no_fall { D.faults disk.old ≤ D.faults disk.new }
 {
@@ -52,12 +58,13 @@ pub fn write_slot<D: Disk>(
     next: u32,
 ) -> DiskAnswer
     requires slot { IsSlot at }
-    requires current { Mirrors (D.file disk.old) image.old }
+    requires current { IsAtRest (D.file disk.old) (D.may_leave disk.old) image.old }
     ensures image { image.new ≡ written image.old at round next }
     ensures done { result ≡ DiskAnswer.Done
         → D.file disk.new ≡ option_map (λ file. written file at round next) (D.file disk.old) }
-    ensures current { result ≡ DiskAnswer.Done → Mirrors (D.file disk.new) image.new }
+    ensures current { result ≡ DiskAnswer.Done → IsAtRest (D.file disk.new) (D.may_leave disk.new) image.new }
     ensures torn { Tears (D.file disk.old) (D.file disk.new) (at + 1) 12 }
+    ensures moments { LeavesOf D.moment D.left_since (D.file disk.old) disk.old disk.new (λ file. IsTorn file (at + 1) 12) }
     ensures failed { result ≡ DiskAnswer.Failed → Rose (D.faults disk.old) (D.faults disk.new) }
     ensures no_fall { D.faults disk.old ≤ D.faults disk.new }
 {
@@ -67,12 +74,13 @@ pub fn write_slot<D: Disk>(
 /// Opens the gate of a slot.
 pub fn open_gate<D: Disk>(disk: &mut D, image: &mut [u8; 128], at: u32) -> DiskAnswer
     requires slot { IsSlot at }
-    requires current { Mirrors (D.file disk.old) image.old }
+    requires current { IsAtRest (D.file disk.old) (D.may_leave disk.old) image.old }
     ensures image { image.new ≡ opened image.old at }
     ensures done { result ≡ DiskAnswer.Done
         → D.file disk.new ≡ option_map (λ file. opened file at) (D.file disk.old) }
-    ensures current { result ≡ DiskAnswer.Done → Mirrors (D.file disk.new) image.new }
+    ensures current { result ≡ DiskAnswer.Done → IsAtRest (D.file disk.new) (D.may_leave disk.new) image.new }
     ensures torn { Tears (D.file disk.old) (D.file disk.new) at 1 }
+    ensures moments { LeavesOf D.moment D.left_since (D.file disk.old) disk.old disk.new (λ file. IsTorn file at 1) }
     ensures failed { result ≡ DiskAnswer.Failed → Rose (D.faults disk.old) (D.faults disk.new) }
     ensures no_fall { D.faults disk.old ≤ D.faults disk.new }
 {
@@ -89,9 +97,11 @@ pub fn raise<D: Disk>(
     next: u32,
 ) -> DiskAnswer
     requires slot { IsSlot at }
-    requires current { Mirrors (D.file disk.old) image.old }
+    requires current { IsAtRest (D.file disk.old) (D.may_leave disk.old) image.old }
     ensures image { result ≡ DiskAnswer.Done → image.new ≡ raised image.old at round next }
-    ensures current { result ≡ DiskAnswer.Done → Mirrors (D.file disk.new) image.new }
+    ensures moments { (content : KeyContent) → IsRise content image.old at round next
+        → LeavesOf D.moment D.left_since (D.file disk.old) disk.old disk.new (IsMidway content at) }
+    ensures current { result ≡ DiskAnswer.Done → IsAtRest (D.file disk.new) (D.may_leave disk.new) image.new }
     ensures failed { result ≡ DiskAnswer.Failed → Rose (D.faults disk.old) (D.faults disk.new) }
     ensures no_fall { D.faults disk.old ≤ D.faults disk.new }
 {

@@ -3,8 +3,10 @@ ghost use Rattle.std.specs.Prelude.{◌≡◌, ◌⊎◌, ◌≤◌, ◌∷◌, 
 ghost use Rattle.lms_tree.specs.Secret.{own_public, parts_of_master};
 ghost use Rattle.lms_tree.specs.States.{made_leaves, made_type};
 ghost use Rattle.key_store.specs.declared.refusals.StoreRefusal.TheVariants.{DiskFault, Memory};
-ghost use Rattle.key_store.specs.Disk.{Rose};
-ghost use Rattle.key_store.specs.KeyFiles.{Mirrors, key_read, made, new_content, opened, parts_in};
+ghost use Rattle.outside.specs.Faults.{Rose};
+ghost use Rattle.key_store.specs.Crashes.{Keeps, KeepsFront};
+ghost use Rattle.key_store.specs.Disk.{Every, Only};
+ghost use Rattle.key_store.specs.KeyFiles.{IsAtRest, Mirrors, key_read, made, new_content, opened, parts_in};
 ghost use Rattle.key_store.specs.Store.{FrontRefused, IsLoaded};
 
 use crate::disk::{Disk, DiskAnswer};
@@ -30,6 +32,8 @@ pub fn create<D: Disk>(
         (opened (made (parts_of_master (made_type height) width master.now)) 64)) }
     ensures reads { IfOk result (λ _. IfSome (D.file disk.new) (λ file.
         key_read (take 128 file) ≡ Ok (new_content height width master.now))) }
+    ensures durable { IfOk result (λ _. IfSome (D.file disk.new) (λ file. Only file (D.may_leave disk.new))) }
+    ensures keeps { IfOk result (λ _. IfSome (D.file disk.new) (λ _. Every (D.may_leave disk.new) (KeepsFront (new_content height width master.now)))) }
     ensures refused { IfErr result (λ e. ((e ≡ DiskFault) × Rose (D.faults disk.old) (D.faults disk.new))
         ⊎ ((e ≡ Memory) × (disk.new ≡ disk.old))) }
     ensures no_fall { D.faults disk.old ≤ D.faults disk.new }
@@ -97,7 +101,8 @@ fn first_content(height: MadeHeight, width: OtsType, master: &[u8; 32]) -> KeyCo
 
 // Writes the file of a new key, and then opens the gate of its first slot.
 fn write_made<D: Disk>(disk: &mut D, content: &KeyContent) -> DiskAnswer
-    ensures done { result ≡ DiskAnswer.Done → Mirrors (D.file disk.new) (opened (made (parts_in content.now)) 64) }
+    ensures done { result ≡ DiskAnswer.Done → IsAtRest (D.file disk.new) (D.may_leave disk.new) (opened (made (parts_in content.now)) 64) }
+    ensures keeps { result ≡ DiskAnswer.Done → Keeps record content.now { kept = record { round = 0; next = 0 } } (opened (made (parts_in content.now)) 64) }
     ensures reads { result ≡ DiskAnswer.Done → IfSome (D.file disk.new) (λ file.
         key_read (take 128 file) ≡ Ok record content.now { kept = record { round = 0; next = 0 } }) }
     ensures failed { result ≡ DiskAnswer.Failed → Rose (D.faults disk.old) (D.faults disk.new) }
@@ -135,9 +140,12 @@ impl Model for KeyFile {
 }
 
 impl KeyFile {
-    ghost use Rattle.std.specs.Prelude.{◌≡◌, ◌≢◌, ◌⊎◌, ◌+◌, ◌<◌, ◌≤◌, IsTrue, false, IfOk, IfErr, IfSome, take, Err};
+    ghost use Rattle.std.specs.Prelude.{◌≡◌, ◌≢◌, ◌⊎◌, ℕ, ◌+◌, ◌<◌, ◌≤◌, IsTrue, false, IfOk, IfErr, IfSome, take, Err};
     ghost use Rattle.lms_tree.specs.Secret.{own_public};
-    ghost use Rattle.key_store.specs.declared.refusals.StoreRefusal.TheVariants.{DiskFault, Exhausted, Memory, OldRound};
+    ghost use Rattle.key_store.specs.declared.layout.KeyContent.{KeyContent};
+    ghost use Rattle.key_store.specs.declared.refusals.StoreRefusal.TheVariants.{DiskFault, Exhausted, Memory, NotKeyFile, OldRound};
+    ghost use Rattle.key_store.specs.Crashes.{IsMidway, IsPaired, Keeps, KeepsFront};
+    ghost use Rattle.key_store.specs.Disk.{Every, LeavesOf, LeavesOnly};
     ghost use Rattle.key_store.specs.KeyFiles.{chosen, key_read, raised};
     ghost use Rattle.key_store.specs.Store.{IsCurrent, IsFault, IsLoaded, LoadRefused, kept_by, leaves_of};
 
@@ -146,12 +154,20 @@ impl KeyFile {
     pub fn load<D: Disk>(alloc: Global, disk: &mut D) -> Result<KeyFile, StoreRefusal>
         ensures loaded { IfOk result (λ key. IfSome (D.file disk.old) (λ file.
             IsLoaded (key_read (take 128 file)) (take 128 file) key)) }
-        ensures current { IfOk result (λ key. IsCurrent key (D.file disk.new)) }
+        ensures current { IfOk result (λ key. IsCurrent key (D.file disk.new) (D.may_leave disk.new)) }
         ensures works { IfOk result (λ key. key.failed ≡ false) }
         ensures refused { IfErr result (λ e.
             LoadRefused e (D.file disk.old) (D.faults disk.old) (D.faults disk.new)) }
         ensures kept { D.file disk.new ≡ D.file disk.old }
         ensures no_fall { D.faults disk.old ≤ D.faults disk.new }
+
+        // What every image keeps when the call begins, every image keeps at each moment, and the key file too.
+        ensures moments { (least : KeyContent) → Every (D.may_leave disk.old) (KeepsFront least)
+            → LeavesOnly D.moment D.left_since disk.old disk.new (KeepsFront least) }
+        ensures keeps { (least : KeyContent) → Every (D.may_leave disk.old) (KeepsFront least)
+            → IfOk result (λ key. IfSome (D.file disk.old) (λ _. Keeps least key.image)) }
+        ensures never_refused { (least : KeyContent) → Every (D.may_leave disk.old) (KeepsFront least)
+            → IfErr result (λ e. IfSome (D.file disk.old) (λ _. (at : ℕ) → e ≢ NotKeyFile at)) }
     {
         match disk.sync() {
             DiskAnswer::Done => {}
@@ -187,7 +203,7 @@ impl KeyFile {
         round: u64,
         leaves: u32,
     ) -> Result<LeafRun, StoreRefusal>
-        requires { IsCurrent self.old (D.file disk.old) }
+        requires { IsCurrent self.old (D.file disk.old) (D.may_leave disk.old) }
         ensures reserved { IfOk result (λ run.
             run ≡ record { parts = self.old.parts; first = (kept_by self.old).next; left = leaves }) }
         ensures raised { IfOk result (λ _. self.new ≡ record {
@@ -198,7 +214,7 @@ impl KeyFile {
         }) }
         ensures stands { IfOk result (λ _.
             kept_by self.new ≡ record { round = round; next = (kept_by self.old).next + leaves }) }
-        ensures current { IsCurrent self.new (D.file disk.new) }
+        ensures current { IsCurrent self.new (D.file disk.new) (D.may_leave disk.new) }
         ensures stopped { IsTrue self.old.failed
             → (result ≡ Err DiskFault) × (self.new ≡ self.old) × (disk.new ≡ disk.old) }
         ensures old_round { self.old.failed ≡ false → round ≤ (kept_by self.old).round
@@ -213,6 +229,12 @@ impl KeyFile {
         ensures faulted { IfErr result (λ e. e ≡ DiskFault → IsTrue self.new.failed) }
         ensures parts { self.new.parts ≡ self.old.parts }
         ensures no_fall { D.faults disk.old ≤ D.faults disk.new }
+
+        // At each moment of the call, every image keeps what the file said, and differs at most in the chosen slot.
+        ensures moments { self.old.failed ≡ false → 0 < leaves → IfOk (key_read self.old.image) (λ content. IsPaired self.old.image
+            → LeavesOf D.moment D.left_since (D.file disk.old) disk.old disk.new
+            (IsMidway content (chosen (leaves_of self.old) self.old.image))) }
+        ensures paired { IfOk result (λ _. 0 < leaves → IsPaired self.old.image → IsPaired self.new.image) }
     {
         if self.failed {
             return Err(StoreRefusal::DiskFault);

@@ -1,7 +1,7 @@
 ghost use Rattle.std.specs.Prelude.{IfOk};
 ghost use Rattle.key_store.specs.Store.{IsCurrent};
 
-use crate::{Disk, DiskAnswer, KeyFile, MemoryDisk, SteadyDisk, StoreRefusal, create};
+use crate::{Disk, DiskAnswer, KeyFile, MemoryDisk, StoreRefusal, create};
 use lms_tree::{LmsPublic, MadeHeight, OtsType};
 use std::alloc::Global;
 use std::test::Fail;
@@ -16,7 +16,7 @@ fn made<D: Disk>(alloc: Global, disk: &mut D) -> Result<LmsPublic, Fail> {
 }
 
 fn loaded<D: Disk>(alloc: Global, disk: &mut D) -> Result<KeyFile, Fail>
-    ensures { IfOk result (λ key. IsCurrent key (D.file disk.new)) }
+    ensures { IfOk result (λ key. IsCurrent key (D.file disk.new) (D.may_leave disk.new)) }
 {
     match KeyFile::load(alloc, disk) {
         Ok(key) => Ok(key),
@@ -32,8 +32,8 @@ fn begun<D: Disk>(
     round: u64,
     leaves: u32,
 ) -> Result<(u32, u32), StoreRefusal>
-    requires { IsCurrent key.old (D.file disk.old) }
-    ensures { IsCurrent key.new (D.file disk.new) }
+    requires { IsCurrent key.old (D.file disk.old) (D.may_leave disk.old) }
+    ensures { IsCurrent key.new (D.file disk.new) (D.may_leave disk.new) }
 {
     match key.begin_round(alloc, disk, round, leaves) {
         Ok(run) => {
@@ -48,7 +48,7 @@ fn begun<D: Disk>(
 #[test]
 fn what_was_begun_is_kept(rt: HostRuntime) -> Result<(), Fail> {
     let alloc = rt.alloc();
-    let mut disk = MemoryDisk::new(alloc, vec![in alloc; 15]?)?;
+    let mut disk = MemoryDisk::new(alloc, 40, vec![in alloc; 15]?)?;
     let public = made(alloc, &mut disk)?;
     let mut key = loaded(alloc, &mut disk)?;
     assert!(rt; key.public() == public);
@@ -77,7 +77,7 @@ fn leaves_are_handed_out_to_the_last(rt: HostRuntime) -> Result<(), Fail> {
         (21, Err(StoreRefusal::Exhausted { next: 21 })),
         (20, Ok((20, 12))),
     ] {
-        let mut disk = SteadyDisk::new(alloc)?;
+        let mut disk = MemoryDisk::new(alloc, 40, Vec::new(alloc))?;
         made(alloc, &mut disk)?;
         let mut key = loaded(alloc, &mut disk)?;
         assert!(rt; begun(&mut key, alloc, &mut disk, 1, used) == Ok((0, used)));
@@ -101,7 +101,7 @@ fn changed(alloc: Global, place: usize, size: usize) -> Result<Option<StoreRefus
     if place < 128 {
         bytes[place] = 9;
     }
-    let mut disk = SteadyDisk::holding(alloc, &bytes[..size.min(128)])?;
+    let mut disk = MemoryDisk::holding(alloc, &bytes[..size.min(128)], 40, Vec::new(alloc))?;
     Ok(KeyFile::load(alloc, &mut disk).err())
 }
 
@@ -122,7 +122,7 @@ fn the_first_place_that_is_wrong_is_told(rt: HostRuntime) -> Result<(), Fail> {
     ] {
         assert!(rt; changed(alloc, place, size)? == Some(StoreRefusal::NotKeyFile { at }));
     }
-    let mut disk = SteadyDisk::holding(alloc, &[0; 128])?;
+    let mut disk = MemoryDisk::holding(alloc, &[0; 128], 40, Vec::new(alloc))?;
     let at = 0;
     assert!(rt; KeyFile::load(alloc, &mut disk).err() == Some(StoreRefusal::NotKeyFile { at }));
     let name = String::from_str(alloc, "key")?;

@@ -1,5 +1,8 @@
 use Rattle.std.proofs.Common.{sym, refl, arith}
 use Rattle.key_store.proofs.Keys.{HasBegun, IsOf, enough_left, has_begun, raised_state, reserved_run, is_of, not_enough, not_later, not_old, not_short, same_exhausted, same_old}
+use Rattle.key_store.specs.Crashes.{IsMidway}
+use Rattle.key_store.specs.Disk.{LeavesOf}
+use Rattle.key_store.proofs.Begun.{begun_paired, raised_midway, still_midway}
 use Rattle.key_store.proofs.store.KeyFile.begin_round.Goals as goal
 
 pub returns-then-round-kept-clause-old_round : goal.returns-then-round-kept-clause-old_round
@@ -130,3 +133,47 @@ returns-in-Done-clause-stands g c =
     (enough_left c.args.leaves c.leaves-total.result _ c.in-Ok.content.kept.next c.if-leaves-total.false c.leaves-total.ensures c.in-Ok.ensures.within)
     (c.in-Done.ensures.image refl) c.in-Ok-reserve.ensures.risen in
     has.kept
+
+pub returns-then-round-kept-clause-moments : goal.returns-then-round-kept-clause-moments
+returns-then-round-kept-clause-moments g c = λ works some.
+    still_midway g.D.Disk.file g.D.Disk.may_leave g.D.Disk.moment g.D.Disk.left_since g.met.D.Disk.only_now c.args.disk.now c.args.self.now.image _ (c.requires works)
+
+pub returns-then-leaves-total-clause-moments : goal.returns-then-leaves-total-clause-moments
+returns-then-leaves-total-clause-moments g c = λ works some.
+    still_midway g.D.Disk.file g.D.Disk.may_leave g.D.Disk.moment g.D.Disk.left_since g.met.D.Disk.only_now c.args.disk.now c.args.self.now.image _ (c.requires works)
+
+pub returns-in-Err-clause-moments : goal.returns-in-Err-clause-moments
+returns-in-Err-clause-moments g c = λ works some.
+    still_midway g.D.Disk.file g.D.Disk.may_leave g.D.Disk.moment g.D.Disk.left_since g.met.D.Disk.only_now c.args.disk.now c.args.self.now.image _ (c.requires works)
+
+pub returns-in-Done-clause-moments : goal.returns-in-Done-clause-moments
+returns-in-Done-clause-moments g c = λ works some.
+    let of : IsOf c.args.self.now c.self.inside.secret c.in-Ok.content =
+    is_of c.args.self.now c.self.inside.image c.self.inside.secret c.self.inside.failed c.in-Ok.content c.self.view_is
+    (c.self.invariant c.if-self.false) (sym c.in-Ok.ensures.value) in
+    let enough = enough_left c.args.leaves c.leaves-total.result _ c.in-Ok.content.kept.next c.if-leaves-total.false c.leaves-total.ensures c.in-Ok.ensures.within in
+    raised_midway (λ content at. LeavesOf g.D.Disk.moment g.D.Disk.left_since (g.D.Disk.file c.args.disk.now) c.args.disk.now c.raise.new.disk (IsMidway content at))
+    c.args.self.now c.self.inside.image c.self.inside.secret c.self.inside.failed c.in-Ok.content c.chosen-at.result c.leaves-total.result c.args.round c.args.leaves
+    c.self.view_is of c.leaves-total.ensures c.chosen-at.ensures.value (sym c.in-Ok.ensures.value) c.if-round-kept.false enough some
+    (λ rise. c.raise.ensures.moments c.in-Ok.content rise)
+
+pub returns-in-Failed-clause-moments : goal.returns-in-Failed-clause-moments
+returns-in-Failed-clause-moments g c = λ works some.
+    let of : IsOf c.args.self.now c.self.inside.secret c.in-Ok.content =
+    is_of c.args.self.now c.self.inside.image c.self.inside.secret c.self.inside.failed c.in-Ok.content c.self.view_is
+    (c.self.invariant c.if-self.false) (sym c.in-Ok.ensures.value) in
+    let enough = enough_left c.args.leaves c.leaves-total.result _ c.in-Ok.content.kept.next c.if-leaves-total.false c.leaves-total.ensures c.in-Ok.ensures.within in
+    raised_midway (λ content at. LeavesOf g.D.Disk.moment g.D.Disk.left_since (g.D.Disk.file c.args.disk.now) c.args.disk.now c.raise.new.disk (IsMidway content at))
+    c.args.self.now c.self.inside.image c.self.inside.secret c.self.inside.failed c.in-Ok.content c.chosen-at.result c.leaves-total.result c.args.round c.args.leaves
+    c.self.view_is of c.leaves-total.ensures c.chosen-at.ensures.value (sym c.in-Ok.ensures.value) c.if-round-kept.false enough some
+    (λ rise. c.raise.ensures.moments c.in-Ok.content rise)
+
+pub returns-in-Done-clause-paired : goal.returns-in-Done-clause-paired
+returns-in-Done-clause-paired g c = λ some paired.
+    let of : IsOf c.args.self.now c.self.inside.secret c.in-Ok.content =
+    is_of c.args.self.now c.self.inside.image c.self.inside.secret c.self.inside.failed c.in-Ok.content c.self.view_is
+    (c.self.invariant c.if-self.false) (sym c.in-Ok.ensures.value) in
+    let enough = enough_left c.args.leaves c.leaves-total.result _ c.in-Ok.content.kept.next c.if-leaves-total.false c.leaves-total.ensures c.in-Ok.ensures.within in
+    begun_paired c.args.self.now c.self.inside.image c.raise.new.image c.self.inside.secret c.self.inside.failed c.in-Ok.content c.chosen-at.result c.leaves-total.result
+    c.args.round c.args.leaves c.self.view_is c.in-Ok.ensures.whole (omega (arith, c.ranges.round.fits)) c.leaves-total.ensures c.chosen-at.ensures.value
+    (sym c.in-Ok.ensures.value) c.if-round-kept.false enough (c.in-Done.ensures.image refl) some paired

@@ -1,0 +1,23 @@
+use Rattle.std.proofs.Common.{◌∙◌, ◌≤◌, length, ap, arith}
+use Rattle.key_store.specs.Memory.{DiskState, after_call, fails_step, file_of}
+use Rattle.key_store.proofs.Disks.{fits_place, overwrites, passes_call}
+use Rattle.key_store.proofs.memory_disk.MemoryDiskDisk.write_at.Goals as goal
+
+pub returns-clause-written : goal.returns-clause-written
+returns-clause-written c =
+    let is = c.step.ensures.after ∙ ap (after_call (fails_step c.args.self.now) c.args.self.now) c.write_step.ensures in
+    let reads = ap length (c.self.invariant.reads ∙ ap (λ (d : DiskState). file_of d) c.self.view_is) in
+    let place = fits_place (length c.self.inside.file) c.args.at (length c.args.bytes.now) c.fits.result c.fits.ensures.value c.if-not-fits.false in
+    let within : c.args.at ≤ length (file_of c.args.self.now) = omega (arith, reads, place) in
+    (overwrites _ _ _ _ c.args.at c.args.bytes.now c.step.ensures.answer is (λ passes. within)).written
+
+pub returns-clause-images : goal.returns-clause-images
+returns-clause-images c =
+    let is = c.step.ensures.after ∙ ap (after_call (fails_step c.args.self.now) c.args.self.now) c.write_step.ensures in
+    let reads = ap length (c.self.invariant.reads ∙ ap (λ (d : DiskState). file_of d) c.self.view_is) in
+    let place = fits_place (length c.self.inside.file) c.args.at (length c.args.bytes.now) c.fits.result c.fits.ensures.value c.if-not-fits.false in
+    let within : c.args.at ≤ length (file_of c.args.self.now) = omega (arith, reads, place) in
+    (overwrites _ _ _ _ c.args.at c.args.bytes.now c.step.ensures.answer is (λ passes. within)).images
+
+pub returns-clause-time : goal.returns-clause-time
+returns-clause-time c = (passes_call _ _ _ _ c.step.ensures.after).time

@@ -1,0 +1,28 @@
+use Rattle.std.proofs.Common.{refl, arith}
+use Rattle.key_store.proofs.Files.{rest_mirrors}
+use Rattle.key_store.proofs.Midway.{run_closing, run_opening, run_writing}
+use Rattle.key_store.proofs.steps.raise.Goals as goal
+
+pub returns-in-Failed-clause-moments : goal.returns-in-Failed-clause-moments
+returns-in-Failed-clause-moments g c = λ content rise.
+    run_closing content c.args.image.now c.args.at c.args.round c.args.next c.told-image (omega (arith, c.ranges.round.fits)) rise g.D.Disk.may_leave g.D.Disk.moment g.D.Disk.left_since
+    _ c.args.disk.now c.close_gate.new.disk (rest_mirrors _ _ _ c.requires.current) c.close_gate.ensures.moments
+
+pub returns-in-Failed-write_slot-clause-moments : goal.returns-in-Failed-write_slot-clause-moments
+returns-in-Failed-write_slot-clause-moments g c = λ content rise.
+    let mirrors = rest_mirrors _ _ _ c.requires.current in
+    let closing = run_closing content c.args.image.now c.args.at c.args.round c.args.next c.told-image (omega (arith, c.ranges.round.fits)) rise g.D.Disk.may_leave g.D.Disk.moment g.D.Disk.left_since
+    (g.D.Disk.file c.args.disk.now) c.args.disk.now c.close_gate.new.disk mirrors c.close_gate.ensures.moments in
+    run_writing content c.args.image.now c.args.at c.args.round c.args.next c.told-image (omega (arith, c.ranges.round.fits)) rise g.D.Disk.may_leave g.D.Disk.moment g.D.Disk.left_since
+    _ (g.D.Disk.file c.close_gate.new.disk) c.args.disk.now c.close_gate.new.disk c.write_slot.new.disk mirrors (c.in-Done.ensures.done refl) closing c.write_slot.ensures.moments
+
+pub returns-in-Done-write_slot-clause-moments : goal.returns-in-Done-write_slot-clause-moments
+returns-in-Done-write_slot-clause-moments g c = λ content rise.
+    let mirrors = rest_mirrors _ _ _ c.requires.current in
+    let closing = run_closing content c.args.image.now c.args.at c.args.round c.args.next c.told-image (omega (arith, c.ranges.round.fits)) rise g.D.Disk.may_leave g.D.Disk.moment g.D.Disk.left_since
+    (g.D.Disk.file c.args.disk.now) c.args.disk.now c.close_gate.new.disk mirrors c.close_gate.ensures.moments in
+    let writing = run_writing content c.args.image.now c.args.at c.args.round c.args.next c.told-image (omega (arith, c.ranges.round.fits)) rise g.D.Disk.may_leave g.D.Disk.moment g.D.Disk.left_since
+    (g.D.Disk.file c.args.disk.now) (g.D.Disk.file c.close_gate.new.disk) c.args.disk.now c.close_gate.new.disk c.write_slot.new.disk mirrors (c.in-Done.ensures.done refl) closing c.write_slot.ensures.moments in
+    run_opening content c.args.image.now c.args.at c.args.round c.args.next c.told-image (omega (arith, c.ranges.round.fits)) rise g.D.Disk.may_leave g.D.Disk.moment g.D.Disk.left_since
+    _ (g.D.Disk.file c.close_gate.new.disk) (g.D.Disk.file c.write_slot.new.disk) c.args.disk.now c.write_slot.new.disk c.open_gate.new.disk mirrors (c.in-Done.ensures.done refl)
+    (c.in-Done-write_slot.ensures.done refl) writing c.open_gate.ensures.moments
