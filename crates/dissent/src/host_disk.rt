@@ -1,4 +1,5 @@
-//! A file of the system as the disk of a key file. It tells nothing of the file's bytes, and counts its faults.
+//! A file of the system as the disk of a key file. It tells nothing of the file's bytes, of
+//! which a crash may leave any as far as its contract says, and counts its faults.
 ghost use Rattle.std.specs.Prelude.{◌≤◌, IfOk, None, length};
 
 use key_store::{Disk, DiskAnswer, DiskRead};
@@ -38,6 +39,18 @@ impl<'a, R: rt::Files> Disk for HostDisk<'a, R> {
     ghost faults = { λ disk. disk_faults disk };
 
     ghost file = { λ _. None };
+
+    ghost may_leave = { λ _ _. Unit {0} };
+
+    ghost moment = { λ _. 0 };
+
+    ghost left_since = { λ _ _ _. Unit {0} };
+
+    ghost read_is_image = { λ _. tt };
+
+    ghost counts_now = { λ _ _ _ _ _. tt };
+
+    ghost only_now = { λ _ _ _. tt };
 
     fn choose(&mut self, name: &String, fresh: bool) -> DiskAnswer {
         self.file = None;

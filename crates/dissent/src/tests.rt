@@ -1,7 +1,7 @@
 //! Commands over files and sinks in memory, and the adapters over real files.
 
 use super::*;
-use key_store::{Disk, DiskAnswer, DiskRead, MemoryDisk, SteadyDisk};
+use key_store::{Disk, DiskAnswer, DiskRead, MemoryDisk};
 use std::alloc::Global;
 use std::test::Fail;
 use std::thread::Threads;
@@ -42,7 +42,7 @@ pub(crate) fn run_words<R: Threads + Sync>(
     files: &mut MemoryFiles,
 ) -> Result<(Status, MemorySink), AllocError> {
     let words = words_of(alloc, words)?;
-    let mut disk = SteadyDisk::new(alloc)?;
+    let mut disk = MemoryDisk::new(alloc, 8, Vec::new(alloc))?;
     let mut out = MemorySink::new(alloc, Vec::new(alloc));
     let status = run_offline(rt, alloc, &words, files, &mut disk, FRESH, &mut out);
     Ok((status, out))
@@ -155,7 +155,7 @@ fn a_failed_first_write_is_a_write_fault(rt: HostRuntime) -> Result<(), Fail> {
     let words = words_of(alloc, &JUDGE)?;
     let mut files = files_of(alloc, Vec::new(alloc), &[])?;
     let mut out = MemorySink::new(alloc, vec![in alloc; 1]?);
-    let mut disk = SteadyDisk::new(alloc)?;
+    let mut disk = MemoryDisk::new(alloc, 8, Vec::new(alloc))?;
     let status = run_offline(&rt, alloc, &words, &mut files, &mut disk, FRESH, &mut out);
     assert_eq!(rt; status.number(), 6);
     assert_eq!(rt; out.written().len(), 0);
@@ -263,7 +263,7 @@ fn a_failed_disk_is_a_disk_fault(rt: HostRuntime) -> Result<(), Fail> {
     let words = words_of(alloc, &KEYGEN)?;
     let mut files = MemoryFiles::new(alloc, Vec::new(alloc));
     let mut out = MemorySink::new(alloc, Vec::new(alloc));
-    let mut disk = MemoryDisk::new(alloc, vec![in alloc; 1]?)?;
+    let mut disk = MemoryDisk::new(alloc, 8, vec![in alloc; 1]?)?;
     let status = run_offline(&rt, alloc, &words, &mut files, &mut disk, FRESH, &mut out);
     assert_eq!(rt; status.number(), 8);
     assert_eq!(rt; out.written(), b"disk fault\n".as_slice());

@@ -99,20 +99,37 @@ pub record Passes (old new : DiskState) : Type 0 where
   pub time : Elapses (moment_of old) (moment_of new) (LeftSince old) (LeftSince new) (MayLeave new)
 
 elapses_still : (disk : DiskState) → Elapses (moment_of disk) (moment_of disk) (LeftSince disk) (LeftSince disk) (MayLeave disk)
+unfolding file_of LeftSince MayLeave moment_of
 elapses_still disk = record { later = omega arith; nothing_else = λ start image until left. inl left; keeps = λ start image until left. left }
 
 pub passes_call : (fails : Bool) (old new : DiskState) (step : Step) → new ≡ after_call fails old step → Passes old new
+unfolding file_of LeftSince MayLeave moment_of
 passes_call true old new step is = subst (Passes old) (sym is) record { time = elapses_still old }
 passes_call false old new step is = subst (Passes old) (sym is) record { time = elapses_push old.first old.steps step }
 
 pub passes_look : (old new : DiskState) → new ≡ looks old → Passes old new
+unfolding file_of LeftSince MayLeave moment_of
 passes_look old new is = by_case (fails_any old) is
   where
     by_case : (fails : Bool) → new ≡ (if fails then after_fault old else after_look old) → Passes old new
     by_case true is = subst (Passes old) (sym is) record { time = elapses_still old }
     by_case false is = subst (Passes old) (sym is) record { time = elapses_still old }
 
+-- a call that does nothing to the file leaves it, and what a crash may leave
+pub record IsStill (old new : DiskState) : Type 0 where
+  pub kept : file_of new ≡ file_of old
+  pub images : (image : List ℕ) → MayLeave new image → MayLeave old image
+
+pub still : (old new : DiskState) → new ≡ looks old → IsStill old new
+unfolding file_of MayLeave
+still old new is = by_case (fails_any old) is
+  where
+    by_case : (fails : Bool) → new ≡ (if fails then after_fault old else after_look old) → IsStill old new
+    by_case true is = subst (IsStill old) (sym is) record { kept = refl; images = λ image left. left }
+    by_case false is = subst (IsStill old) (sym is) record { kept = refl; images = λ image left. left }
+
 pub emptied : (fails : Bool) (answer : DiskAnswer) (old new : DiskState) → answer ≡ answer_of fails → new ≡ after_call fails old Emptied → answer ≡ Done → file_of new ≡ []
+unfolding file_of LeftSince MayLeave moment_of
 emptied true answer old new told is done = absurd (cc)
 emptied false answer old new told is done = ap file_of is ∙ file-push old.first old.steps Emptied
 
@@ -129,6 +146,7 @@ pub record Syncs (answer : DiskAnswer) (old new : DiskState) : Type 0 where
   pub images : (image : List ℕ) → MayLeave new image → MayLeave old image
 
 pub syncs : (fails : Bool) (answer : DiskAnswer) (old new : DiskState) → answer ≡ answer_of fails → new ≡ after_call fails old Synced → Syncs answer old new
+unfolding file_of LeftSince MayLeave moment_of
 syncs true answer old new told is =
     subst (Syncs answer old) (sym is) record { durable = λ done. absurd (cc); kept = refl; images = λ image left. left }
 syncs false answer old new told is =
@@ -150,6 +168,7 @@ pub record Overwrites (answer : DiskAnswer) (old new : DiskState) (at : ℕ) (by
 
 pub overwrites : (fails : Bool) (answer : DiskAnswer) (old new : DiskState) (at : ℕ) (bytes : List ℕ)
     → answer ≡ answer_of fails → new ≡ after_call fails old (write_step at bytes) → (fails ≡ false → at ≤ length (file_of old)) → Overwrites answer old new at bytes
+unfolding file_of LeftSince MayLeave moment_of
 overwrites true answer old new at bytes told is within =
     subst (λ (d : DiskState). Overwrites answer old d at bytes) (sym is) record {
       written = λ done. absurd (cc);

@@ -2,7 +2,7 @@
 -- the disk's plan.
 use Rattle.std.specs.Prelude.{◌≡◌, ◌⊎◌, ◌==◌, ◌&&◌, ◌||◌, ℕ, ◌+◌, ◌-◌, ◌<◌, ◌≤◌, nat_le, if◌then◌else◌, Bool, false, not, List, [], ◌∷◌, ◌++◌, length, take, replicate, Option, Some, None}
 use Rattle.outside.specs.Plans.{PlanState, call_counted, fails_next, fault_counted}
-use Rattle.std.proofs.Common.{inl, inr}
+use Rattle.std.proofs.Common.{inl, inr, refl}
 use Rattle.std.proofs.Math.Nat.{not-le_of_lt}
 use Rattle.key_store.specs.Disk.{IsTorn, overwritten}
 use Rattle.key_store.specs.declared.disk.DiskAnswer.{DiskAnswer}
@@ -87,21 +87,30 @@ new_disk file room plan = record { first = file; steps = []; room = room; plan =
 abbrev pub contents_of : DiskState → Contents
 contents_of disk = after_steps (synced disk.first) disk.steps
 
-abbrev pub file_of : DiskState → List ℕ
+unfoldable pub file_of : DiskState → List ℕ
 file_of disk = (contents_of disk).file
 
 -- what a crash may leave, and what a crash since so many steps might have left
-abbrev pub MayLeave : DiskState → List ℕ → Type 0
+unfoldable pub MayLeave : DiskState → List ℕ → Type 0
 MayLeave disk image = IsImage (contents_of disk) image
 
-abbrev pub moment_of : DiskState → ℕ
+unfoldable pub moment_of : DiskState → ℕ
 moment_of disk = length disk.steps
 
-abbrev pub LeftSince : DiskState → ℕ → List ℕ → Type 0
+unfoldable pub LeftSince : DiskState → ℕ → List ℕ → Type 0
 LeftSince disk start image =
     MayLeave disk image ⊎ ((count : ℕ) × (start ≤ count) × (count < length disk.steps) × IsImage (after_steps (synced disk.first) (take count disk.steps)) image)
 
+pub read_is_image : (disk : DiskState) → MayLeave disk (file_of disk)
+unfolding file_of MayLeave
+read_is_image disk = inl refl
+
+pub counts_now : (disk : DiskState) (start : ℕ) (image : List ℕ) → start ≤ moment_of disk → MayLeave disk image → LeftSince disk start image
+unfolding LeftSince
+counts_now disk start image until now = inl now
+
 pub only_now : (disk : DiskState) (image : List ℕ) → LeftSince disk (moment_of disk) image → MayLeave disk image
+unfolding LeftSince moment_of
 only_now disk image (inl now) = now
 only_now disk image (inr earlier) = absurd (not-le_of_lt earlier.2 earlier.1)
 

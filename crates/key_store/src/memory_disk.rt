@@ -73,6 +73,7 @@ impl MemoryDisk {
     }
 
     /// The bytes of the file, as a read gives them.
+    #[tactic(auto, unfolding(crate::specs::Memory::file_of))]
     pub fn file(&self) -> &[u8]
         ensures { result.now ≡ file_of self.now }
     {
@@ -125,6 +126,7 @@ impl MemoryDisk {
     }
 
     // Counts a call, and does its step to the file where it does not fail.
+    #[tactic(auto, unfolding(crate::specs::Memory::file_of))]
     fn step(&mut self, step: Step) -> DiskAnswer
         requires { StepFits (file_of self.old) step }
         ensures answer { result ≡ answer_of (fails_step self.old) }
@@ -171,11 +173,10 @@ fn write_step(at: u32, bytes: &[u8]) -> Step
 }
 
 impl Disk for MemoryDisk {
-    ghost use Rattle.std.specs.Prelude.{false, refl};
-    ghost use Rattle.std.proofs.Common.{inl};
+    ghost use Rattle.std.specs.Prelude.{false};
     ghost use Rattle.outside.specs.Faults.{Rose};
     ghost use Rattle.key_store.specs.Disk.{Elapses, IfRead, ImagesTear, IsFilled, Only, Tears, Writes};
-    ghost use Rattle.key_store.specs.Memory.{fails_write, LeftSince, MayLeave, moment_of, only_now};
+    ghost use Rattle.key_store.specs.Memory.{fails_write, LeftSince, MayLeave, counts_now, moment_of, only_now, read_is_image};
 
     ghost faults = { λ disk. disk.plan.faults };
 
@@ -187,9 +188,9 @@ impl Disk for MemoryDisk {
 
     ghost left_since = { LeftSince };
 
-    ghost read_is_image = { λ disk. inl refl };
+    ghost read_is_image = { read_is_image };
 
-    ghost counts_now = { λ disk start image until now. inl now };
+    ghost counts_now = { counts_now };
 
     ghost only_now = { only_now };
 
@@ -211,6 +212,7 @@ impl Disk for MemoryDisk {
         self.look()
     }
 
+    #[tactic(auto, unfolding(crate::specs::Memory::file_of))]
     fn read_at(&mut self, at: u32, into: &mut [u8]) -> DiskRead
         ensures planned { (result ≡ DiskRead.Failed) ↔ IsTrue (fails_any self.old) }
         ensures after { self.new ≡ looks self.old }
@@ -232,6 +234,7 @@ impl Disk for MemoryDisk {
         }
     }
 
+    #[tactic(auto, unfolding(crate::specs::Memory::file_of))]
     fn write_at(&mut self, at: u32, bytes: &[u8]) -> DiskAnswer
         ensures answer { result ≡ answer_of (fails_write self.old at (length bytes.now)) }
         ensures after { self.new ≡ after_call (fails_write self.old at (length bytes.now)) self.old (write_step at bytes.now) }

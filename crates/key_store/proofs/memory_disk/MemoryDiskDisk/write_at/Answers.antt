@@ -1,9 +1,12 @@
-use Rattle.std.proofs.Common.{◌∙◌, ◌≤◌, length, ap, arith}
+use Rattle.std.proofs.Common.{◌∙◌, ◌≤◌, length, ap, arith, refl, true}
+use Rattle.key_store.specs.declared.disk.DiskAnswer.TheVariants.{Failed}
+use Rattle.key_store.specs.declared.steps_taken.Step.TheVariants.{Synced}
 use Rattle.key_store.specs.Memory.{DiskState, after_call, fails_step, file_of}
 use Rattle.key_store.proofs.Disks.{fits_place, overwrites, passes_call}
 use Rattle.key_store.proofs.memory_disk.MemoryDiskDisk.write_at.Goals as goal
 
 pub returns-clause-written : goal.returns-clause-written
+unfolding file_of
 returns-clause-written c =
     let is = c.step.ensures.after ∙ ap (after_call (fails_step c.args.self.now) c.args.self.now) c.write_step.ensures in
     let reads = ap length (c.self.invariant.reads ∙ ap (λ (d : DiskState). file_of d) c.self.view_is) in
@@ -12,6 +15,7 @@ returns-clause-written c =
     (overwrites _ _ _ _ c.args.at c.args.bytes.now c.step.ensures.answer is (λ passes. within)).written
 
 pub returns-clause-images : goal.returns-clause-images
+unfolding file_of
 returns-clause-images c =
     let is = c.step.ensures.after ∙ ap (after_call (fails_step c.args.self.now) c.args.self.now) c.write_step.ensures in
     let reads = ap length (c.self.invariant.reads ∙ ap (λ (d : DiskState). file_of d) c.self.view_is) in
@@ -21,3 +25,10 @@ returns-clause-images c =
 
 pub returns-clause-time : goal.returns-clause-time
 returns-clause-time c = (passes_call _ _ _ _ c.step.ensures.after).time
+
+pub returns-then-not-fits-clause-images : goal.returns-then-not-fits-clause-images
+returns-then-not-fits-clause-images c =
+    (overwrites true Failed c.args.self.now c.fails.new.self c.args.at c.args.bytes.now refl c.fails.ensures.after (λ e. absurd (cc))).images
+
+pub returns-then-not-fits-clause-time : goal.returns-then-not-fits-clause-time
+returns-then-not-fits-clause-time c = (passes_call true c.args.self.now c.fails.new.self Synced c.fails.ensures.after).time
