@@ -1,7 +1,7 @@
 //! The steps by which a key file is written: each changes the image in memory and the file alike.
-ghost use Rattle.std.specs.Prelude.{◌≡◌, ◌+◌, ◌<◌, ◌≤◌, ◌∷◌, [], length, option_map};
+ghost use Rattle.std.specs.Prelude.{◌≡◌, ℕ, List, IfSome, ◌+◌, ◌<◌, ◌≤◌, ◌∷◌, [], length, option_map};
 ghost use Rattle.outside.specs.Faults.{Rose};
-ghost use Rattle.key_store.specs.Disk.{IsTorn, LeavesOf, Tears, overwritten};
+ghost use Rattle.key_store.specs.Disk.{Elapses, IsTorn, LeavesOf, Only, Tears, overwritten};
 ghost use Rattle.key_store.specs.Crashes.{IsMidway, IsRise};
 ghost use Rattle.key_store.specs.declared.layout.KeyContent.{KeyContent};
 ghost use Rattle.key_store.specs.KeyFiles.{IsAtRest, IsClosing, IsSlot, closed, numbers, opened, raised, written};
@@ -25,9 +25,21 @@ pub fn put<D: Disk>(disk: &mut D, image: &mut [u8; 128], at: u32, bytes: &[u8]) 
 {
     overwrite(image, at as usize, bytes);
     match disk.write_at(at, bytes) {
-        DiskAnswer::Done => disk.sync(),
+        DiskAnswer::Done => settle(disk),
         DiskAnswer::Failed => DiskAnswer::Failed,
     }
+}
+
+// Brings what was written onto the disk.
+fn settle<D: Disk>(disk: &mut D) -> DiskAnswer
+    ensures durable { result ≡ DiskAnswer.Done → IfSome (D.file disk.old) (λ bytes. Only bytes (D.may_leave disk.new)) }
+    ensures kept { D.file disk.new ≡ D.file disk.old }
+    ensures images { (image : List ℕ) → D.may_leave disk.new image → D.may_leave disk.old image }
+    ensures time { Elapses (D.moment disk.old) (D.moment disk.new) (D.left_since disk.old) (D.left_since disk.new) (D.may_leave disk.new) }
+    ensures failed { result ≡ DiskAnswer.Failed → Rose (D.faults disk.old) (D.faults disk.new) }
+    ensures no_fall { D.faults disk.old ≤ D.faults disk.new }
+{
+    disk.sync()
 }
 
 /// Closes the gate of a slot. Where it reads 0 already it is not written, and there is a sync all the same.
@@ -44,7 +56,7 @@ pub fn close_gate<D: Disk>(disk: &mut D, image: &mut [u8; 128], at: u32) -> Disk
     ensures no_fall { D.faults disk.old ≤ D.faults disk.new }
 {
     if image[at as usize] == 0 {
-        return disk.sync();
+        return settle(disk);
     }
     put(disk, image, at, &[0])
 }
