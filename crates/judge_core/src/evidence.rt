@@ -125,8 +125,7 @@ fn refused(
     roster: &Roster,
     posts: (&[u8], &[u8]),
     failure: (u32, u32, u32),
-) -> Result<(), AllocError>
-{
+) -> Result<(), AllocError> {
     let (check, post, at) = failure;
     let bytes = transcript_of(alloc, posts.0, posts.1)?;
     assert_eq!(rt; bytes.len(), 4885);
@@ -143,8 +142,7 @@ fn votes_are_judged(
     alloc: Global,
     roster: &Roster,
     group: &[u8; 32],
-) -> Result<(), AllocError>
-{
+) -> Result<(), AllocError> {
     let first = first_vote(group);
     let second = Vote { yes: 0, ..first };
     let yes = first.post(alloc, 3, 0)?;
@@ -177,8 +175,7 @@ fn malformed_votes_are_judged(
     alloc: Global,
     roster: &Roster,
     group: &[u8; 32],
-) -> Result<(), AllocError>
-{
+) -> Result<(), AllocError> {
     let right = first_vote(group);
     let other = Vote {
         sender: 1,
@@ -224,8 +221,7 @@ fn a_vote_is_taken(
     alloc: Global,
     roster: &Roster,
     group: &[u8; 32],
-) -> Result<(), AllocError>
-{
+) -> Result<(), AllocError> {
     let yes = first_vote(group);
     let content = yes.content(alloc)?;
     match read(alloc, &yes.post(alloc, 3, 0)?) {
@@ -247,8 +243,7 @@ fn posts_are_refused(
     alloc: Global,
     roster: &Roster,
     group: &[u8; 32],
-) -> Result<(), AllocError>
-{
+) -> Result<(), AllocError> {
     let right = first_vote(group);
     let yes = right.post(alloc, 3, 0)?;
     let cases = [
@@ -286,8 +281,7 @@ fn posts_are_refused(
 }
 
 // The roster of four members that is read from its bytes, and its group.
-fn group_of_four(rt: &impl Abort, alloc: Global) -> Result<(Roster, [u8; 32]), Fail>
-{
+fn group_of_four(rt: &impl Abort, alloc: Global) -> Result<(Roster, [u8; 32]), Fail> {
     let bytes = roster_of_four(alloc)?;
     assert_eq!(rt; bytes.len(), 230);
     let mut register = Register::new(Tag::Roster);
@@ -317,8 +311,7 @@ fn wrong_posts_convict_nobody(rt: HostRuntime) -> Result<(), Fail> {
 }
 
 // Each claim that is not decided yet fails at its byte, before what follows it is looked at.
-fn undecided_claims(rt: &impl Abort, alloc: Global, roster: &Roster)
-{
+fn undecided_claims(rt: &impl Abort, alloc: Global, roster: &Roster) {
     let refused = Refused::Check {
         check: 2,
         post: 0,
