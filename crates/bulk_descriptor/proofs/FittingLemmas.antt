@@ -1,5 +1,5 @@
 -- What is made is of the grammar, and which pads fit it.
-use Rattle.std.proofs.Common.{◌≡◌, ℕ, zero, suc, ◌+◌, ◌-◌, ◌<◌, ◌≤◌, ◌^◌, Bool, true, false, cond, not, ◌&&◌, ◌==◌, List, [], ◌∷◌, length, map, get_or, refl, sym, ap, subst, ◌∙◌, arith, All, min, ◌⊎◌, inl, inr, Option, Some, None}
+use Rattle.std.proofs.Common.{◌≡◌, ℕ, ◌+◌, ◌-◌, ◌<◌, ◌≤◌, ◌^◌, Bool, true, false, cond, not, ◌==◌, List, [], ◌∷◌, length, map, get_or, refl, sym, ap, subst, ◌∙◌, arith, All, min, inl, inr, Option, Some, None}
 use Rattle.std.specs.Prelude.{Contains, IsTrue, unwrap_or}
 use Rattle.std.specs.Option.{option_and_then}
 use Rattle.std.specs.List.{zip, find, range_with_len, AllByRecursion}
@@ -11,7 +11,7 @@ use Rattle.std.proofs.lemmas.List.FromFn.{length-range_with_len, get_or-range_wi
 use Rattle.std.proofs.lemmas.Slice.Eq.{bytes_eq-Decides}
 use Rattle.std.proofs.lemmas.Slice.Zip.{length-zip, get_or-zip}
 use Rattle.wire_core.specs.declared.tag.Tag.TheVariants.{Message as OfMessage, PadHash}
-use Rattle.wire_core.specs.Hash.{hash_of, NoCollision}
+use Rattle.wire_core.specs.Hash.{hash_of}
 use Rattle.wire_core.proofs.ByteLists.{hash_bytes}
 use Rattle.wire_core.proofs.Hashed.{same_hash}
 use Rattle.pad_stream.specs.Stream.{pad_of}
@@ -22,11 +22,11 @@ use Rattle.ring_encrypt.proofs.OpeningLemmas.{length-capsule_of}
 use Rattle.ring_encrypt.proofs.ReducedLemmas.{sealed_is_reduced}
 use Rattle.ring_encrypt.proofs.Exactness.{opens_exactly}
 use Rattle.bulk_descriptor.specs.declared.slot_state.SlotState.TheVariants.{Message, Mismatched}
-use Rattle.bulk_descriptor.specs.Descriptor.{Description, IsDescriptor, OfGrammar, descriptor_text, descriptor_read, hash_of_pad, own_pad, made_pads, sealed_seeds, made_descriptor, pad_hash_for, capsule_for, fits, pad_if_hashed, pad_found, pad_row}
-use Rattle.bulk_descriptor.specs.SlotState.{joined_pads, first_unfit, joined_state, unless_bad, slot_state}
+use Rattle.bulk_descriptor.specs.Descriptor.{Description, descriptor_text, descriptor_read, hash_of_pad, own_pad, made_pads, sealed_seeds, made_descriptor, pad_hash_for, capsule_for, fits, pad_if_hashed, pad_found, pad_row}
+use Rattle.bulk_descriptor.specs.SlotState.{joined_pads, first_unfit, joined_state, slot_state}
 use Rattle.bulk_descriptor.specs.Laws.{CanMake, MadeIsOfGrammar, OwnPadFits, OtherPadsFit, HonestPadFits, pad_string, FitsDetermines, AllFitMessage}
 use Rattle.bulk_descriptor.proofs.SpellingLemmas.{spelled_are_read, spelling_determines}
-use Rattle.bulk_descriptor.proofs.MakingLemmas.{length-pad_of, length-own_pad, sizes-made_pads, length-made_pads, made_pads-own, made_pads-other, pads_give_message}
+use Rattle.bulk_descriptor.proofs.MakingLemmas.{sizes-made_pads, length-made_pads, made_pads-own, made_pads-other, pads_give_message}
 
 -- ---- what is made is of the grammar
 length-sealed_seeds : (keys seeds : List (List ℕ)) → length keys ≡ length seeds → length (sealed_seeds keys seeds) ≡ length seeds

@@ -1,19 +1,18 @@
 -- The pads of a maker, and what it makes.
-use Rattle.std.proofs.Common.{◌≡◌, ℕ, zero, suc, ◌+◌, ◌-◌, ◌<◌, ◌≤◌, List, [], ◌∷◌, ◌++◌, take, drop, length, map, get_or, fold, refl, sym, ap, ◌∙◌, arith, All, ◌⊎◌, inl, inr}
+use Rattle.std.proofs.Common.{◌≡◌, ℕ, ◌+◌, ◌-◌, ◌<◌, ◌≤◌, List, [], ◌∷◌, ◌++◌, take, drop, length, get_or, refl, sym, ap, ◌∙◌, arith, All, inl, inr}
 use Rattle.std.specs.Prelude.{insert, remove}
-use Rattle.std.specs.List.{zip, AllByRecursion}
+use Rattle.std.specs.List.{AllByRecursion}
 use Rattle.std.proofs.lemmas.List.{take-append-drop, get_or-map, map-append, length-map}
 use Rattle.std.proofs.lemmas.Bool.{cases_order}
 use Rattle.std.proofs.lemmas.List.Edits.{length-insert, length-remove, get_or-insert_below, get_or-insert_at, get_or-insert_above, get_or-remove_below, get_or-remove_above}
 use Rattle.std.proofs.lemmas.List.Elements.{All-append, All-take, All-drop, All-cons, All-map, recursion_from_All}
-use Rattle.wire_core.specs.declared.tag.Tag.TheVariants.{Message, PadHash, PadStream}
+use Rattle.wire_core.specs.declared.tag.Tag.TheVariants.{PadStream}
 use Rattle.wire_core.specs.Hash.{hash_of}
-use Rattle.wire_core.proofs.ByteLists.{hash_bytes}
 use Rattle.pad_stream.specs.Stream.{pad_of}
 use Rattle.pad_stream.specs.ExclusiveOr.{exclusive_or}
 use Rattle.pad_stream.proofs.StreamLemmas.{length-bytes_from}
 use Rattle.pad_stream.proofs.ExclusiveOrLemmas.{exclusive_or_comm, exclusive_or_assoc, exclusive_or_undo, length-exclusive_or}
-use Rattle.bulk_descriptor.specs.Descriptor.{hash_of_pad, pads_of, other_pads, hidden_under, own_pad, made_pads}
+use Rattle.bulk_descriptor.specs.Descriptor.{pads_of, other_pads, hidden_under, own_pad, made_pads}
 use Rattle.bulk_descriptor.specs.SlotState.{joined_pads}
 use Rattle.bulk_descriptor.specs.Laws.{PadsGiveMessage}
 

@@ -1,7 +1,7 @@
 -- Spelling and reading descriptors undo each other.
-use Rattle.std.proofs.Common.{◌≡◌, ℕ, ◌+◌, ◌*◌, ◌^◌, ◌<◌, ◌≤◌, Bool, true, false, cond, List, [], ◌∷◌, ◌++◌, take, drop, length, refl, sym, ap, subst, ◌∙◌, arith, append_assoc, append-nil, length-append, Option, Some, None, All, ◌&&◌, ◌==◌}
+use Rattle.std.proofs.Common.{◌≡◌, ℕ, ◌+◌, ◌*◌, ◌^◌, ◌<◌, ◌≤◌, Bool, true, false, cond, List, [], ◌++◌, take, drop, length, refl, sym, ap, subst, ◌∙◌, arith, append-nil, length-append, Some, None, ◌&&◌, ◌==◌}
 use Rattle.std.specs.Prelude.{nat_le}
-use Rattle.std.specs.List.{concat, list_all, AllByRecursion}
+use Rattle.std.specs.List.{concat, list_all}
 use Rattle.std.specs.Int.{w32, to_be_bytes, from_be_bytes}
 use Rattle.std.proofs.lemmas.Bool.{and_parts, and_from, leb-true, le-leb, eqb-true, eq-eqb, cond-true, false_from_ne_true, both_ways}
 use Rattle.std.proofs.lemmas.List.{take_at, drop_at, take-append-drop, length-drop, length-take-le, drop-drop, take_all}

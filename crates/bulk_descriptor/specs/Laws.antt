@@ -1,5 +1,5 @@
 -- What holds of descriptors, of pads and of the states of slots.
-use Rattle.std.specs.Prelude.{◌≡◌, ℕ, ◌≤◌, ◌^◌, ◌<◌, List, [], ◌∷◌, ◌++◌, length, map, All, Contains, IsTrue, slice_index_or, ◌-◌, Option, Some, None}
+use Rattle.std.specs.Prelude.{◌≡◌, ℕ, ◌≤◌, ◌^◌, ◌<◌, List, [], ◌∷◌, length, All, Contains, IsTrue, slice_index_or, ◌-◌, Some, None}
 use Rattle.wire_core.specs.declared.tag.Tag.TheVariants.{PadHash}
 use Rattle.wire_core.specs.Bytes.{IsBytes}
 use Rattle.wire_core.specs.Hash.{hashed, NoCollision}

@@ -1,5 +1,5 @@
 -- The state of a slot of the opened list: what its descriptor and the pads that were sent for it come to.
-use Rattle.std.specs.Prelude.{◌≡◌, ℕ, ◌-◌, List, [], ◌∷◌, length, map, All, Bool, not, slice_index_or, Option, Some, None, IfSome, if◌then◌else◌}
+use Rattle.std.specs.Prelude.{◌≡◌, ℕ, ◌-◌, List, [], ◌∷◌, length, map, All, not, slice_index_or, Option, Some, None, IfSome, if◌then◌else◌}
 use Rattle.std.specs.List.{find, range_with_len, enumerate_from}
 use Rattle.std.specs.Str.{bytes_eq}
 use Rattle.wire_core.specs.declared.tag.Tag.TheVariants.{Message as OfMessage}

@@ -1,5 +1,5 @@
 -- Finding the least member whose pad does not fit, and joining pads.
-use Rattle.std.proofs.Common.{◌≡◌, ℕ, zero, suc, ◌+◌, ◌-◌, ◌<◌, ◌≤◌, Bool, true, false, cond, not, List, [], ◌∷◌, ◌++◌, take, drop, length, map, get_or, refl, sym, ap, subst, ◌∙◌, arith, add-one, Option, Some, None, All}
+use Rattle.std.proofs.Common.{◌≡◌, ℕ, zero, suc, ◌+◌, ◌-◌, ◌<◌, ◌≤◌, Bool, true, false, cond, not, List, [], ◌∷◌, ◌++◌, take, drop, length, map, get_or, refl, sym, ap, subst, ◌∙◌, arith, Option, Some, None, All}
 use Rattle.std.specs.List.{find, range_with_len}
 use Rattle.std.proofs.lemmas.Bool.{cond-true, cond-false, not_from_false}
 use Rattle.std.proofs.lemmas.List.{get_or-map, get_or_read, length-map, take_more, map-append}

@@ -1,4 +1,4 @@
-use Rattle.std.proofs.Common.{◌≡◌, [], get_or, refl}
+use Rattle.std.proofs.Common.{[], get_or, refl}
 use Rattle.bulk_descriptor.proofs.CodeLemmas.{concat-more}
 use Rattle.bulk_descriptor.proofs.encoding.put_hashes.Goals as goal
 

@@ -1,6 +1,6 @@
-use Rattle.std.proofs.Common.{◌≡◌, [], length, get_or, refl, sym, ap, ◌∙◌, arith, take, append-nil, ℕ, List}
+use Rattle.std.proofs.Common.{◌≡◌, [], length, get_or, refl, sym, ◌∙◌, arith, append-nil}
 use Rattle.pad_stream.specs.Stream.{pad_of}
-use Rattle.bulk_descriptor.specs.Descriptor.{pads_of, hash_of_pad}
+use Rattle.bulk_descriptor.specs.Descriptor.{pads_of}
 use Rattle.bulk_descriptor.proofs.MakingLemmas.{length-pad_of}
 use Rattle.bulk_descriptor.proofs.CodeLemmas.{hidden_under-more, hashes-more}
 use Rattle.bulk_descriptor.proofs.making.hide.Goals as goal

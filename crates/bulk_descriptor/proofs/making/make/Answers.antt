@@ -1,4 +1,4 @@
-use Rattle.std.proofs.Common.{◌≡◌, length, refl, ◌∙◌, arith}
+use Rattle.std.proofs.Common.{length, refl, ◌∙◌, arith}
 use Rattle.bulk_descriptor.specs.Descriptor.{Description}
 use Rattle.bulk_descriptor.proofs.CodeLemmas.{made_by_parts, form_of_made}
 use Rattle.bulk_descriptor.proofs.making.make.Goals as goal

@@ -1,4 +1,4 @@
-use Rattle.std.proofs.Common.{◌≡◌, ◌+◌, ◌++◌, length, take, drop, ap, sym, ◌∙◌, arith, List, ℕ}
+use Rattle.std.proofs.Common.{◌≡◌, ◌+◌, length, drop, ap, ◌∙◌, arith, List, ℕ}
 use Rattle.std.proofs.lemmas.List.{take_at}
 use Rattle.bulk_descriptor.specs.Descriptor.{own_pad}
 use Rattle.bulk_descriptor.proofs.CodeLemmas.{own_pad_is, length_other_hashes, hashes_are}

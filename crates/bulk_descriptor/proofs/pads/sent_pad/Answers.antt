@@ -1,4 +1,4 @@
-use Rattle.std.proofs.Common.{◌≡◌, Some, None, sym, ap, ◌∙◌, arith, length}
+use Rattle.std.proofs.Common.{◌≡◌, Some, sym, ap, ◌∙◌, arith, length}
 use Rattle.std.specs.Option.{option_map}
 use Rattle.bulk_descriptor.specs.Descriptor.{descriptor_read}
 use Rattle.bulk_descriptor.specs.Fields.{description_of}

@@ -1,8 +1,8 @@
-use Rattle.std.proofs.Common.{◌≡◌, ◌*◌, true, take, drop, length, List, ℕ, sym, ap, ◌∙◌, arith}
+use Rattle.std.proofs.Common.{take, drop, length, List, ℕ, sym, ap, ◌∙◌, arith}
 use Rattle.std.proofs.lemmas.List.{drop-drop}
-use Rattle.bulk_descriptor.specs.Descriptor.{Description, is_descriptor}
+use Rattle.bulk_descriptor.specs.Descriptor.{Description}
 use Rattle.bulk_descriptor.proofs.PartLemmas.{length-parts_of}
-use Rattle.bulk_descriptor.proofs.SpellingLemmas.{Passes, passes, description_is, form_of, read_if_passed}
+use Rattle.bulk_descriptor.proofs.SpellingLemmas.{passes, description_is, form_of, read_if_passed}
 use Rattle.bulk_descriptor.proofs.reading.decode.Goals as goal
 
 pub split_at-requires : goal.split_at-requires

@@ -1,4 +1,4 @@
-use Rattle.std.proofs.Common.{◌≡◌, ◌∙◌, arith}
+use Rattle.std.proofs.Common.{◌∙◌, arith}
 use Rattle.bulk_descriptor.proofs.CodeLemmas.{parts-more, parts-done}
 use Rattle.bulk_descriptor.proofs.reading.read_capsules.Goals as goal
 

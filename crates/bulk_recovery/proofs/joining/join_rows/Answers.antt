@@ -1,4 +1,4 @@
-use Rattle.std.proofs.Common.{◌≡◌, take, length, refl, sym, ap, ◌∙◌, arith, List, ℕ}
+use Rattle.std.proofs.Common.{length, refl, sym, ap, ◌∙◌, List, ℕ}
 use Rattle.std.proofs.lemmas.List.{take_all}
 use Rattle.bulk_descriptor.specs.Descriptor.{hidden_under}
 use Rattle.bulk_descriptor.specs.SlotState.{pads_for}

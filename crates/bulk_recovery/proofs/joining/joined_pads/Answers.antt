@@ -1,4 +1,4 @@
-use Rattle.std.proofs.Common.{◌≡◌, ◌<◌, [], length, drop, get_or, sym, ap, subst, ◌∙◌, List, ℕ, All}
+use Rattle.std.proofs.Common.{◌≡◌, length, drop, ap, ◌∙◌, List, ℕ}
 use Rattle.std.proofs.lemmas.List.{take_at}
 use Rattle.bulk_descriptor.specs.Descriptor.{hidden_under}
 use Rattle.bulk_descriptor.specs.SlotState.{pads_for}

@@ -1,5 +1,4 @@
-use Rattle.std.proofs.Common.{◌≡◌, ◌<◌, [], length, get_or, refl, sym, ap, ◌∙◌, arith, List, ℕ}
-use Rattle.std.proofs.lemmas.List.{get_or_read}
+use Rattle.std.proofs.Common.{◌≡◌, ◌<◌, length, refl, ap, ◌∙◌, arith, List, ℕ}
 use Rattle.bulk_descriptor.specs.Fields.{description_of}
 use Rattle.bulk_descriptor.specs.SlotState.{pads_for}
 use Rattle.bulk_recovery.proofs.RecoveryLemmas.{unfit_found, fit_so_far, all_fit, pad_of_row, length-pads_for}

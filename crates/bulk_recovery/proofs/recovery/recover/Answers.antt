@@ -1,4 +1,4 @@
-use Rattle.std.proofs.Common.{◌≡◌, ◌<◌, length, map, ap, ◌∙◌, arith, List, Option}
+use Rattle.std.proofs.Common.{◌<◌, length, map, ap, ◌∙◌, arith, List, Option}
 use Rattle.std.specs.Option.{option_map}
 use Rattle.std.proofs.lemmas.List.{length-map, take_all}
 use Rattle.bulk_descriptor.specs.declared.descriptor.Descriptor.{Descriptor}

@@ -1,4 +1,4 @@
-use Rattle.std.proofs.Common.{◌≡◌, ◌<◌, ◌^◌, [], ◌∷◌, length, get_or, refl, sym, ap, ◌∙◌, arith, Some, None, List, ℕ, cond}
+use Rattle.std.proofs.Common.{◌≡◌, sym, ap, ◌∙◌, arith, List, ℕ, cond}
 use Rattle.std.specs.Option.{option_map}
 use Rattle.bulk_descriptor.specs.declared.slot_state.SlotState.TheVariants.{Message, Mismatched}
 use Rattle.bulk_descriptor.specs.Fields.{description_of}
