@@ -1,6 +1,6 @@
 -- When a closing content is justified.
-use Rattle.std.proofs.Common.{◌≡◌, ℕ, ◌+◌, ◌-◌, ◌<◌, ◌≤◌, Bool, true, false, List, take, Option, Some, None, refl, ap, sym, ◌∙◌, subst, arith}
-use Rattle.std.specs.Prelude.{IsSome, IsTrue, ◌&&◌, not, bytes_eq, option_and_then}
+use Rattle.std.proofs.Common.{◌≡◌, ℕ, ◌-◌, ◌≤◌, Bool, true, false, List, take, Option, Some, None, refl, ap, sym, ◌∙◌, subst, arith}
+use Rattle.std.specs.Prelude.{IsSome, ◌&&◌, not, bytes_eq, option_and_then}
 use Rattle.std.specs.Option.{option_map}
 use Rattle.std.proofs.lemmas.Bool.{cond-true, cond-false}
 use Rattle.phase_message.specs.declared.content.Content.{Content}
@@ -12,8 +12,8 @@ use Rattle.phase_message.specs.Slots.{slots_before}
 use Rattle.phase_message.specs.Stages.{kind_of_stage, vote_of}
 use Rattle.phase_message.proofs.Closings.{closing-follows}
 use Rattle.stage_log.specs.Table.{Log, is_complete, posts_in}
-use Rattle.stage_log.specs.Log.{before, contents_at, contents_in, contents_of, log_view, view_of}
-use Rattle.stage_log.proofs.Pasts.{all_some-is, contents_in-map, contents_in-past, some_of, option_map-some}
+use Rattle.stage_log.specs.Log.{before, contents_in, contents_of, log_view, view_of}
+use Rattle.stage_log.proofs.Pasts.{all_some-is, contents_in-map, contents_in-past, some_of}
 use Rattle.stage_log.proofs.Fronts.{complete-before}
 use Rattle.go_nogo.specs.declared.votes.Vote.{Vote}
 use Rattle.go_nogo.specs.Closing.{HoldsEmbedded, HoldsFor, IsClosing, embedded_of, is_assent, is_justified}

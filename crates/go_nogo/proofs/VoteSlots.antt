@@ -1,7 +1,7 @@
 -- The votes that a log keeps of a stage of votes.
-use Rattle.std.proofs.Common.{◌≡◌, ℕ, zero, suc, ◌+◌, ◌-◌, ◌<◌, ◌≤◌, Bool, true, false, List, [], ◌∷◌, ◌++◌, length, map, take, drop, Option, Some, None, refl, ap, sym, ◌∙◌, subst, arith, add-one}
+use Rattle.std.proofs.Common.{◌≡◌, ℕ, zero, suc, ◌+◌, ◌-◌, ◌<◌, true, false, List, [], ◌∷◌, ◌++◌, length, map, take, drop, Option, Some, None, refl, ap, sym, ◌∙◌, subst, arith, add-one}
 use Rattle.std.specs.Prelude.{IsSome, is_some, option_and_then, ◌==◌}
-use Rattle.std.specs.List.{list_all, slice_get, slice_range}
+use Rattle.std.specs.List.{list_all, slice_get}
 use Rattle.std.specs.Option.{option_flatten, option_map}
 use Rattle.std.proofs.lemmas.Bool.{cond-true, cond-false}
 use Rattle.std.proofs.lemmas.List.{map-append, take-map}
@@ -14,10 +14,10 @@ use Rattle.phase_message.specs.declared.stage.Slot.{Slot}
 use Rattle.phase_message.specs.declared.stage.StageKind.{StageKind}
 use Rattle.phase_message.specs.declared.stage.StageKind.TheVariants.{Keys as AtKeys, Submit as AtSubmit, Shuffle as AtShuffle, Go as AtGo, Final as AtFinal, Pad as AtPad, Check as AtCheck, Confirm as AtConfirm}
 use Rattle.phase_message.specs.Body.{body_form, form_of}
-use Rattle.phase_message.specs.Grammar.{IsBody, OfGrammar}
-use Rattle.phase_message.specs.Offence.{Offence, content_read}
+use Rattle.phase_message.specs.Grammar.{IsBody}
+use Rattle.phase_message.specs.Offence.{content_read}
 use Rattle.phase_message.specs.Shape.{Shape}
-use Rattle.phase_message.specs.Slots.{senders_of, slot_number, slots_before}
+use Rattle.phase_message.specs.Slots.{slot_number, slots_before}
 use Rattle.phase_message.specs.Stages.{is_slot, kind_of_stage}
 use Rattle.phase_message.proofs.Counts.{slots_next}
 use Rattle.phase_message.proofs.SlotLists.{slot_at-is}
@@ -29,7 +29,7 @@ use Rattle.stage_log.proofs.SlotPlaces.{slot_at-sender}
 use Rattle.stage_log.proofs.Views.{length-posts_in, slice_get-take}
 use Rattle.go_nogo.specs.declared.votes.Vote.{Vote}
 use Rattle.go_nogo.specs.Votes.{body_vote, vote_of, vote_read, votes_of}
-use Rattle.go_nogo.specs.Stands.{StandAt, StandsIn, is_vote, kept_vote, log_votes}
+use Rattle.go_nogo.specs.Stands.{StandAt, StandsIn, is_vote, kept_vote}
 
 -- ---- what is said at a stage of votes is a vote
 

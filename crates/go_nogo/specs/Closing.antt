@@ -8,8 +8,8 @@ use Rattle.phase_message.specs.declared.stage.Slot.{Slot}
 use Rattle.phase_message.specs.Shape.{Shape}
 use Rattle.phase_message.specs.Slots.{slots_before, slots_of}
 use Rattle.phase_message.specs.Stages.{kind_of_stage, vote_of}
-use Rattle.stage_log.specs.Log.{before, contents_at, contents_in, view_of}
-use Rattle.stage_log.specs.Table.{Log, is_complete, posts_in}
+use Rattle.stage_log.specs.Log.{before, view_of}
+use Rattle.stage_log.specs.Table.{Log, is_complete}
 use Rattle.go_nogo.specs.Votes.{are_unanimous, votes_agree}
 
 -- ---- what is embedded

@@ -21,7 +21,7 @@ pub struct Vote {
     pub view: [u8; 32],
 }
 
-/// Whether all votes say yes and carry one view. It takes no memory.
+/// Whether all votes say yes and carry one view; of no votes it is true. It takes no memory.
 pub fn unanimous(votes: &Vec<Vote>) -> bool
     ensures value { result ≡ is_unanimous votes.now.items }
     ensures all { IsTrue result ↔ AreUnanimous votes.now.items }

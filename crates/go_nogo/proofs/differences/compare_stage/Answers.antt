@@ -1,4 +1,4 @@
-use Rattle.std.proofs.Common.{◌≡◌, ◌+◌, ℕ, None, Some, ap, sym, ◌∙◌, arith, inl, inr, subst}
+use Rattle.std.proofs.Common.{◌≡◌, ◌+◌, ℕ, None, ap, sym, arith, inl, inr, subst}
 use Rattle.std.proofs.lemmas.Bool.{cases_lt}
 use Rattle.wire_core.proofs.AnswerLemmas.{first_below-none, first_below-some}
 use Rattle.phase_message.specs.declared.stage.Slot.{Slot}

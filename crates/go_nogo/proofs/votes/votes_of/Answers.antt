@@ -1,4 +1,4 @@
-use Rattle.std.proofs.Common.{◌≡◌, ◌<◌, ℕ, List, ◌++◌, ◌∷◌, [], Some, ap, sym, ◌∙◌, subst, arith, take, length}
+use Rattle.std.proofs.Common.{List, Some, ap, sym, ◌∙◌, arith}
 use Rattle.std.proofs.lemmas.List.{take_all}
 use Rattle.std.specs.Prelude.{Option}
 use Rattle.phase_message.specs.declared.post.Post.{Post}
