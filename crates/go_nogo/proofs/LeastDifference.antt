@@ -1,0 +1,186 @@
+-- The first difference of two logs, by stage and then by sender, comes before all others.
+use Rattle.std.proofs.Common.{◌≡◌, ℕ, zero, suc, ◌+◌, ◌-◌, ◌<◌, ◌≤◌, Bool, true, false, List, [], ◌∷◌, ◌++◌, map, Option, Some, None, ◌⊎◌, inl, inr, refl, ap, sym, ◌∙◌, subst, arith, eqb-true}
+use Rattle.std.specs.Prelude.{MatchOption, bytes_eq, not}
+use Rattle.std.specs.List.{range_with_len, slice_get}
+use Rattle.std.specs.Option.{option_flatten}
+use Rattle.std.proofs.lemmas.Bool.{and_parts, both_ways, cases_Bool, cases_lt, cond-true, cond-false, false_from_ne_true, leb-true, not-true}
+use Rattle.std.proofs.lemmas.Slice.Eq.{bytes_eq-Decides}
+use Rattle.wire_core.proofs.AnswerLemmas.{first_below-each, first_below-found}
+use Rattle.phase_message.specs.declared.post.Post.{Post}
+use Rattle.phase_message.specs.declared.stage.Slot.{Slot}
+use Rattle.phase_message.specs.declared.stage.StageKind.{StageKind}
+use Rattle.phase_message.specs.declared.stage.StageKind.TheVariants.{Keys, Submit, Shuffle, Go, Final, Pad, Check, Confirm}
+use Rattle.phase_message.specs.Shape.{Shape}
+use Rattle.phase_message.specs.Slots.{slot_number, stage_count}
+use Rattle.phase_message.specs.Stages.{is_sender, is_slot, kind_of_stage, speaks, stages, turns}
+use Rattle.phase_message.proofs.SlotLists.{stage-past}
+use Rattle.stage_log.specs.Table.{Log, kept_in}
+use Rattle.go_nogo.specs.Differences.{Differ, HaveNoDifference, IsFirstDifference, are_different, difference_at, difference_of, differing}
+
+-- ---- the members of slots
+
+-- a turn is of one of n members
+abbrev IsBounded : ℕ → StageKind → Type 0
+IsBounded n (Shuffle shuffle k) = (1 ≤ k) × (k ≤ n)
+IsBounded n _ = Unit {0}
+
+abbrev AreBounded : ℕ → List StageKind → Type 0
+AreBounded n [] = Unit {0}
+AreBounded n (kind ∷ kinds) = IsBounded n kind × AreBounded n kinds
+
+turns-bounded : (n shuffle a m : ℕ) (kinds : List StageKind) → 1 ≤ a → a + m ≤ n + 1 → AreBounded n kinds → AreBounded n (map (λ k. Shuffle shuffle k) (range_with_len a m) ++ kinds)
+turns-bounded n shuffle a zero kinds least most rest = rest
+turns-bounded n shuffle a (suc m) kinds least most rest = ((least, omega (arith, most)), turns-bounded n shuffle (a + 1) m kinds (omega arith) (omega (arith, most)) rest)
+
+stages-bounded : (shape : Shape) → AreBounded shape.members (stages shape)
+stages-bounded shape =
+    let n : ℕ = shape.members in
+    let b : AreBounded n (turns 2 n ++ last) = turns-bounded n 2 1 n last (omega arith) (omega arith) (tt, (tt, tt)) in
+    (tt, (tt, turns-bounded n 1 1 n (middle ++ (turns 2 n ++ last)) (omega arith) (omega arith) (tt, (tt, (tt, (tt, (tt, (tt, b))))))))
+  where
+    last : List StageKind
+    last = Go 2 ∷ Final 2 ∷ []
+
+    middle : List StageKind
+    middle = Go 1 ∷ Final 1 ∷ Pad ∷ Check ∷ Confirm ∷ Submit 2 ∷ []
+
+bounded-at : (n : ℕ) (kinds : List StageKind) (i : ℕ) (kind : StageKind) → AreBounded n kinds → slice_get kinds i ≡ Some kind → IsBounded n kind
+bounded-at n [] i kind all e = absurd cc
+bounded-at n (first ∷ kinds) zero kind all e = let same : first ≡ kind = cc in subst (λ (k : StageKind). IsBounded n k) same all.0
+bounded-at n (first ∷ kinds) (suc i) kind all e = bounded-at n kinds i kind all.1 e
+
+-- a slot's stage is one of the round, and its sender a member
+slot-bounds : (shape : Shape) (stage sender : ℕ) → is_slot shape stage sender ≡ true → (stage < stage_count shape) × (1 ≤ sender) × (sender ≤ shape.members)
+slot-bounds shape stage sender speaks_there = by_kind (kind_of_stage shape stage) refl
+  where
+    member : (n : ℕ) → is_sender shape Keys sender ≡ true → (1 ≤ sender) × (sender ≤ shape.members)
+    member n e = let parts = and_parts _ _ e in (leb-true _ _ parts.0, leb-true _ _ parts.1)
+
+    by_sender : (kind : StageKind) → IsBounded shape.members kind → is_sender shape kind sender ≡ true → (1 ≤ sender) × (sender ≤ shape.members)
+    by_sender (Shuffle shuffle k) bounded e = let same : sender ≡ k = eqb-true _ _ e in (omega (arith, bounded.0), omega (arith, bounded.1))
+    by_sender Keys bounded e = member 0 e
+    by_sender (Submit shuffle) bounded e = member 0 e
+    by_sender (Go shuffle) bounded e = member 0 e
+    by_sender (Final shuffle) bounded e = member 0 e
+    by_sender Pad bounded e = member 0 e
+    by_sender Check bounded e = member 0 e
+    by_sender Confirm bounded e = member 0 e
+
+    by_kind : (o : Option StageKind) → kind_of_stage shape stage ≡ o → (stage < stage_count shape) × (1 ≤ sender) × (sender ≤ shape.members)
+    by_kind None e = absurd (let silent = ap (λ (o : Option StageKind). speaks shape o sender) e in cc)
+    by_kind (Some kind) e =
+        let speaks_in : is_sender shape kind sender ≡ true = sym (ap (λ (o : Option StageKind). speaks shape o sender) e) ∙ speaks_there in
+        let bounds = by_sender kind (bounded-at shape.members (stages shape) stage kind (stages-bounded shape) e) speaks_in in (
+          elim (cases_lt stage (stage_count shape)) [
+            | inl lt ↦ lt
+            | inr le ↦ absurd (let none = stage-past shape stage le in cc)
+          ],
+          bounds.0,
+          bounds.1,
+        )
+
+kept-slot : (log : Log) (slot : Slot) (post : Post) → kept_in log slot ≡ Some post → is_slot log.shape slot.stage slot.sender ≡ true
+kept-slot log slot post e =
+    elim (cases_Bool (is_slot log.shape slot.stage slot.sender)) [
+      | inl speaks_there ↦ speaks_there
+      | inr silent ↦
+          let none : kept_in log slot ≡ None = cond-false (is_slot log.shape slot.stage slot.sender) (option_flatten (slice_get log.posts (slot_number log.shape slot.stage slot.sender))) None silent in
+          absurd (nothing (kept_in log slot) post none e)
+    ]
+  where
+    nothing : (o : Option Post) (p : Post) → o ≡ None → o ≡ Some p → ⊥
+    nothing None p none some = absurd cc
+    nothing (Some q) p none some = absurd cc
+
+-- ---- a slot in which two logs differ
+
+differ-found : (log other : Log) (slot : Slot) → Differ log other slot → differing log other slot ≡ Some slot
+differ-found log other slot differ =
+    let unlike : bytes_eq differ.post.content differ.other_post.content ≡ false = false_from_ne_true _ (λ same. differ.contents ((bytes_eq-Decides _ _).0 same)) in
+    cond-true (are_different (kept_in log slot) (kept_in other slot)) (Some slot) None
+    (ap (λ (o : Option Post). are_different o (kept_in other slot)) differ.kept
+    ∙ ap (λ (o : Option Post). are_different (Some differ.post) o) differ.other_kept
+    ∙ ap not unlike)
+
+posts-differ : (log other : Log) (slot : Slot) (o p : Option Post) → kept_in log slot ≡ o → kept_in other slot ≡ p → are_different o p ≡ true → Differ log other slot
+posts-differ log other slot (Some post) (Some other_post) e e' is = record {
+  post = post;
+  other_post = other_post;
+  kept = e;
+  other_kept = e';
+  contents = λ same. both_ways (bytes_eq post.content other_post.content) (not-true (bytes_eq post.content other_post.content) is) ((bytes_eq-Decides post.content other_post.content).1 same);
+}
+posts-differ log other slot (Some post) None e e' is = absurd cc
+posts-differ log other slot None p e e' is = absurd cc
+
+found-differ : (log other : Log) (slot found : Slot) → differing log other slot ≡ Some found → (slot ≡ found) × Differ log other slot
+found-differ log other slot found e =
+    let b : Bool = are_different (kept_in log slot) (kept_in other slot) in
+    elim (cases_Bool (are_different (kept_in log slot) (kept_in other slot))) [
+      | inl differ ↦
+          let both : Some slot ≡ Some found = sym (cond-true b (Some slot) None differ) ∙ e in
+          (cc, posts-differ log other slot (kept_in log slot) (kept_in other slot) refl refl differ)
+      | inr same ↦ absurd (let none = cond-false b (Some slot) None same in cc)
+    ]
+
+-- ---- the first
+
+apart : (o : Option Slot) (x : Slot) → o ≡ None → o ≡ Some x → ⊥
+apart None x none some = absurd cc
+apart (Some y) x none some = absurd cc
+
+-- no difference comes before a place that has none before it
+not-before : (log other : Log) (slot : Slot) → Differ log other slot → difference_at log other slot.stage ≡ None → ⊥
+not-before log other slot differ none =
+    let bounds = slot-bounds log.shape slot.stage slot.sender (kept-slot log slot differ.post differ.kept) in
+    let each = first_below-each (λ place. differing log other (record { stage = slot.stage; sender = place + 1 })) log.shape.members none (slot.sender - 1) (omega (arith, bounds.1, bounds.2)) in
+    let same : slot.sender - 1 + 1 ≡ slot.sender = omega (arith, bounds.1) in
+    let never = ap (λ (s : ℕ). differing log other (record { stage = slot.stage; sender = s })) same in
+    let some = differ-found log other slot differ in
+    apart _ slot (sym never ∙ each) some
+
+first-difference : (log other : Log) (found : Slot) → difference_of log other ≡ Some found → IsFirstDifference log other found
+first-difference log other found e =
+    let at = first_below-found (difference_at log other) (stage_count log.shape) found e in
+    let stage : ℕ = at.0 in
+    let place = first_below-found (λ place. differing log other (record { stage = stage; sender = place + 1 })) log.shape.members found at.2 in
+    let here : Slot = record { stage = stage; sender = place.0 + 1 } in
+    let differ = found-differ log other here found place.2 in
+    record {
+      differ = subst (λ (s : Slot). Differ log other s) differ.0 differ.1;
+      first = subst (λ (s : Slot). (slot : Slot) → Differ log other slot → (s.stage < slot.stage) ⊎ ((s.stage ≡ slot.stage) × (s.sender ≤ slot.sender))) differ.0 (before stage place.0 at.3 place.3);
+    }
+  where
+    before : (stage place : ℕ) → ((j : ℕ) → j < stage → difference_at log other j ≡ None)
+        → ((j : ℕ) → j < place → differing log other (record { stage = stage; sender = j + 1 }) ≡ None)
+        → (slot : Slot) → Differ log other slot → (stage < slot.stage) ⊎ ((stage ≡ slot.stage) × (place + 1 ≤ slot.sender))
+    before stage place stages_before places_before slot differ =
+        elim (cases_lt stage slot.stage) [
+          | inl later ↦ inl later
+          | inr le ↦
+              elim (cases_lt slot.stage stage) [
+                | inl earlier ↦ absurd (not-before log other slot differ (stages_before slot.stage earlier))
+                | inr ge ↦
+                    let same : stage ≡ slot.stage = omega arith in
+                    elim (cases_lt slot.sender (place + 1)) [
+                      | inl below ↦ absurd (here stage place slot same below differ (places_before (slot.sender - 1)))
+                      | inr at_least ↦ inr (same, at_least)
+                    ]
+              ]
+        ]
+      where
+        here : (stage place : ℕ) (slot : Slot) → stage ≡ slot.stage → slot.sender < place + 1 → Differ log other slot
+            → (slot.sender - 1 < place → differing log other (record { stage = stage; sender = slot.sender - 1 + 1 }) ≡ None) → ⊥
+        here stage place slot same below differ none =
+            let bounds = slot-bounds log.shape slot.stage slot.sender (kept-slot log slot differ.post differ.kept) in
+            let sender : slot.sender - 1 + 1 ≡ slot.sender = omega (arith, bounds.1) in
+            let some = differ-found log other slot differ in
+            let there = ap (λ (s : ℕ). differing log other (record { stage = stage; sender = s })) sender ∙ ap (λ (t : ℕ). differing log other (record { stage = t; sender = slot.sender })) same in
+            apart _ slot (sym there ∙ none (omega (arith, bounds.1, bounds.2))) some
+
+-- what the definition gives is the first of all, or there is none
+pub difference-is : (log other : Log) (o : Option Slot) → o ≡ difference_of log other → MatchOption o (HaveNoDifference log other) (λ slot. IsFirstDifference log other slot)
+difference-is log other None e = λ slot differ.
+    let bounds = slot-bounds log.shape slot.stage slot.sender (kept-slot log slot differ.post differ.kept) in
+    not-before log other slot differ (first_below-each (difference_at log other) (stage_count log.shape) (sym e) slot.stage bounds.0)
+difference-is log other (Some found) e = first-difference log other found (sym e)

@@ -1,0 +1,5 @@
+pub mod Votes
+pub mod Stands
+pub mod Rows
+pub mod Closing
+pub mod Differences
