@@ -1,0 +1,4 @@
+pub mod Faults
+pub mod Layers
+pub mod Permutations
+pub mod Turns
