@@ -1,0 +1,34 @@
+-- What holds of rounds.
+use Rattle.std.specs.Prelude.{◌≡◌, ◌≢◌, ℕ, ◌+◌, ◌<◌, ◌≤◌, List, length, false, IsTrue, Option, Some, None}
+use Rattle.phase_message.specs.declared.post.Post.{Post}
+use Rattle.phase_message.specs.declared.stage.Slot.{Slot}
+use Rattle.round_spec.specs.Say.{Configuration, shape_in}
+use Rattle.round_spec.specs.Course.{Others, Stand, course_from, course_of, is_open, next_stand}
+
+-- ---- the course
+
+-- what has come of one is there of the other too
+abbrev pub IsContained : Others → Others → Type 0
+IsContained others more = (slot : Slot) (post : Post) → others slot ≡ Some post → more slot ≡ Some post
+
+-- the course comes through a stand, after at most so many stages
+pub record ComesThrough (c : Configuration) (others : Others) (stages : ℕ) (stand later : Stand) : Type 0 where
+  pub count : ℕ
+  pub most : count ≤ stages
+  pub goes_on : (more : ℕ) → course_from c others (count + more) stand ≡ course_from c others more later
+
+-- some stages and then others are all of them in one
+abbrev pub CourseAdds : Type 0
+CourseAdds = (c : Configuration) (others : Others) (stages more : ℕ) (stand : Stand) →
+    course_from c others (stages + more) stand ≡ course_from c others more (course_from c others stages stand)
+
+-- with more posts the course comes through each stand that it reaches with fewer
+abbrev pub CourseGrows : Type 0
+CourseGrows = (c : Configuration) (others more : Others) (stages : ℕ) (stand : Stand) → IsContained others more →
+    ComesThrough c more stages stand (course_from c others stages stand)
+
+-- a stand that is not open is where every longer course ends, also with more posts
+abbrev pub CourseEndUnique : Type 0
+CourseEndUnique = (c : Configuration) (others more : Others) (stages longer : ℕ) (stand : Stand) → IsContained others more →
+    is_open (course_from c others stages stand).verdict ≡ false → stages ≤ longer →
+    course_from c more longer stand ≡ course_from c others stages stand

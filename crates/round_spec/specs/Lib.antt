@@ -1,0 +1,9 @@
+pub mod Slots
+pub mod Say
+pub mod Embedded
+pub mod Verdict
+pub mod Course
+pub mod Result
+pub mod Runs
+pub mod Premises
+pub mod Laws

@@ -1,0 +1,144 @@
+-- Runs of honest members: what a member kept in a round, and what makes it honest; lists of such runs, and what it
+-- means that no signature of theirs was forged.
+use Rattle.std.specs.Prelude.{◌≡◌, ◌≢◌, ℕ, ◌+◌, ◌^◌, ◌<◌, ◌≤◌, ◌⊎◌, List, length, map, take, filter_map, All, AllPairs, Contains, IsTrue, Option, Some, None, Result, Ok, option_map}
+use Rattle.std.specs.List.{range_with_len}
+use Rattle.wire_core.specs.Bytes.{IsBytes}
+use Rattle.lms_tree.specs.Secret.{SecretParts, leaves, own_public}
+use Rattle.phase_message.specs.declared.content.Content.{Content}
+use Rattle.phase_message.specs.declared.header.Header.{Header}
+use Rattle.phase_message.specs.declared.post.Post.{Post}
+use Rattle.phase_message.specs.declared.stage.Slot.{Slot}
+use Rattle.phase_message.specs.Offence.{content_read}
+use Rattle.phase_message.specs.Slots.{slots_before, stage_count}
+use Rattle.group_roster.specs.Roster.{IsRosterForm, Roster, key_of, shape_of_roster}
+use Rattle.signed_post.specs.Admission.{Admitted, check_of}
+use Rattle.signed_post.specs.Frame.{frame_of}
+use Rattle.stage_log.specs.Log.{before}
+use Rattle.stage_log.specs.Table.{IsLog, Log, kept_in}
+use Rattle.go_nogo.specs.Closing.{IsClosing, posts_embedded}
+use Rattle.round_spec.specs.Embedded.{slot_named}
+use Rattle.round_spec.specs.Say.{Configuration, own_post, shape_in}
+use Rattle.round_spec.specs.Verdict.{Goes, verdict_of}
+use Rattle.round_spec.specs.Course.{closing_of}
+
+-- ---- configurations
+
+-- the widths of what a member enters a round with
+pub record HasWidths (c : Configuration) : Type 0 where
+  pub round : c.round < 2 ^ 64
+  pub fresh : length c.fresh ≡ 32
+  pub fresh_bytes : IsBytes c.fresh
+  pub message_bytes : IsBytes c.message
+  pub identifier : length c.key.identifier ≡ 16
+  pub identifier_bytes : IsBytes c.key.identifier
+  pub seed : length c.key.seed ≡ 32
+  pub seed_bytes : IsBytes c.key.seed
+
+-- a member that can be honest in a round: the roster is of the form, and has the member's own key under its number; the
+-- message has at most 65,536 bytes; and twelve leaves of the key are left for the round
+pub record IsConfiguration (c : Configuration) : Type 0 where
+  pub widths : HasWidths c
+  pub roster : IsRosterForm c.roster
+  pub key : key_of c.roster c.number ≡ Some (own_public c.key)
+  pub message : length c.message ≤ 65536
+  pub leaves : c.first + 12 ≤ leaves c.key
+
+-- ---- runs
+
+-- what a member kept of a round, with what it entered the round with
+pub record Run : Type 0 where
+  pub config : Configuration
+  pub log : Log
+
+-- the member's own slot at a stage
+abbrev pub own_slot : Run → ℕ → Slot
+own_slot run stage = record { stage = stage; sender = run.config.number }
+
+-- the posts of its own that it kept, by stage
+abbrev pub posts_said : Run → List Post
+posts_said run = filter_map (λ stage. kept_in run.log (own_slot run stage)) (range_with_len 0 (stage_count run.log.shape))
+
+-- what it sent: the contents of these
+unfoldable pub sent : Run → List (List ℕ)
+sent run = map (λ post. post.content) (posts_said run)
+
+-- the round goes on behind each stage before a stage, by what was said so far
+abbrev pub AllGo : Configuration → List Post → ℕ → Type 0
+AllGo c past stage = (earlier : ℕ) → earlier < stage →
+    verdict_of (closing_of c (take (slots_before (shape_in c) (earlier + 1)) past) earlier) ≡ Goes
+
+-- a post is what the member says at a stage: all stages before are complete, none of them has a verdict that ends the
+-- round, and the content is what the member has to say, signed with its next leaf
+pub record IsOwnPost (run : Run) (stage : ℕ) (post : Post) : Type 0 where
+  pub past : List Post
+  pub before : before run.log stage ≡ Some past
+  pub goes : AllGo run.config past stage
+  pub said : post ≡ own_post run.config past stage
+
+-- a post checks, its body is in the grammar, and it stands in its slot
+pub record StandsIn (c : Configuration) (slot : Slot) (post : Post) : Type 0 where
+  pub content : Content
+  pub checks : check_of c.roster c.round post ≡ Ok content
+  pub named : slot_named content.header ≡ slot
+
+-- a run of an honest member, which may have ended anywhere: what it kept are posts that check, each in its slot, and in
+-- its own slots there is nothing but what it has to say
+pub record HonestRun (run : Run) : Type 0 where
+  pub config : IsConfiguration run.config
+  pub log : IsLog run.log
+  pub shape : run.log.shape ≡ shape_in run.config
+  pub posts : (slot : Slot) (post : Post) → kept_in run.log slot ≡ Some post → StandsIn run.config slot post
+  pub own : (stage : ℕ) (post : Post) → kept_in run.log (own_slot run stage) ≡ Some post → IsOwnPost run stage post
+
+-- ---- lists of runs
+
+-- two runs are of different members or of different rounds
+abbrev pub AreApart : Run → Run → Type 0
+AreApart run other = run.config.number ≡ other.config.number → run.config.round ≢ other.config.round
+
+-- honest runs of members of one group, of each member at most one in a round
+pub record AreHonest (roster : Roster) (runs : List Run) : Type 0 where
+  pub honest : All HonestRun runs
+  pub one_roster : All (λ run. run.config.roster ≡ roster) runs
+  pub apart : AllPairs AreApart runs
+
+-- one of the runs is of this member
+abbrev pub HasNumber : List Run → ℕ → Type 0
+HasNumber runs number = (run : Run) × Contains runs run × (run.config.number ≡ number)
+
+-- a run of a member sent a content
+pub record Sent (runs : List Run) (number : ℕ) (content : List ℕ) : Type 0 where
+  pub run : Run
+  pub listed : Contains runs run
+  pub member : run.config.number ≡ number
+  pub contains : Contains (sent run) content
+
+-- ---- forging
+
+-- a byte string is embedded in one that spells a post of a closing content
+pub record IsEmbedded (roster : Roster) (outer bytes : List ℕ) : Type 0 where
+  pub post : Post
+  pub content : Content
+  pub spelled : frame_of outer ≡ Ok post
+  pub reads : content_read (shape_of_roster roster) post.content ≡ Ok content
+  pub closing : IsClosing (shape_of_roster roster) content
+  pub embedded : Contains (posts_embedded content.body) bytes
+
+-- a byte string is given in a list, or embedded in a closing content that is
+abbrev pub IsGiven : Roster → List (List ℕ) → List ℕ → Type 0
+IsGiven roster given bytes =
+    Contains given bytes ⊎ ((outer : List ℕ) × Contains given outer × IsEmbedded roster outer bytes)
+
+-- no signature was forged: each post that is given, or embedded in a closing content that is, and that is admitted for
+-- its own round with the number of a run for its sender, has a content that a run of that number sent
+abbrev pub NoForgery : Roster → List (List ℕ) → List Run → Type 0
+NoForgery roster given runs = (bytes : List ℕ) (post : Post) (header : Header) → IsGiven roster given bytes →
+    frame_of bytes ≡ Ok post → Admitted roster header.round post header → HasNumber runs header.sender →
+    Sent runs header.sender post.content
+
+-- each post of a list that is admitted for a round with a member for its sender has a content that a run of that member
+-- sent
+abbrev pub SaidBy : Roster → List Run → ℕ → ℕ → List (List ℕ) → Type 0
+SaidBy roster runs number round posts = (bytes : List ℕ) (post : Post) (header : Header) → Contains posts bytes →
+    frame_of bytes ≡ Ok post → Admitted roster round post header → header.sender ≡ number →
+    Sent runs number post.content

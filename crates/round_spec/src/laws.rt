@@ -1,0 +1,11 @@
+//! Laws of rounds. Nobody calls these functions: the contract of each states a law.
+
+ghost use Rattle.round_spec.specs.Laws.{CourseAdds, CourseGrows, CourseEndUnique};
+
+/// Some stages of a course and then others are all of them in one. With more posts of others a course comes through
+/// each stand that it reaches with fewer, and ends where it ends with fewer.
+pub fn course_laws()
+    ensures adds { CourseAdds }
+    ensures grows { CourseGrows }
+    ensures end_unique { CourseEndUnique }
+{}
