@@ -1,11 +1,10 @@
 -- The course of a round, stage by stage.
-use Rattle.std.proofs.Common.{◌≡◌, ℕ, zero, suc, ◌+◌, ◌-◌, ◌≤◌, Bool, true, false, List, [], ◌∷◌, map, Option, Some, None, ap, sym, ◌∙◌, refl, arith, inl, inr, subst}
-use Rattle.std.specs.Prelude.{◌⊎◌, option_map, option_and_then, if◌then◌else◌, ◌==◌}
+use Rattle.std.proofs.Common.{◌≡◌, ℕ, zero, suc, ◌+◌, ◌-◌, ◌≤◌, false, List, [], ◌∷◌, map, Option, Some, None, ap, sym, ◌∙◌, refl, arith, inl, inr, subst}
+use Rattle.std.specs.Prelude.{◌⊎◌, option_map, option_and_then, ◌==◌}
 use Rattle.std.proofs.lemmas.Bool.{cases_Bool, cond-true, cond-false}
-use Rattle.std.proofs.lemmas.Option.{none-some, same_Some}
+use Rattle.std.proofs.lemmas.Option.{none-some}
 use Rattle.phase_message.specs.declared.post.Post.{Post}
 use Rattle.phase_message.specs.declared.stage.Slot.{Slot}
-use Rattle.phase_message.specs.declared.stage.StageKind.{StageKind}
 use Rattle.phase_message.specs.Slots.{senders_in}
 use Rattle.phase_message.specs.Stages.{kind_of_stage}
 use Rattle.stage_log.specs.Log.{all_some}

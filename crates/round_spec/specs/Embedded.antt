@@ -1,13 +1,12 @@
 -- The posts that a closing content embeds, and the log that they are: each has to be a post that checks, in the slot
 -- that it is embedded for. Else the content is justified by nothing.
-use Rattle.std.specs.Prelude.{ℕ, ◌+◌, List, [], ◌∷◌, map, Bool, true, false, not, ◌&&◌, ◌==◌, fold, zip, Option, Some, None, Result, Ok, Err}
+use Rattle.std.specs.Prelude.{ℕ, ◌+◌, List, [], ◌∷◌, map, Bool, false, not, ◌&&◌, ◌==◌, fold, zip, Result, Ok, Err}
 use Rattle.wire_core.specs.Answers.{◌>>=◌, fault_as, unless}
 use Rattle.phase_message.specs.declared.content.Content.{Content}
 use Rattle.phase_message.specs.declared.header.Header.{Header}
 use Rattle.phase_message.specs.declared.post.Post.{Post}
 use Rattle.phase_message.specs.declared.stage.Slot.{Slot}
 use Rattle.phase_message.specs.Shape.{Shape}
-use Rattle.phase_message.specs.Offence.{Offence, content_read}
 use Rattle.group_roster.specs.Roster.{Roster, shape_of_roster}
 use Rattle.signed_post.specs.declared.post.PostRefusal.{PostRefusal}
 use Rattle.signed_post.specs.declared.post.PostRefusal.TheVariants.{Frame}

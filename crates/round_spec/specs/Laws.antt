@@ -1,9 +1,9 @@
 -- What holds of rounds.
-use Rattle.std.specs.Prelude.{◌≡◌, ◌≢◌, ℕ, ◌+◌, ◌<◌, ◌≤◌, List, length, false, IsTrue, Option, Some, None}
+use Rattle.std.specs.Prelude.{◌≡◌, ℕ, ◌+◌, ◌≤◌, false, Some}
 use Rattle.phase_message.specs.declared.post.Post.{Post}
 use Rattle.phase_message.specs.declared.stage.Slot.{Slot}
-use Rattle.round_spec.specs.Say.{Configuration, shape_in}
-use Rattle.round_spec.specs.Course.{Others, Stand, course_from, course_of, is_open, next_stand}
+use Rattle.round_spec.specs.Say.{Configuration}
+use Rattle.round_spec.specs.Course.{Others, Stand, course_from, is_open}
 
 -- ---- the course
 

@@ -1,12 +1,11 @@
 -- What a list of delivered byte strings comes to for one member.
-use Rattle.std.specs.Prelude.{ℕ, suc, ◌+◌, ◌-◌, List, [], ◌∷◌, map, take, length, filter, Bool, true, false, not, ◌&&◌, ◌==◌, is_none, is_ok, Option, Some, None, Result, Ok, Err, bytes_eq, option_map, option_and_then, slice_get, if◌then◌else◌}
+use Rattle.std.specs.Prelude.{ℕ, suc, ◌-◌, List, [], ◌∷◌, map, take, length, filter, Bool, not, ◌&&◌, ◌==◌, is_none, is_ok, Option, Some, None, Result, bytes_eq, option_map, option_and_then, slice_get, if◌then◌else◌}
 use Rattle.std.specs.Option.{option_map_or}
 use Rattle.std.specs.Result.{result_ok}
-use Rattle.wire_core.specs.Answers.{◌>>=◌, fault_as, first_below, first_some}
+use Rattle.wire_core.specs.Answers.{first_below, first_some}
 use Rattle.phase_message.specs.declared.header.Header.{Header}
 use Rattle.phase_message.specs.declared.post.Post.{Post}
 use Rattle.phase_message.specs.declared.stage.Slot.{Slot}
-use Rattle.phase_message.specs.declared.stage.StageKind.{StageKind}
 use Rattle.phase_message.specs.declared.content.Content.{Content}
 use Rattle.phase_message.specs.Offence.{Offence, content_read}
 use Rattle.phase_message.specs.Post.{post_spelling}

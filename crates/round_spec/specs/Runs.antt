@@ -1,9 +1,9 @@
 -- Runs of honest members: what a member kept in a round, and what makes it honest; lists of such runs, and what it
 -- means that no signature of theirs was forged.
-use Rattle.std.specs.Prelude.{◌≡◌, ◌≢◌, ℕ, ◌+◌, ◌^◌, ◌<◌, ◌≤◌, ◌⊎◌, List, length, map, take, filter_map, All, AllPairs, Contains, IsTrue, Option, Some, None, Result, Ok, option_map}
+use Rattle.std.specs.Prelude.{◌≡◌, ◌≢◌, ℕ, ◌+◌, ◌^◌, ◌<◌, ◌≤◌, ◌⊎◌, List, length, map, take, filter_map, All, AllPairs, Contains, Some, Ok}
 use Rattle.std.specs.List.{range_with_len}
 use Rattle.wire_core.specs.Bytes.{IsBytes}
-use Rattle.lms_tree.specs.Secret.{SecretParts, leaves, own_public}
+use Rattle.lms_tree.specs.Secret.{leaves, own_public}
 use Rattle.phase_message.specs.declared.content.Content.{Content}
 use Rattle.phase_message.specs.declared.header.Header.{Header}
 use Rattle.phase_message.specs.declared.post.Post.{Post}

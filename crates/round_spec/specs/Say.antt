@@ -1,6 +1,6 @@
 -- What a member says at each stage, and signs: a function of its configuration and of the posts before the stage. The
 -- row of each kind of stage stands where its subject does; here one is chosen among them.
-use Rattle.std.specs.Prelude.{ℕ, ◌+◌, ◌-◌, ◌*◌, List, [], ◌∷◌, length, map, ◌==◌, Option, Some, None, if◌then◌else◌, count_by}
+use Rattle.std.specs.Prelude.{ℕ, ◌+◌, ◌-◌, ◌*◌, List, [], map, ◌==◌, Option, Some, None, if◌then◌else◌, count_by}
 use Rattle.std.specs.List.{range_with_len}
 use Rattle.wire_core.specs.Hash.{derived}
 use Rattle.ring_encrypt.specs.Capsule.{key_of_seed}
@@ -23,7 +23,7 @@ use Rattle.bulk_descriptor.specs.Descriptor.{Description, descriptor_text, made_
 use Rattle.accusation.specs.Item.{item_row}
 use Rattle.go_nogo.specs.Rows.{go_row, check_row, final_row, confirm_row}
 use Rattle.shuffle_blame.specs.Replay.{outer_place}
-use Rattle.round_spec.specs.Slots.{submit_stage, keys_said, inner_place, bulk_place, list_said, items_opened, slots_of_past}
+use Rattle.round_spec.specs.Slots.{keys_said, inner_place, bulk_place, list_said, items_opened, slots_of_past}
 
 -- ---- a member in a round
 

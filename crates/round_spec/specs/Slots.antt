@@ -1,6 +1,6 @@
 -- What a past comes to: what stands in its slots, what the last list of a shuffle opens to, and the state of each slot
 -- of the list. A past is the list of the contents of a round's slots so far, in the order of slots.
-use Rattle.std.specs.Prelude.{ℕ, zero, suc, ◌+◌, ◌-◌, List, [], ◌∷◌, map, replicate, ◌==◌, Option, Some, None, slice_index_or, option_and_then, if◌then◌else◌}
+use Rattle.std.specs.Prelude.{ℕ, zero, suc, ◌+◌, List, [], map, replicate, ◌==◌, Option, Some, None, slice_index_or, option_and_then, if◌then◌else◌}
 use Rattle.std.specs.List.{range_with_len}
 use Rattle.phase_message.specs.declared.content.Body.{Body}
 use Rattle.phase_message.specs.declared.content.Body.TheVariants.{Keys, Reveal, Pads}

@@ -1,6 +1,6 @@
 -- What a closing stage comes to once all its posts are there: the round goes on, or it is done, or somebody is
 -- convicted, by a transcript that is part of the verdict.
-use Rattle.std.specs.Prelude.{ℕ, ◌+◌, List, [], ◌∷◌, ◌++◌, map, take, zip, Bool, true, false, ◌==◌, is_none, is_some, Option, Some, None, Result, Ok, Err, bytes_eq, slice_index_or, option_map, option_and_then, unwrap_or, if◌then◌else◌}
+use Rattle.std.specs.Prelude.{ℕ, ◌+◌, List, [], ◌∷◌, ◌++◌, map, take, Bool, true, false, ◌==◌, is_none, is_some, Option, Some, None, Result, Ok, Err, bytes_eq, slice_index_or, option_map, option_and_then, unwrap_or, if◌then◌else◌}
 use Rattle.std.specs.List.{list_all, list_any}
 use Rattle.wire_core.specs.Answers.{first_below, first_some}
 use Rattle.ring_encrypt.specs.Capsule.{key_of_seed}
@@ -30,7 +30,7 @@ use Rattle.accusation.specs.Accusation.{refusal_of}
 use Rattle.go_nogo.specs.Closing.{is_assent}
 use Rattle.shuffle_blame.specs.declared.fault.Fault.{Fault}
 use Rattle.shuffle_blame.specs.declared.fault.Shown.{Shown}
-use Rattle.shuffle_blame.specs.Replay.{Inquiry, body_of, culprit_of}
+use Rattle.shuffle_blame.specs.Replay.{Inquiry, culprit_of}
 use Rattle.round_spec.specs.Slots.{by_member, said_in, key_said, keys_said, inner_place, bulk_place, pad_stage, seed_in, items_opened, descriptors_opened, pads_sent, slots_of_past}
 use Rattle.round_spec.specs.Embedded.{embedded_pairs, is_content_justified}
 
