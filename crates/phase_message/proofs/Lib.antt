@@ -1,8 +1,10 @@
 pub mod Table
 pub mod Fields
+pub mod Passing
 pub mod Counts
 pub mod Closings
 pub mod SlotLists
+pub mod SlotBounds
 pub mod Groups
 pub mod Spelled
 pub mod Bodies

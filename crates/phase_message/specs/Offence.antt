@@ -9,7 +9,8 @@
 --   rule 5  a flag is neither 0 nor 1                  at the flag
 --   rule 6  a pad has more than 65,536 bytes           at its length
 --   rule 3  bytes follow the body                      at the first of them
-use Rattle.std.specs.Prelude.{ℕ, ◌+◌, ◌*◌, ◌/◌, List, length, drop, Bool, not, ◌==◌, nat_lt, Option, Some, None, Result, Ok, option_map, ok_or}
+use Rattle.std.specs.Prelude.{ℕ, ◌+◌, ◌*◌, ◌/◌, List, length, drop, Bool, not, ◌==◌, nat_lt, Option, Some, None, Result, Ok, Err, option_map, ok_or}
+use Rattle.std.specs.Result.{result_err}
 use Rattle.std.specs.Int.{w8, w32}
 use Rattle.ring_poly.specs.Packing.{unpacked, first_too_large}
 use Rattle.wire_core.specs.declared.cursor.Short.{Short}
@@ -25,14 +26,11 @@ use Rattle.phase_message.specs.declared.content.Body.TheVariants.{Keys, Submit, 
 use Rattle.phase_message.specs.declared.content.Content.{Content}
 use Rattle.phase_message.specs.declared.content.DecodeRefusal.{DecodeRefusal}
 use Rattle.phase_message.specs.declared.content.DecodeRefusal.TheVariants.{Malformed, Memory}
+pub use Rattle.phase_message.specs.declared.offence.Offence.{Offence}
 use Rattle.phase_message.specs.Shape.{Shape}
 use Rattle.phase_message.specs.Stages.{is_slot}
 use Rattle.phase_message.specs.Header.{header_at}
 use Rattle.phase_message.specs.Body.{body_form}
-
-pub record Offence : Type 0 where
-  pub at : ℕ
-  pub rule : ℕ
 
 abbrev pub offence : ℕ → ℕ → Offence
 offence rule at = record { at = at; rule = rule }
@@ -130,3 +128,11 @@ content_read shape bytes = do
   head ← head_at shape (reading_of bytes)
   body ← body_at head.0.1 head.1
   unless (nat_lt 0 (length body.1.rest)) (offence 3 body.1.place) (record { header = head.0.0; body = body.0 })
+
+-- the first offence of bytes, none where they spell a content
+abbrev pub first_offence : Shape → List ℕ → Option Offence
+first_offence shape bytes = result_err (content_read shape bytes)
+
+-- what a reading comes to for one that keeps nothing: where it stands then, or the first offence
+abbrev pub passed : {A : Type 0} → Result (A × Reading) Offence → Result (Unit {0} × Reading) Offence
+passed read = read >>= λ x. Ok (tt {0}, x.1)

@@ -1,7 +1,7 @@
 //! Contents: a header, a kind and a body, and how their bytes are read.
 
-ghost use Rattle.std.specs.Prelude.{◌≡◌, ◌<◌, ◌≤◌, ◌^◌, length, IfOk};
-ghost use Rattle.wire_core.specs.Reading.{Gives, ReadsOr};
+ghost use Rattle.std.specs.Prelude.{◌≡◌, ◌<◌, ◌≤◌, ◌^◌, length, Err, IfOk, IsOk};
+ghost use Rattle.wire_core.specs.Reading.{Gives, Reads, ReadsOr};
 ghost use Rattle.phase_message.specs.declared.content.DecodeRefusal.TheVariants.{Malformed, Memory};
 ghost use Rattle.phase_message.specs.Grammar.{OfGrammar, content_text};
 ghost use Rattle.phase_message.specs.Stages.{shape_of};
@@ -10,6 +10,8 @@ ghost use Rattle.phase_message.specs.Offence.{body_at, content_read, fault, head
 use crate::field::{flag, item, items, key};
 use crate::form::{BodyForm, ItemForm, form_at};
 use crate::header::{Header, fields, hash};
+use crate::look::first_offence;
+use crate::offence::Offence;
 use crate::shape::Shape;
 use crate::stage::{Slot, is_slot};
 use std::alloc::{AllocError, AllocFailed, Global};
@@ -100,6 +102,17 @@ impl<T: Drop> From<AllocFailed<T>> for DecodeRefusal {
     }
 }
 
+impl From<Offence> for DecodeRefusal {
+    ghost from_gives = { λ offence refusal. refusal ≡ Malformed offence.at offence.rule };
+
+    fn from(offence: Offence) -> DecodeRefusal {
+        DecodeRefusal::Malformed {
+            at: offence.at,
+            rule: offence.rule,
+        }
+    }
+}
+
 // A field that ends after the content breaks rule 2.
 impl From<Short> for DecodeRefusal {
     ghost from_gives = { λ short refusal. refusal ≡ Malformed short.at 2 };
@@ -124,13 +137,20 @@ impl From<Short> for DecodeRefusal {
 /// - 5: a flag is neither 0 nor 1; at the flag
 /// - 6: a pad has more than 65,536 bytes; at its length
 /// - 3: bytes follow the body; at the first of them
+///
+/// `Memory` comes only where the bytes spell a content: a look that takes no memory comes first.
 pub fn decode(alloc: Global, shape: Shape, bytes: &[u8]) -> Result<Content, DecodeRefusal>
     requires short { length bytes.now < 2 ^ 32 }
     // What is read is of the grammar, and the bytes are its one spelling.
     ensures found { IfOk result (λ c. OfGrammar (shape_of shape) c × (bytes.now ≡ content_text c)) }
     // Which offence it is.
     ensures exact { Gives fault (λ x. x) result (content_read (shape_of shape) bytes.now) }
+    // Memory runs out only where there is none.
+    ensures memory { result ≡ Err DecodeRefusal.Memory → IsOk (content_read (shape_of shape) bytes.now) }
 {
+    if let Some(offence) = first_offence(shape, bytes) {
+        return Err(DecodeRefusal::from(offence));
+    }
     read_content(alloc, shape, bytes)
 }
 
@@ -155,23 +175,23 @@ fn read_content(alloc: Global, shape: Shape, bytes: &[u8]) -> Result<Content, De
 
 // The header, the kind, and what a body of the kind holds.
 #[tactic(auto, unfolding(crate::specs::Offence::head_at))]
-fn read_head(shape: Shape, cursor: &mut Cursor) -> Result<(Header, BodyForm), DecodeRefusal>
-    ensures { ReadsOr fault (λ x. x) result cursor.new (head_at (shape_of shape) cursor.old) }
+pub(crate) fn read_head(shape: Shape, cursor: &mut Cursor) -> Result<(Header, BodyForm), Offence>
+    ensures { Reads (λ x. x) result cursor.new (head_at (shape_of shape) cursor.old) }
 {
     let header = fields(cursor)?;
     if header.version != shape.version {
-        return Err(DecodeRefusal::Malformed { at: 0, rule: 8 });
+        return Err(Offence { at: 0, rule: 8 });
     }
     let slot = Slot {
         stage: header.stage,
         sender: header.sender,
     };
     if !is_slot(shape, slot) {
-        return Err(DecodeRefusal::Malformed { at: 41, rule: 9 });
+        return Err(Offence { at: 41, rule: 9 });
     }
     let kind = cursor.u8()?;
     match form_at(shape, header.stage, kind) {
-        None => Err(DecodeRefusal::Malformed { at: 75, rule: 1 }),
+        None => Err(Offence { at: 75, rule: 1 }),
         Some(form) => Ok((header, form)),
     }
 }
@@ -181,7 +201,7 @@ fn read_body(alloc: Global, cursor: &mut Cursor, form: BodyForm) -> Result<Body,
     ensures { ReadsOr fault (λ x. x) result cursor.new (body_at form cursor.old) }
 {
     match form {
-        BodyForm::Keys => read_keys(cursor),
+        BodyForm::Keys => Ok(read_keys(cursor)?),
         BodyForm::Submit { length } => {
             let ciphertext = item(alloc, cursor, ItemForm::Entry { length })?;
             Ok(Body::Submit { ciphertext })
@@ -211,8 +231,8 @@ fn read_body(alloc: Global, cursor: &mut Cursor, form: BodyForm) -> Result<Body,
 }
 
 #[tactic(auto, unfolding(crate::specs::Offence::body_at, wire_core::specs::Reading::repeated))]
-fn read_keys(cursor: &mut Cursor) -> Result<Body, DecodeRefusal>
-    ensures { ReadsOr fault (λ x. x) result cursor.new (body_at BodyForm.Keys cursor.old) }
+pub(crate) fn read_keys(cursor: &mut Cursor) -> Result<Body, Offence>
+    ensures { Reads (λ x. x) result cursor.new (body_at BodyForm.Keys cursor.old) }
 {
     let inner_a = key(cursor)?;
     let outer_a = key(cursor)?;

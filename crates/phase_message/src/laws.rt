@@ -45,6 +45,12 @@ pub fn stages_are_counted()
     ensures slots { (shape : Shape) (stage : ℕ) → stage_count shape ≤ stage → slots_before shape stage ≡ slot_count shape }
 {}
 
+/// A slot's stage is one of the round's, and its sender a member.
+pub fn slots_are_of_members()
+    ensures { (shape : Shape) (stage sender : ℕ) → IsTrue (is_slot shape stage sender) →
+        (stage < stage_count shape) × (1 ≤ sender) × (sender ≤ shape.members) }
+{}
+
 /// The list of a round's slots has 12 slots for each member. Each slot stands at its number, and what stands
 /// at a number is a slot of this number.
 pub fn slots_are_numbered()

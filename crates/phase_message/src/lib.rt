@@ -8,6 +8,8 @@ mod field;
 mod form;
 mod header;
 mod laws;
+mod look;
+mod offence;
 mod post;
 mod shape;
 mod slots;
@@ -19,9 +21,11 @@ pub use form::length_rule;
 pub use header::{Header, read_header};
 pub use laws::{
     closings_follow_votes, contents_are_spelled, contents_have_lengths, headers_agree,
-    headers_are_spelled, slot_numbers_rise, slots_are_numbered, spelled_contents_are_read,
-    stages_are_counted,
+    headers_are_spelled, slot_numbers_rise, slots_are_numbered, slots_are_of_members,
+    spelled_contents_are_read, stages_are_counted,
 };
+pub use look::first_offence;
+pub use offence::Offence;
 pub use post::{LEAST_CONTENT, POST_LIMIT, Post};
 pub use shape::Shape;
 pub use slots::{slot_number, slots_before};
