@@ -1,5 +1,5 @@
 -- When a closing content is justified.
-use Rattle.std.proofs.Common.{◌≡◌, ℕ, ◌-◌, ◌≤◌, Bool, true, false, List, take, Option, Some, None, refl, ap, sym, ◌∙◌, subst, arith}
+use Rattle.std.proofs.Common.{◌≡◌, ℕ, ◌-◌, ◌<◌, ◌≤◌, Bool, true, false, List, take, Option, Some, None, refl, ap, sym, ◌∙◌, subst, arith}
 use Rattle.std.specs.Prelude.{IsSome, ◌&&◌, not, bytes_eq, option_and_then}
 use Rattle.std.specs.Option.{option_map}
 use Rattle.std.proofs.lemmas.Bool.{cond-true, cond-false}
@@ -14,7 +14,7 @@ use Rattle.phase_message.proofs.Closings.{closing-follows}
 use Rattle.stage_log.specs.Table.{Log, is_complete, posts_in}
 use Rattle.stage_log.specs.Log.{before, contents_in, contents_of, log_view, view_of}
 use Rattle.stage_log.proofs.Pasts.{all_some-is, contents_in-map, contents_in-past, some_of}
-use Rattle.stage_log.proofs.Fronts.{complete-before}
+use Rattle.stage_log.proofs.Fronts.{before-complete, complete-before, some_is}
 use Rattle.go_nogo.specs.declared.votes.Vote.{Vote}
 use Rattle.go_nogo.specs.Closing.{HoldsEmbedded, HoldsFor, IsClosing, embedded_of, is_assent, is_justified}
 use Rattle.go_nogo.specs.Stands.{is_vote, log_votes}
@@ -48,6 +48,14 @@ votes-complete content log least holds = by_assent (is_assent content.body) refl
     by_assent : (b : Bool) → is_assent content.body ≡ b → is_complete log (content.header.stage - 1) ≡ true
     by_assent true e = subst (λ (b : Bool). HoldsFor b content.header.stage log) e holds
     by_assent false e = complete-before log content.header.stage (content.header.stage - 1) (subst (λ (b : Bool). HoldsFor b content.header.stage log) e holds) (omega arith)
+
+-- a log of which all stages before are complete holds what a closing content embeds
+pub holds-whole : (content : Content) (log : Log) → IsClosing log.shape content → ((earlier : ℕ) → earlier < content.header.stage → is_complete log earlier ≡ true) → HoldsEmbedded content log
+holds-whole content log closing all = by_assent (is_assent content.body)
+  where
+    by_assent : (b : Bool) → HoldsFor b content.header.stage log
+    by_assent true = let votes = votes-before log.shape content closing in all (content.header.stage - 1) (omega (arith, votes.0))
+    by_assent false = let past = before-complete log content.header.stage all in some_is (before log content.header.stage) past.0 past.1
 
 -- ---- the answer
 

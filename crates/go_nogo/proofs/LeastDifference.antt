@@ -79,7 +79,7 @@ slot-bounds shape stage sender speaks_there = by_kind (kind_of_stage shape stage
           bounds.1,
         )
 
-kept-slot : (log : Log) (slot : Slot) (post : Post) → kept_in log slot ≡ Some post → is_slot log.shape slot.stage slot.sender ≡ true
+pub kept-slot : (log : Log) (slot : Slot) (post : Post) → kept_in log slot ≡ Some post → is_slot log.shape slot.stage slot.sender ≡ true
 kept-slot log slot post e =
     elim (cases_Bool (is_slot log.shape slot.stage slot.sender)) [
       | inl speaks_there ↦ speaks_there

@@ -5,3 +5,4 @@ pub mod Justification
 pub mod LeastDifference
 pub mod OneKind
 pub mod EmbeddedSlots
+pub mod Standing

@@ -13,6 +13,10 @@ use Rattle.stage_log.specs.Table.{Log, kept_in, posts_in}
 use Rattle.go_nogo.specs.declared.votes.Vote.{Vote}
 use Rattle.go_nogo.specs.Votes.{vote_of, votes_of}
 
+-- the slot of a content's header
+abbrev pub slot_of : Content → Slot
+slot_of content = record { stage = content.header.stage; sender = content.header.sender }
+
 -- bytes spell a content of the grammar that stands in this slot
 pub record StandsIn (shape : Shape) (slot : Slot) (bytes : List ℕ) : Type 0 where
   pub said : Content
@@ -26,6 +30,10 @@ abbrev pub StandAt : Log → ℕ → Type 0
 StandAt log stage =
     (sender : ℕ) (post : Post) → kept_in log (record { stage = stage; sender = sender }) ≡ Some post →
     StandsIn log.shape (record { stage = stage; sender = sender }) post.content
+
+-- all that a log keeps is of the grammar and stands in its slots
+abbrev pub StandAll : Log → Type 0
+StandAll log = (stage : ℕ) → StandAt log stage
 
 -- whether a stage of this kind has votes
 abbrev pub is_vote : Option StageKind → Bool

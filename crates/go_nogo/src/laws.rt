@@ -1,16 +1,21 @@
 //! Laws of closing contents. Nobody calls these functions: the contract of each states a law.
 
-ghost use Rattle.std.specs.Prelude.{◌≡◌, ◌↔◌, ◌<◌, ◌+◌, ℕ, List, length, false, Contains, IsTrue};
+ghost use Rattle.std.specs.Prelude.{◌≡◌, ◌↔◌, ◌<◌, ◌+◌, ℕ, List, Ok, length, false, Contains, IsTrue};
+ghost use Rattle.wire_core.specs.Bytes.{IsBytes};
 ghost use Rattle.phase_message.specs.declared.content.Content.{Content};
 ghost use Rattle.phase_message.specs.declared.header.Header.{Header};
 ghost use Rattle.phase_message.specs.declared.post.Post.{Post};
 ghost use Rattle.phase_message.specs.declared.stage.Slot.{Slot};
+ghost use Rattle.phase_message.specs.Offence.{content_read};
 ghost use Rattle.phase_message.specs.Shape.{Shape};
 ghost use Rattle.phase_message.specs.Slots.{slots_before};
 ghost use Rattle.phase_message.specs.Stages.{is_slot};
 ghost use Rattle.stage_log.specs.Log.{contents_of, view_of};
+ghost use Rattle.stage_log.specs.Put.{put_log};
+ghost use Rattle.stage_log.specs.Table.{Log, empty_log};
 ghost use Rattle.go_nogo.specs.Closing.{IsClosing, embedded_of, is_assent, is_justified, posts_embedded, slots_embedded};
 ghost use Rattle.go_nogo.specs.Rows.{confirm_content, confirm_row, final_content, final_row, written};
+ghost use Rattle.go_nogo.specs.Stands.{StandAt, StandsIn, slot_of};
 ghost use Rattle.go_nogo.specs.Votes.{votes_agree};
 
 /// A Reveal and a Confirm embed the slots of the votes before them. A Dispute and a Differ embed all slots before
@@ -53,4 +58,15 @@ pub fn own_closing_justified()
         length posts ≡ slots_before shape header.stage →
         posts_embedded (confirm_row shape posts header.stage)
         ≡ written (embedded_of shape (confirm_content shape posts header) posts) }
+{}
+
+/// What is read stands in the slot of its header. A log that holds nothing holds only what stands in its slots, and
+/// goes on to do so where such a content is put, or one of another stage.
+pub fn standing_is_kept()
+    ensures read { (shape : Shape) (bytes : List ℕ) (content : Content) → IsBytes bytes →
+        content_read shape bytes ≡ Ok content → StandsIn shape (slot_of content) bytes }
+    ensures empty { (shape : Shape) (stage : ℕ) → StandAt (empty_log shape) stage }
+    ensures put { (log : Log) (slot : Slot) (post : Post) (stage : ℕ) → IsTrue (is_slot log.shape slot.stage slot.sender) →
+        StandAt log stage → (slot.stage ≡ stage → StandsIn log.shape slot post.content) →
+        StandAt (put_log log slot post) stage }
 {}

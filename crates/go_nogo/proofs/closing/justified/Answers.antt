@@ -1,4 +1,4 @@
-use Rattle.std.proofs.Common.{◌-◌, ◌∙◌, sym, arith}
+use Rattle.std.proofs.Common.{◌∙◌, sym, arith}
 use Rattle.go_nogo.proofs.Justification.{assent-justified, objection-justified, votes-before, votes-complete}
 use Rattle.go_nogo.proofs.closing.justified.Goals as goal
 
