@@ -1,4 +1,5 @@
 mod Disks
+mod Picked
 pub mod Torn
 pub mod Kept
 pub mod Midway

@@ -169,3 +169,6 @@ abbrev pub picked : Pick → Contents → List ℕ
 picked Old c = c.durable
 picked New c = c.file
 picked Ones c = filled_in c.durable c.pending
+
+unfoldable pub image_of : DiskState → Pick → List ℕ
+image_of disk pick = picked pick (contents_of disk)

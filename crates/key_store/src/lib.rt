@@ -3,6 +3,7 @@
 
 mod disk;
 mod front;
+mod images;
 mod layout;
 mod memory_disk;
 mod refusals;
@@ -14,6 +15,7 @@ mod store;
 pub use disk::{Disk, DiskAnswer, DiskRead};
 pub use memory_disk::MemoryDisk;
 pub use refusals::StoreRefusal;
+pub use steps_taken::Pick;
 pub use store::{KeyFile, create};
 
 #[cfg(test)]

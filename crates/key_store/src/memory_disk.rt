@@ -1,11 +1,12 @@
 //! A disk in memory, with one file of at most 128 bytes, of which calls fail by a plan, and which may crash.
 ghost use Rattle.std.specs.Prelude.{◌≡◌, ◌⊎◌, ◌≤◌, ◌↔◌, ℕ, List, [], length, Some, None, option_map, IfOk, IsTrue, if◌then◌else◌};
 ghost use Rattle.outside.specs.Plans.{plan_of};
-ghost use Rattle.key_store.specs.Memory.{after_call, after_fault, after_look, answer_of, fails_any, fails_step, file_after, file_of, looks, new_disk, StepFits, write_step};
+ghost use Rattle.key_store.specs.Memory.{after_call, after_fault, after_look, answer_of, fails_any, fails_step, file_of, image_of, looks, MayLeave, new_disk, StepFits, write_step};
 
 use crate::disk::{Disk, DiskAnswer, DiskRead};
+use crate::images::Images;
 use crate::room::{Room, overwrite};
-use crate::steps_taken::Step;
+use crate::steps_taken::{Pick, Step};
 use outside::FaultPlan;
 use std::alloc::{AllocError, Global};
 use std::marker::Model;
@@ -16,7 +17,7 @@ use std::marker::Model;
 #[derive(Debug, Drop)]
 pub struct MemoryDisk {
     first: Room,
-    file: Room,
+    images: Images,
     steps: Vec<Step>,
     room: usize,
     plan: FaultPlan,
@@ -26,6 +27,7 @@ pub struct MemoryDisk {
 impl Model for MemoryDisk {
     ghost use Rattle.std.specs.Prelude.{◌≡◌, ◌≤◌, vec_capacity};
     ghost use Rattle.key_store.specs.Memory.{after_steps, DiskState, synced};
+    ghost use Rattle.key_store.specs.Picks.{AreImagesOf};
 
     ghost Value = { DiskState };
 
@@ -38,7 +40,7 @@ impl Model for MemoryDisk {
     } };
 
     ghost invariant = { λ disk. record {
-      reads : disk.file ≡ (after_steps (synced disk.first) disk.steps.items).file;
+      images : AreImagesOf (after_steps (synced disk.first) disk.steps.items) disk.images;
       room : disk.room ≤ vec_capacity disk.steps;
     } };
 }
@@ -64,7 +66,7 @@ impl MemoryDisk {
     {
         Ok(MemoryDisk {
             first: Room::new(alloc, bytes)?,
-            file: Room::new(alloc, bytes)?,
+            images: Images::new(alloc, bytes)?,
             steps: Vec::with_capacity(alloc, room)?,
             room,
             plan: FaultPlan::new(failing),
@@ -77,7 +79,7 @@ impl MemoryDisk {
     pub fn file(&self) -> &[u8]
         ensures { result.now ≡ file_of self.now }
     {
-        self.file.bytes()
+        self.images.picked(Pick::New)
     }
 
     /// After this number of further calls that pass, whatever they are, each call fails.
@@ -85,6 +87,15 @@ impl MemoryDisk {
         ensures { self.new ≡ record self.old { passing = Some calls } }
     {
         self.passing = Some(calls);
+    }
+
+    /// The disk as a crash leaves it, where it leaves the picked image: with this file, the same room and no failing
+    /// calls.
+    pub fn crash(&self, alloc: Global, pick: Pick) -> Result<MemoryDisk, AllocError>
+        ensures left { IfOk result (λ disk. disk ≡ new_disk (image_of self.now pick) self.now.room (plan_of [])) }
+        ensures image { MayLeave self.now (image_of self.now pick) }
+    {
+        MemoryDisk::holding(alloc, self.images.picked(pick), self.room, Vec::new(alloc))
     }
 
     // Counts a call, and says whether it fails.
@@ -138,23 +149,11 @@ impl MemoryDisk {
             self.plan.fault();
             return DiskAnswer::Failed;
         }
-        do_step(&mut self.file, &step);
+        self.images.step(&step);
         match self.steps.push(step) {
             Ok(()) => DiskAnswer::Done,
             Err(_) => unreachable!(),
         }
-    }
-}
-
-// Does a step to a file.
-fn do_step(file: &mut Room, step: &Step)
-    requires { StepFits file.old step.now }
-    ensures { file.new ≡ file_after file.old step.now }
-{
-    match step {
-        Step::Wrote { at, size, bytes } => file.write(*at, &bytes[..*size as usize]),
-        Step::Synced => {}
-        Step::Emptied => file.clear(),
     }
 }
 
@@ -228,7 +227,7 @@ impl Disk for MemoryDisk {
     {
         match self.look() {
             DiskAnswer::Done => DiskRead::Read {
-                taken: self.file.read(at, into),
+                taken: self.images.file.read(at, into),
             },
             DiskAnswer::Failed => DiskRead::Failed,
         }
@@ -246,7 +245,7 @@ impl Disk for MemoryDisk {
         ensures failed { result ≡ DiskAnswer.Failed → Rose self.old.plan.faults self.new.plan.faults }
         ensures no_fall { self.old.plan.faults ≤ self.new.plan.faults }
     {
-        if !self.file.fits(at, bytes.len()) {
+        if !self.images.file.fits(at, bytes.len()) {
             self.fails();
             return DiskAnswer::Failed;
         }

@@ -52,6 +52,14 @@ impl Room {
         self.size = 0;
     }
 
+    /// The same bytes as another.
+    pub fn copy(&mut self, other: &Room)
+        ensures { self.new ≡ other.now }
+    {
+        self.buffer.copy_from_slice(&other.buffer);
+        self.size = other.size;
+    }
+
     /// Reads bytes from `at` on into the first of `into`, as many as there are and fit.
     pub fn read(&self, at: u32, into: &mut [u8]) -> u32
         ensures bounded { result ≤ length into.old }

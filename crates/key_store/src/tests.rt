@@ -1,7 +1,7 @@
 ghost use Rattle.std.specs.Prelude.{IfOk};
 ghost use Rattle.key_store.specs.Store.{IsCurrent};
 
-use crate::{Disk, DiskAnswer, KeyFile, MemoryDisk, StoreRefusal, create};
+use crate::{Disk, DiskAnswer, KeyFile, MemoryDisk, Pick, StoreRefusal, create};
 use lms_tree::{LmsPublic, MadeHeight, OtsType};
 use std::alloc::Global;
 use std::test::Fail;
@@ -43,6 +43,81 @@ fn begun<D: Disk>(
         }
         Err(refusal) => Err(refusal),
     }
+}
+
+// What the key file on a disk stands for: the greatest round, and the next leaf.
+fn standing<D: Disk>(alloc: Global, disk: &mut D) -> Result<(u64, u32), StoreRefusal> {
+    let mut key = KeyFile::load(alloc, disk)?;
+    let old = begun(&mut key, alloc, disk, 0, 0);
+    let exhausted = begun(&mut key, alloc, disk, u64::MAX, 33);
+    match (old, exhausted) {
+        (Err(StoreRefusal::OldRound { kept }), Err(StoreRefusal::Exhausted { next })) => Ok((
+            kept, next,
+        )),
+        _ => Err(StoreRefusal::DiskFault),
+    }
+}
+
+// Makes a key file, loads it, and begins two rounds.
+fn two_rounds<D: Disk>(alloc: Global, disk: &mut D) -> Result<(), StoreRefusal> {
+    create(alloc, disk, MadeHeight::H5, OtsType::W1, &MASTER)?;
+    let mut key = KeyFile::load(alloc, disk)?;
+    begun(&mut key, alloc, disk, 1, 12)?;
+    begun(&mut key, alloc, disk, 2, 12)?;
+    Ok(())
+}
+
+// A disk that stops after this number of calls, of which two rounds need 17.
+fn stopped(alloc: Global, calls: u32) -> Result<MemoryDisk, Fail> {
+    let mut disk = MemoryDisk::new(alloc, 20, Vec::new(alloc))?;
+    disk.stop_after(calls);
+    let ended = two_rounds(alloc, &mut disk);
+    if ended.is_ok() != (calls >= 17) {
+        return Err(Fail::from("ended too early or too late"));
+    }
+    Ok(disk)
+}
+
+// What the key file stands for after a crash.
+fn left(
+    alloc: Global,
+    disk: &MemoryDisk,
+    pick: Pick,
+) -> Result<Result<(u64, u32), StoreRefusal>, Fail> {
+    let mut after = disk.crash(alloc, pick)?;
+    Ok(standing(alloc, &mut after))
+}
+
+#[test]
+fn a_crash_at_any_call_leaves_what_was_begun(rt: HostRuntime) -> Result<(), Fail> {
+    let alloc = rt.alloc();
+    let missing = Err(StoreRefusal::NotKeyFile { at: 0 });
+    let closed = Err(StoreRefusal::NotKeyFile { at: 64 });
+    let made = Ok((0, 0));
+    let first = Ok((1, 12));
+    let second = Ok((2, 24));
+    // The calls that pass, and what the old bytes, the new ones and ones of what was not synced stand for.
+    for (calls, old, new, ones) in [
+        (0, missing, missing, missing),
+        (1, missing, closed, missing),
+        (2, closed, closed, closed),
+        (3, closed, made, closed),
+        (4, made, made, made),
+        (10, made, first, made),
+        (11, first, first, first),
+        (12, first, first, first),
+        (13, first, first, first),
+        (14, first, first, first),
+        (15, first, first, first),
+        (16, first, second, first),
+        (17, second, second, second),
+    ] {
+        let disk = stopped(alloc, calls)?;
+        assert!(rt; left(alloc, &disk, Pick::Old)? == old);
+        assert!(rt; left(alloc, &disk, Pick::New)? == new);
+        assert!(rt; left(alloc, &disk, Pick::Ones)? == ones);
+    }
+    Ok(())
 }
 
 #[test]

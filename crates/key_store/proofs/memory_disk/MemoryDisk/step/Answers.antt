@@ -1,16 +1,16 @@
-use Rattle.std.proofs.Common.{◌≡◌, ◌++◌, ◌∷◌, [], List, length, false, sym, ap, ◌∙◌, arith}
+use Rattle.std.proofs.Common.{◌≡◌, ◌++◌, ◌∷◌, [], List, ℕ, length, false, sym, ap, ◌∙◌, subst, arith}
 use Rattle.key_store.specs.declared.steps_taken.Step.{Step}
-use Rattle.key_store.specs.Memory.{DiskState, after_steps, fails_step, file_after, synced}
-use Rattle.key_store.proofs.Disks.{file-push, no_step_fails, stepped}
+use Rattle.key_store.specs.Memory.{DiskState, StepFits, fails_step, file_of}
+use Rattle.key_store.proofs.Disks.{no_step_fails, stepped}
+use Rattle.key_store.proofs.Picked.{fits_still, images_push}
 use Rattle.key_store.proofs.memory_disk.MemoryDisk.step.Goals as goal
 
 pub invariant_of-self-2 : goal.invariant_of-self-2
 invariant_of-self-2 c = record {
-  reads =
-      c.do_step.ensures
-      ∙ ap (λ file. file_after file c.args.step) c.self-3.invariant.reads
-      ∙ sym (file-push c.self-3.inside.first c.self-3.inside.steps.items c.args.step)
-      ∙ ap (λ (steps : List Step). (after_steps (synced c.self-3.inside.first) steps).file) (sym c.in-Ok.ensures.items);
+  images =
+      images_push c.self-3.inside.first c.self-3.inside.steps.items _ c.args.step c.self-3.inside.images _ c.self-3.invariant.images
+      (fits_still c.args.self.now c.counts.new.self _ c.self-3.inside.images c.args.step c.self-3.invariant.images c.self-3.view_is c.counts.ensures.counted c.requires)
+      c.step.ensures c.in-Ok.ensures.items;
   room = omega (arith, c.self-3.invariant.room, c.in-Ok.ensures.capacity);
 }
 

@@ -9,8 +9,8 @@ pub returns-clause-written : goal.returns-clause-written
 unfolding file_of
 returns-clause-written c =
     let is = c.step.ensures.after ∙ ap (after_call (fails_step c.args.self.now) c.args.self.now) c.write_step.ensures in
-    let reads = ap length (c.self.invariant.reads ∙ ap (λ (d : DiskState). file_of d) c.self.view_is) in
-    let place = fits_place (length c.self.inside.file) c.args.at (length c.args.bytes.now) c.fits.result c.fits.ensures.value c.if-not-fits.false in
+    let reads = ap length (c.self.invariant.images.file ∙ ap (λ (d : DiskState). file_of d) c.self.view_is) in
+    let place = fits_place (length c.self.inside.images.file) c.args.at (length c.args.bytes.now) c.fits.result c.fits.ensures.value c.if-not-fits.false in
     let within : c.args.at ≤ length (file_of c.args.self.now) = omega (arith, reads, place) in
     (overwrites _ _ _ _ c.args.at c.args.bytes.now c.step.ensures.answer is (λ passes. within)).written
 
@@ -18,8 +18,8 @@ pub returns-clause-images : goal.returns-clause-images
 unfolding file_of
 returns-clause-images c =
     let is = c.step.ensures.after ∙ ap (after_call (fails_step c.args.self.now) c.args.self.now) c.write_step.ensures in
-    let reads = ap length (c.self.invariant.reads ∙ ap (λ (d : DiskState). file_of d) c.self.view_is) in
-    let place = fits_place (length c.self.inside.file) c.args.at (length c.args.bytes.now) c.fits.result c.fits.ensures.value c.if-not-fits.false in
+    let reads = ap length (c.self.invariant.images.file ∙ ap (λ (d : DiskState). file_of d) c.self.view_is) in
+    let place = fits_place (length c.self.inside.images.file) c.args.at (length c.args.bytes.now) c.fits.result c.fits.ensures.value c.if-not-fits.false in
     let within : c.args.at ≤ length (file_of c.args.self.now) = omega (arith, reads, place) in
     (overwrites _ _ _ _ c.args.at c.args.bytes.now c.step.ensures.answer is (λ passes. within)).images
 

@@ -1,0 +1,17 @@
+use Rattle.std.proofs.Common.{◌∙◌, ap, subst}
+use Rattle.key_store.specs.Memory.{DiskState, contents_of}
+use Rattle.key_store.specs.Picks.{AreImagesOf}
+use Rattle.key_store.proofs.Picked.{image_shown, picked_left}
+use Rattle.key_store.proofs.memory_disk.MemoryDisk.crash.Goals as goal
+
+pub returns-clause-left : goal.returns-clause-left
+returns-clause-left c =
+    let shown = subst (λ (d : DiskState). AreImagesOf (contents_of d) c.self.inside.images) c.self.view_is c.self.invariant.images in
+    let image = c.picked.ensures.value ∙ image_shown c.args.self.now c.self.inside.images c.args.pick shown in
+    let room = ap (λ (d : DiskState). d.room) c.self.view_is in
+    rw (image, room, c.new.ensures.items) at c.holding.ensures
+
+pub returns-clause-image : goal.returns-clause-image
+returns-clause-image c =
+    picked_left c.args.self.now c.self.inside.images c.args.pick
+    (subst (λ (d : DiskState). AreImagesOf (contents_of d) c.self.inside.images) c.self.view_is c.self.invariant.images)
