@@ -6,7 +6,8 @@ use Rattle.wire_core.specs.Answers.{fault_as}
 use Rattle.wire_core.proofs.AnswerLemmas.{bind_ok, fault_as_ok}
 use Rattle.phase_message.specs.declared.content.Content.{Content}
 use Rattle.phase_message.specs.declared.header.Header.{Header}
-use Rattle.phase_message.specs.Offence.{Offence, content_read}
+use Rattle.phase_message.specs.declared.offence.Offence.{Offence}
+use Rattle.phase_message.specs.Offence.{content_read}
 use Rattle.phase_message.proofs.Whole.{content-header}
 use Rattle.group_roster.specs.Roster.{Roster}
 use Rattle.signed_post.specs.declared.post.PostRefusal.TheVariants.{Memory, Body as BodyFault}

@@ -5,7 +5,8 @@ use Rattle.std.specs.List.{list_all}
 use Rattle.phase_message.specs.declared.content.Body.{Body}
 use Rattle.phase_message.specs.declared.content.Body.TheVariants.{Go, Check}
 use Rattle.phase_message.specs.declared.content.Content.{Content}
-use Rattle.phase_message.specs.Offence.{Offence, content_read}
+use Rattle.phase_message.specs.declared.offence.Offence.{Offence}
+use Rattle.phase_message.specs.Offence.{content_read}
 use Rattle.phase_message.specs.Shape.{Shape}
 use Rattle.stage_log.specs.Log.{all_some, contents_at}
 use Rattle.go_nogo.specs.declared.votes.Vote.{Vote}

@@ -10,7 +10,8 @@ use Rattle.phase_message.specs.declared.form.BodyForm.{BodyForm}
 use Rattle.phase_message.specs.declared.form.BodyForm.TheVariants.{Keys as OfKeys, Submit as OfSubmit, Shuffled as OfShuffled, Abort as OfAbort, Go as OfGo, Reveal as OfReveal, Dispute as OfDispute, Pads as OfPads, Check as OfCheck, Confirm as OfConfirm, Differ as OfDiffer}
 use Rattle.phase_message.specs.declared.content.Body.{Body}
 use Rattle.phase_message.specs.declared.content.Body.TheVariants.{Keys, Submit, Shuffled, Abort, Go, Reveal, Dispute, Pads, Check, Confirm, Differ}
-use Rattle.phase_message.specs.Offence.{Offence, field_at, flag_at, key_at, item_at, items_at, held_in, body_at}
+use Rattle.phase_message.specs.declared.offence.Offence.{Offence}
+use Rattle.phase_message.specs.Offence.{field_at, flag_at, key_at, item_at, items_at, held_in, body_at}
 use Rattle.ring_poly.specs.PublicKey.{IsPublicKey}
 use Rattle.phase_message.specs.Grammar.{prefixed, AreItems, body_text, Fits}
 use Rattle.phase_message.proofs.Spelled.{given, field-takes, field-again, flag-takes, flag-again, key-takes, key-again, item-takes, item-again, items-takes, items-again}

@@ -2,7 +2,8 @@
 use Rattle.std.proofs.Common.{◌≡◌, ℕ, zero, suc, ◌+◌, ◌-◌, ◌<◌, ◌≤◌, List, ◌∷◌, refl, ap, sym, ◌∙◌, arith}
 use Rattle.std.specs.Prelude.{Option, Some, Result, Ok, Err}
 use Rattle.wire_core.specs.Reading.{Reading, Reads, ◌>>=◌, repeated}
-use Rattle.phase_message.specs.Offence.{Offence, passed}
+use Rattle.phase_message.specs.declared.offence.Offence.{Offence}
+use Rattle.phase_message.specs.Offence.{passed}
 
 -- a value in front of those that are read is passed as they are
 front-passed : {A : Type 0} (value : A) (others : Result (List A × Reading) Offence) → passed (others >>= λ o. Ok (value ∷ o.0, o.1)) ≡ passed others

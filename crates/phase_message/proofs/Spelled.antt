@@ -14,7 +14,8 @@ use Rattle.wire_core.specs.Reading.{Reading, reading_at, ◌>>=◌, fault_as, un
 use Rattle.wire_core.proofs.Readings.{bind_ok, fault_as_ok, guard_ok, Takes-append, bytes_at-takes, bytes_at-again, number_at-takes_1, number_at-takes_4, number_at-again_1, number_at-again_4, repeated-takes, repeated-again}
 use Rattle.phase_message.specs.declared.form.ItemForm.{ItemForm}
 use Rattle.phase_message.specs.declared.form.ItemForm.TheVariants.{Entry, Post, Pad}
-use Rattle.phase_message.specs.Offence.{Offence, offence, cut, field_at, flag_at, bad_group, key_at, length_at, item_at, items_at}
+use Rattle.phase_message.specs.declared.offence.Offence.{Offence}
+use Rattle.phase_message.specs.Offence.{offence, cut, field_at, flag_at, bad_group, key_at, length_at, item_at, items_at}
 use Rattle.ring_poly.specs.PublicKey.{IsPublicKey}
 use Rattle.phase_message.specs.Grammar.{prefixed, flag_text, IsItem, AreItems}
 

@@ -21,7 +21,8 @@ use Rattle.phase_message.specs.Slots.{slots_before}
 use Rattle.phase_message.specs.Header.{header_at, header_of}
 use Rattle.phase_message.specs.Body.{only, either, form_in, form_of, body_form, level}
 use Rattle.phase_message.specs.declared.content.DecodeRefusal.{DecodeRefusal}
-use Rattle.phase_message.specs.Offence.{Offence, fault, offence, cut, head_at, body_at, content_read}
+use Rattle.phase_message.specs.declared.offence.Offence.{Offence}
+use Rattle.phase_message.specs.Offence.{fault, offence, cut, head_at, body_at, content_read}
 use Rattle.phase_message.specs.Grammar.{header_text, kind_number, body_text, content_text, Fits, HasWidths, BeginsWith, IsHeader, OfGrammar}
 use Rattle.phase_message.proofs.Bodies.{body-takes, body-again}
 

@@ -26,7 +26,7 @@ use Rattle.phase_message.specs.declared.content.Body.TheVariants.{Keys, Submit, 
 use Rattle.phase_message.specs.declared.content.Content.{Content}
 use Rattle.phase_message.specs.declared.content.DecodeRefusal.{DecodeRefusal}
 use Rattle.phase_message.specs.declared.content.DecodeRefusal.TheVariants.{Malformed, Memory}
-pub use Rattle.phase_message.specs.declared.offence.Offence.{Offence}
+use Rattle.phase_message.specs.declared.offence.Offence.{Offence}
 use Rattle.phase_message.specs.Shape.{Shape}
 use Rattle.phase_message.specs.Stages.{is_slot}
 use Rattle.phase_message.specs.Header.{header_at}

@@ -11,7 +11,8 @@ use Rattle.phase_message.specs.declared.content.Body.TheVariants.{Keys, Submit, 
 use Rattle.phase_message.specs.declared.content.Content.{Content}
 use Rattle.phase_message.specs.declared.stage.StageKind.{StageKind}
 use Rattle.phase_message.specs.declared.stage.StageKind.TheVariants.{Final}
-use Rattle.phase_message.specs.Offence.{Offence, content_read}
+use Rattle.phase_message.specs.declared.offence.Offence.{Offence}
+use Rattle.phase_message.specs.Offence.{content_read}
 use Rattle.phase_message.specs.Shape.{Shape}
 use Rattle.phase_message.specs.Slots.{slot_number}
 use Rattle.phase_message.specs.Stages.{kind_of_stage}
