@@ -1,13 +1,12 @@
 -- The first faults of members, and those of views, outer seeds and votes.
-use Rattle.std.proofs.Common.{◌≡◌, ◌≢◌, ◌⊎◌, ℕ, zero, suc, ◌+◌, ◌-◌, ◌<◌, ◌≤◌, List, [], ◌∷◌, Bool, true, false, Option, Some, None, Result, Ok, Err, inl, inr, get_or, refl, sym, ap, ◌∙◌, subst, arith}
+use Rattle.std.proofs.Common.{◌≡◌, ◌⊎◌, ℕ, zero, suc, ◌+◌, ◌-◌, ◌<◌, ◌≤◌, List, [], ◌∷◌, Bool, true, false, Option, Some, None, Result, Ok, Err, inl, inr, get_or, refl, sym, ap, ◌∙◌, subst, arith}
 use Rattle.std.specs.Prelude.{IsSome, IsTrue, slice_index_or, if◌then◌else◌}
 use Rattle.std.specs.List.{slice_get}
-use Rattle.std.specs.Option.{option_and_then, option_map}
-use Rattle.std.specs.Str.{bytes_eq}
+use Rattle.std.specs.Option.{option_and_then}
 use Rattle.std.proofs.lemmas.Slice.Eq.{bytes_eq-Decides}
 use Rattle.wire_core.specs.declared.cursor.Short.{Short}
-use Rattle.wire_core.specs.Answers.{fault_unless, first_below, first_some}
-use Rattle.wire_core.proofs.AnswerLemmas.{fault_unless-holds, first_below-each, first_some-none, nothing_mapped}
+use Rattle.wire_core.specs.Answers.{fault_unless, first_some}
+use Rattle.wire_core.proofs.AnswerLemmas.{fault_unless-holds, first_below-each, nothing_mapped}
 use Rattle.ring_encrypt.specs.Capsule.{key_of_seed}
 use Rattle.phase_message.specs.declared.content.Body.{Body}
 use Rattle.phase_message.specs.declared.content.Body.TheVariants.{Keys, Submit, Shuffled, Abort, Go, Reveal, Dispute, Pads, Check, Confirm, Differ}
@@ -18,14 +17,14 @@ use Rattle.phase_message.specs.declared.stage.StageKind.{StageKind}
 use Rattle.phase_message.specs.declared.stage.StageKind.TheVariants.{Keys as AtKeys, Submit as AtSubmit, Shuffle as AtShuffle, Go as AtGo, Final as AtFinal, Pad as AtPad, Check as AtCheck, Confirm as AtConfirm}
 use Rattle.phase_message.specs.Header.{header_of}
 use Rattle.phase_message.specs.Offence.{content_read}
-use Rattle.phase_message.specs.Slots.{slot_at, slot_number, slots_before}
+use Rattle.phase_message.specs.Slots.{slot_number, slots_before}
 use Rattle.phase_message.specs.Stages.{is_slot, kind_of_stage}
 use Rattle.phase_message.proofs.SlotLists.{slot_at-number, slot_number-within, slots_before-rises}
 use Rattle.phase_message.proofs.Whole.{content-header}
 use Rattle.stage_log.specs.Log.{first_wrong, has_view, is_carried, is_right, view_of, wrong_at, wrong_slot}
 use Rattle.shuffle_blame.specs.declared.fault.Cause.TheVariants.{View, OuterSeed, FalseNoGo}
 use Rattle.shuffle_blame.specs.declared.fault.Fault.{Fault}
-use Rattle.shuffle_blame.specs.Replay.{Inquiry, body_in, bytes_in, culprit_at, culprit_of, fault, first_member, has_outer_key, outer_place, outer_seed, seed_fault, shows_its_seed, submission_fault, turn_fault, view_fault, vote_fault, votes_yes}
+use Rattle.shuffle_blame.specs.Replay.{Inquiry, body_in, bytes_in, culprit_at, fault, first_member, has_outer_key, outer_place, outer_seed, seed_fault, shows_its_seed, submission_fault, turn_fault, view_fault, vote_fault, votes_yes}
 use Rattle.shuffle_blame.specs.Laws.{HasNo, HasTwoViews, IsMember, NoSeedFault, NoViewFault, UnlikeVotesBlame}
 
 -- where no member has a fault, each has none

@@ -1,6 +1,6 @@
 -- Submissions that open by the shown outer seeds.
-use Rattle.std.proofs.Common.{◌≡◌, ℕ, zero, suc, ◌+◌, ◌-◌, ◌<◌, ◌≤◌, List, [], ◌∷◌, ◌++◌, length, map, take, Bool, true, false, Option, Some, None, get_or, refl, sym, ap, ◌∙◌, subst, arith}
-use Rattle.std.specs.List.{range_with_len, AllZip}
+use Rattle.std.proofs.Common.{◌≡◌, ℕ, zero, suc, ◌+◌, ◌-◌, ◌<◌, List, [], ◌∷◌, ◌++◌, length, take, true, Option, Some, None, get_or, refl, sym, ap, ◌∙◌, subst, arith}
+use Rattle.std.specs.List.{AllZip}
 use Rattle.std.specs.Option.{option_and_then, option_map}
 use Rattle.std.specs.Str.{bytes_eq}
 use Rattle.std.proofs.lemmas.List.{take_more, length-map}
@@ -14,10 +14,9 @@ use Rattle.layer_cipher.specs.Layer.{opened_through, peeled}
 use Rattle.layer_cipher.specs.Stripping.{OpensTo, stripped_through}
 use Rattle.layer_cipher.proofs.ThroughLemmas.{strips_through_exactly}
 use Rattle.shuffle_blame.specs.declared.fault.Cause.TheVariants.{Submission}
-use Rattle.shuffle_blame.specs.declared.fault.Fault.{Fault}
 use Rattle.shuffle_blame.specs.declared.fault.Shown.{Shown}
-use Rattle.shuffle_blame.specs.Replay.{Inquiry, OUTER, fault, has_layer, inside, is_passed, layer_fault, outer_opening, outer_seed, outer_seeds, own_layer_seed, sealed_in, submission, submission_fault, submissions}
-use Rattle.shuffle_blame.specs.Laws.{HasShownStrings, IsMember, NoSubmissionFault, StrippedAreDistinct, own_layer_seeds}
+use Rattle.shuffle_blame.specs.Replay.{Inquiry, OUTER, fault, has_layer, inside, is_passed, layer_fault, outer_opening, outer_seed, outer_seeds, own_layer_seed, submission, submission_fault, submissions}
+use Rattle.shuffle_blame.specs.Laws.{IsMember, NoSubmissionFault, StrippedAreDistinct, own_layer_seeds}
 use Rattle.shuffle_blame.proofs.Faults.{first_member-each}
 
 abbrev Found : Type 0
@@ -28,7 +27,7 @@ Found = List (List ℕ) × List ℕ
 joined : List ℕ → Found → Found
 joined m q = (m ∷ q.0, q.1)
 
-opened-nil : (entry : List ℕ) → opened_through [] entry ≡ Some ([], entry)
+pub opened-nil : (entry : List ℕ) → opened_through [] entry ≡ Some ([], entry)
 unfolding opened_through
 opened-nil entry = refl
 

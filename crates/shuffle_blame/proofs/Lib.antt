@@ -2,3 +2,11 @@ pub mod Faults
 pub mod Layers
 pub mod Permutations
 pub mod Turns
+pub mod Kept
+pub mod Endings
+pub mod Slots
+pub mod Loops
+pub mod Looks
+pub mod Steps
+pub mod Shorts
+pub mod Culprits

@@ -1,5 +1,5 @@
 -- What the lists of a shuffle hold where no turn is at fault.
-use Rattle.std.proofs.Common.{◌≡◌, ℕ, zero, suc, ◌+◌, ◌-◌, ◌<◌, ◌≤◌, List, [], ◌∷◌, ◌++◌, length, take, Bool, true, false, Option, Some, None, refl, sym, ap, ◌∙◌, arith, IsPermutation}
+use Rattle.std.proofs.Common.{◌≡◌, ℕ, zero, suc, ◌+◌, ◌-◌, ◌<◌, List, [], ◌∷◌, ◌++◌, length, take, true, Option, Some, None, refl, sym, ap, ◌∙◌, arith, IsPermutation}
 use Rattle.std.specs.Option.{option_and_then}
 use Rattle.std.proofs.lemmas.List.Sorted.{IsPermutation-refl, IsPermutation-sym, IsPermutation-trans}
 use Rattle.wire_core.specs.Answers.{fault_unless}
@@ -8,8 +8,8 @@ use Rattle.layer_cipher.specs.Stripping.{stripped, stripped_through}
 use Rattle.layer_cipher.proofs.StrippingLemmas.{strips_in_any_order}
 use Rattle.layer_cipher.proofs.ThroughLemmas.{strips_through_more}
 use Rattle.shuffle_blame.specs.declared.fault.Cause.TheVariants.{Shuffle}
-use Rattle.shuffle_blame.specs.Replay.{Inquiry, bodies_before, fault, is_order_of, is_permutation, is_turn, list_after, outer_seed, outer_seeds, submissions, turn_fault}
-use Rattle.shuffle_blame.specs.Laws.{HasStripped, IsMember, LastListHas, ListsAreStripped}
+use Rattle.shuffle_blame.specs.Replay.{Inquiry, bodies_before, fault, is_order_of, is_turn, list_after, outer_seed, outer_seeds, submissions}
+use Rattle.shuffle_blame.specs.Laws.{HasStripped, LastListHas, ListsAreStripped}
 use Rattle.shuffle_blame.proofs.Faults.{first_member-each}
 use Rattle.shuffle_blame.proofs.Layers.{seeds-next}
 use Rattle.shuffle_blame.proofs.Permutations.{permutation_there}

@@ -1,5 +1,5 @@
 -- What holds of a replay.
-use Rattle.std.specs.Prelude.{◌≡◌, ◌≢◌, ◌⊎◌, ◌↔◌, ℕ, ◌+◌, ◌-◌, ◌<◌, ◌≤◌, ◌^◌, List, [], map, take, length, true, false, Option, Some, None, Ok, IsSome, IsTrue, AllPairs, Contains, IsPermutation, slice_index_or}
+use Rattle.std.specs.Prelude.{◌≡◌, ◌≢◌, ◌⊎◌, ◌↔◌, ℕ, ◌-◌, ◌<◌, ◌≤◌, ◌^◌, List, [], map, take, length, true, false, Some, None, Ok, IsSome, IsTrue, AllPairs, Contains, IsPermutation, slice_index_or}
 use Rattle.std.specs.List.{range_with_len}
 use Rattle.wire_core.specs.Hash.{NoCollision, layer_seed_string}
 use Rattle.ring_encrypt.specs.Capsule.{key_of_seed}
@@ -7,9 +7,8 @@ use Rattle.layer_cipher.specs.Layer.{opened_through}
 use Rattle.layer_cipher.specs.Stripping.{stripped_through}
 use Rattle.phase_message.specs.declared.content.Body.TheVariants.{Keys}
 use Rattle.phase_message.specs.declared.content.Content.{Content}
-use Rattle.phase_message.specs.declared.stage.StageKind.{StageKind}
 use Rattle.phase_message.specs.Offence.{content_read}
-use Rattle.phase_message.specs.Stages.{is_slot, kind_of_stage, vote_of}
+use Rattle.phase_message.specs.Stages.{is_slot}
 use Rattle.stage_log.specs.Log.{is_right}
 use Rattle.shuffle_blame.specs.Replay.{Inquiry, OUTER, bytes_in, culprit_of, is_permutation, is_turn, list_after, outer_opening, outer_place, outer_seed, outer_seeds, own_layer_seed, seed_fault, submission, submission_fault, submissions, turn_fault, body_in, view_fault, votes_yes}
 

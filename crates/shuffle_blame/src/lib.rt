@@ -4,11 +4,21 @@
 //! shuffle, and last a vote.
 #![tactic(auto)]
 
+mod culprit;
+mod ended;
 mod fault;
 mod laws;
+mod order;
+mod outer_key;
+mod said;
+mod submissions;
+mod turn;
+mod votes;
 
+pub use culprit::replay;
 pub use fault::{Cause, Fault, Shown};
 pub use laws::{
     last_list_has, lists_are_stripped, no_seed_fault, no_submission_fault, no_view_fault,
     stripped_distinct, unlike_votes_blame,
 };
+pub use stage_log::StageLog;
