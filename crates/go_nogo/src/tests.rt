@@ -5,7 +5,7 @@ ghost use Rattle.go_nogo.specs.Stands.{IsVoteStage, StandAll};
 
 use super::*;
 use phase_message::{Body, Header, Post, Shape, StageKind, decode, is_slot, stage_kind};
-use std::alloc::{AllocError, Global};
+use std::alloc::Global;
 use std::test::Fail;
 use wire_core::{List, Mem, put_bytes, put_u8, put_u64};
 
