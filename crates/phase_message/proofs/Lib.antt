@@ -11,3 +11,4 @@ pub mod Bodies
 pub mod Whole
 pub mod Lengths
 pub mod Written
+pub mod Read

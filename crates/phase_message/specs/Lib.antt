@@ -6,3 +6,4 @@ pub mod Body
 pub mod Post
 pub mod Offence
 pub mod Grammar
+pub mod Closing

@@ -9,6 +9,7 @@ ghost use Rattle.phase_message.specs.declared.stage.Slot.{Slot};
 ghost use Rattle.phase_message.specs.declared.stage.StageKind.{StageKind};
 ghost use Rattle.phase_message.specs.declared.stage.StageKind.TheVariants.{Pad, Shuffle};
 ghost use Rattle.phase_message.specs.Body.{length_rule, level};
+ghost use Rattle.phase_message.specs.Closing.{ClosingsAreRead};
 ghost use Rattle.phase_message.specs.Shape.{Shape};
 ghost use Rattle.phase_message.specs.Stages.{is_slot, kind_of_stage, vote_of};
 ghost use Rattle.phase_message.specs.Slots.{slot_at, slot_count, slot_number, slots_before, slots_of, stage_count};
@@ -95,4 +96,10 @@ pub fn contents_have_lengths()
     ensures pads { (shape : Shape) (c : Content) → OfGrammar shape c →
         kind_of_stage shape c.header.stage ≡ Some Pad →
         length (content_text c) ≤ 76 + shape.members * 65540 }
+{}
+
+/// What is read at a closing stage says that the votes are unanimous, and embeds a post of each member; or it objects,
+/// and embeds a post of each slot before it.
+pub fn closings_are_read()
+    ensures { ClosingsAreRead }
 {}

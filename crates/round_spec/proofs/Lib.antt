@@ -1,1 +1,3 @@
 pub mod Courses
+pub mod Embedding
+pub mod Votes

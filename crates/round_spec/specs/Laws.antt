@@ -1,7 +1,11 @@
 -- What holds of rounds.
-use Rattle.std.specs.Prelude.{◌≡◌, ℕ, ◌+◌, ◌≤◌, false, Some}
+use Rattle.std.specs.Prelude.{IsSome, IsTrue, length, ◌≡◌, ℕ, ◌+◌, ◌≤◌, false, Some}
 use Rattle.phase_message.specs.declared.post.Post.{Post}
 use Rattle.phase_message.specs.declared.stage.Slot.{Slot}
+use Rattle.phase_message.specs.Slots.{slots_before}
+use Rattle.go_nogo.specs.Votes.{votes_agree}
+use Rattle.shuffle_blame.specs.Replay.{Inquiry, culprit_of}
+use Rattle.round_spec.specs.Verdict.{is_closing}
 use Rattle.round_spec.specs.Say.{Configuration}
 use Rattle.round_spec.specs.Course.{Others, Stand, course_from, is_open}
 
@@ -32,3 +36,10 @@ abbrev pub CourseEndUnique : Type 0
 CourseEndUnique = (c : Configuration) (others more : Others) (stages longer : ℕ) (stand : Stand) → IsContained others more →
     is_open (course_from c others stages stand).verdict ≡ false → stages ≤ longer →
     course_from c more longer stand ≡ course_from c others stages stand
+
+-- ---- verdicts
+
+-- where the votes before a closing stage are not unanimous, the replay of what was said before it blames somebody
+abbrev pub NotUnanimousBlames : Type 0
+NotUnanimousBlames = (q : Inquiry) → IsTrue (is_closing q.shape q.stage) → slots_before q.shape q.stage ≤ length q.past →
+    votes_agree q.shape q.past q.stage ≡ false → IsSome (culprit_of q)

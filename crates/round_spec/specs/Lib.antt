@@ -6,4 +6,5 @@ pub mod Course
 pub mod Result
 pub mod Runs
 pub mod Premises
+pub mod Cases
 pub mod Laws

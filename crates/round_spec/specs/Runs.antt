@@ -76,7 +76,7 @@ pub record IsOwnPost (run : Run) (stage : ℕ) (post : Post) : Type 0 where
   pub said : post ≡ own_post run.config past stage
 
 -- a post checks, its body is in the grammar, and it stands in its slot
-pub record StandsIn (c : Configuration) (slot : Slot) (post : Post) : Type 0 where
+pub record ChecksIn (c : Configuration) (slot : Slot) (post : Post) : Type 0 where
   pub content : Content
   pub checks : check_of c.roster c.round post ≡ Ok content
   pub named : slot_named content.header ≡ slot
@@ -87,7 +87,7 @@ pub record HonestRun (run : Run) : Type 0 where
   pub config : IsConfiguration run.config
   pub log : IsLog run.log
   pub shape : run.log.shape ≡ shape_in run.config
-  pub posts : (slot : Slot) (post : Post) → kept_in run.log slot ≡ Some post → StandsIn run.config slot post
+  pub posts : (slot : Slot) (post : Post) → kept_in run.log slot ≡ Some post → ChecksIn run.config slot post
   pub own : (stage : ℕ) (post : Post) → kept_in run.log (own_slot run stage) ≡ Some post → IsOwnPost run stage post
 
 -- ---- lists of runs
