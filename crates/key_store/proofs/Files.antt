@@ -1,6 +1,6 @@
 -- What writes leave of a file that a disk may tell.
 use Rattle.std.proofs.Common.{◌≡◌, ◌≢◌, ℕ, ◌+◌, ◌<◌, ◌≤◌, List, [], ◌∷◌, ◌++◌, Option, Some, None, IfSome, IsSomeAnd, length, take, drop, slice_index, refl, sym, ap, ◌∙◌, subst, arith}
-use Rattle.std.specs.Prelude.{option_map}
+use Rattle.std.specs.Prelude.{IsSome, option_map}
 use Rattle.std.proofs.lemmas.List.{get_or-take, length-take, take_at, take_more, take-append-drop}
 use Rattle.key_store.specs.Disk.{Elapses, ImagesTear, IsTorn, LeavesOf, Only, Tears, Writes, overwritten}
 use Rattle.key_store.specs.KeyFiles.{IsAtRest, IsClosing, Mirrors, closed}
@@ -40,6 +40,12 @@ pub tears-written : (old new : Option (List ℕ)) (at : ℕ) (bytes : List ℕ) 
 tears-written None new at bytes writes = writes
 tears-written (Some file) new at bytes writes =
     subst (λ (o : Option (List ℕ)). IsSomeAnd o (IsTorn file at (length bytes))) (sym writes.1) (overwritten_torn file at bytes writes.0)
+
+-- a file that is told goes on to be told
+pub tears_told : (old new : Option (List ℕ)) (at n : ℕ) → Tears old new at n → IsSome old → IsSome new
+tears_told None new at n tears some = absurd (cc)
+tears_told (Some file) None at n tears some = absurd tears
+tears_told (Some file) (Some now) at n tears some = refl
 
 -- a gate that reads 0 is closed
 pub closed_already : (file : List ℕ) (at : ℕ) → at < length file → slice_index file at ≡ 0 → closed file at ≡ file

@@ -1,5 +1,7 @@
 mod Disks
 mod Picked
+pub mod Histories
+pub mod Calls
 pub mod Torn
 pub mod Kept
 pub mod Midway

@@ -4,3 +4,4 @@ pub mod Picks
 pub mod KeyFiles
 pub mod Crashes
 pub mod Store
+pub mod History

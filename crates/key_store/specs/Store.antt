@@ -1,12 +1,13 @@
 -- A key file as its callers see it, and what its calls answer.
-use Rattle.std.specs.Prelude.{◌≡◌, ℕ, Bool, false, List, take, Option, IfSome, Result, Ok, Err}
+use Rattle.std.specs.Prelude.{◌≡◌, ℕ, Bool, false, List, take, Option, Some, None, IfSome, Result, Ok, Err}
 use Rattle.lms_tree.specs.Secret.{SecretParts, leaves}
-use Rattle.lms_tree.specs.States.{SecretState}
+use Rattle.lms_tree.specs.States.{RunState, SecretState}
 use Rattle.key_store.specs.declared.layout.Standing.{Standing}
 use Rattle.key_store.specs.declared.layout.KeyContent.{KeyContent}
 use Rattle.key_store.specs.declared.refusals.StoreRefusal.{StoreRefusal}
 use Rattle.key_store.specs.declared.refusals.StoreRefusal.TheVariants.{DiskFault, NotKeyFile, OldRound, Exhausted, Memory}
 use Rattle.outside.specs.Faults.{Rose}
+use Rattle.key_store.specs.History.{Handed}
 use Rattle.key_store.specs.KeyFiles.{IsAtRest, key_read, parts_in, stands}
 
 -- what the key is of, the file's first 128 bytes as they were last read or written, and whether the disk failed
@@ -56,3 +57,8 @@ FrontRefused Memory read = Unit {0}
 FrontRefused DiskFault read = ⊥
 FrontRefused (OldRound kept) read = ⊥
 FrontRefused (Exhausted next) read = ⊥
+
+-- what was handed out for a round
+abbrev pub handed_by : (round : ℕ) → Result RunState StoreRefusal → Option Handed
+handed_by round (Ok run) = Some record { round = round; first = run.first; leaves = run.left }
+handed_by round (Err e) = None

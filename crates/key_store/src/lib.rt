@@ -4,6 +4,7 @@
 mod disk;
 mod front;
 mod images;
+mod laws;
 mod layout;
 mod memory_disk;
 mod refusals;
@@ -13,6 +14,7 @@ mod steps_taken;
 mod store;
 
 pub use disk::{Disk, DiskAnswer, DiskRead};
+pub use laws::{leaves_are_used_once, nothing_is_torn};
 pub use memory_disk::MemoryDisk;
 pub use refusals::StoreRefusal;
 pub use steps_taken::Pick;

@@ -1,5 +1,5 @@
 //! The steps by which a key file is written: each changes the image in memory and the file alike.
-ghost use Rattle.std.specs.Prelude.{◌≡◌, ℕ, List, IfSome, ◌+◌, ◌<◌, ◌≤◌, ◌∷◌, [], length, option_map};
+ghost use Rattle.std.specs.Prelude.{◌≡◌, ℕ, List, IsSome, IfSome, ◌+◌, ◌<◌, ◌≤◌, ◌∷◌, [], length, option_map};
 ghost use Rattle.outside.specs.Faults.{Rose};
 ghost use Rattle.key_store.specs.Disk.{Elapses, IsTorn, LeavesOf, Only, Tears, overwritten};
 ghost use Rattle.key_store.specs.Crashes.{IsMidway, IsRise};
@@ -113,6 +113,7 @@ pub fn raise<D: Disk>(
     ensures image { result ≡ DiskAnswer.Done → image.new ≡ raised image.old at round next }
     ensures moments { (content : KeyContent) → IsRise content image.old at round next
         → LeavesOf D.moment D.left_since (D.file disk.old) disk.old disk.new (IsMidway content at) }
+    ensures told { IsSome (D.file disk.old) → IsSome (D.file disk.new) }
     ensures current { result ≡ DiskAnswer.Done → IsAtRest (D.file disk.new) (D.may_leave disk.new) image.new }
     ensures failed { result ≡ DiskAnswer.Failed → Rose (D.faults disk.old) (D.faults disk.new) }
     ensures no_fall { D.faults disk.old ≤ D.faults disk.new }

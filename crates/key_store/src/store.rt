@@ -140,14 +140,15 @@ impl Model for KeyFile {
 }
 
 impl KeyFile {
-    ghost use Rattle.std.specs.Prelude.{◌≡◌, ◌≢◌, ◌⊎◌, ℕ, ◌+◌, ◌<◌, ◌≤◌, IsTrue, false, IfOk, IfErr, IfSome, take, Err};
+    ghost use Rattle.std.specs.Prelude.{◌≡◌, ◌≢◌, ◌⊎◌, ℕ, ◌+◌, ◌<◌, ◌≤◌, IsTrue, false, IfOk, IfErr, IsSome, IfSome, None, take, Err};
     ghost use Rattle.lms_tree.specs.Secret.{own_public};
     ghost use Rattle.key_store.specs.declared.layout.KeyContent.{KeyContent};
     ghost use Rattle.key_store.specs.declared.refusals.StoreRefusal.TheVariants.{DiskFault, Exhausted, Memory, NotKeyFile, OldRound};
     ghost use Rattle.key_store.specs.Crashes.{IsMidway, IsPaired, Keeps, KeepsFront};
     ghost use Rattle.key_store.specs.Disk.{Every, LeavesOf, LeavesOnly};
+    ghost use Rattle.key_store.specs.History.{IsCall};
     ghost use Rattle.key_store.specs.KeyFiles.{chosen, key_read, raised};
-    ghost use Rattle.key_store.specs.Store.{IsCurrent, IsFault, IsLoaded, LoadRefused, kept_by, leaves_of};
+    ghost use Rattle.key_store.specs.Store.{IsCurrent, IsFault, IsLoaded, LoadRefused, handed_by, kept_by, leaves_of};
 
     /// Reads a key file. `NotKeyFile` tells the first offset at which its bytes are none; `OldRound` and `Exhausted`
     /// are not answered. The file stays as it is.
@@ -161,9 +162,10 @@ impl KeyFile {
         ensures kept { D.file disk.new ≡ D.file disk.old }
         ensures no_fall { D.faults disk.old ≤ D.faults disk.new }
 
-        // What every image keeps when the call begins, every image keeps at each moment, and the key file too.
-        ensures moments { (least : KeyContent) → Every (D.may_leave disk.old) (KeepsFront least)
-            → LeavesOnly D.moment D.left_since disk.old disk.new (KeepsFront least) }
+        // A crash at any moment of the call leaves what one before it might have left. So what every image keeps then,
+        // every image keeps, and the key file too.
+        ensures moments { LeavesOnly D.moment D.left_since disk.old disk.new (D.may_leave disk.old) }
+        ensures used { IsCall D.may_leave D.moment D.left_since disk.old disk.new None }
         ensures keeps { (least : KeyContent) → Every (D.may_leave disk.old) (KeepsFront least)
             → IfOk result (λ key. IfSome (D.file disk.old) (λ _. Keeps least key.image)) }
         ensures never_refused { (least : KeyContent) → Every (D.may_leave disk.old) (KeepsFront least)
@@ -235,6 +237,9 @@ impl KeyFile {
             → LeavesOf D.moment D.left_since (D.file disk.old) disk.old disk.new
             (IsMidway content (chosen (leaves_of self.old) self.old.image))) }
         ensures paired { IfOk result (λ _. 0 < leaves → IsPaired self.old.image → IsPaired self.new.image) }
+        // So whatever was handed out before, this is later and behind it, and stays so whenever a crash comes.
+        ensures used { 0 < leaves → IfSome (D.file disk.old) (λ _. IsSome (D.file disk.new)
+            × IsCall D.may_leave D.moment D.left_since disk.old disk.new (handed_by round result)) }
     {
         if self.failed {
             return Err(StoreRefusal::DiskFault);

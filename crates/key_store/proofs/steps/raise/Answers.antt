@@ -1,5 +1,5 @@
 use Rattle.std.proofs.Common.{refl, arith}
-use Rattle.key_store.proofs.Files.{rest_mirrors}
+use Rattle.key_store.proofs.Files.{rest_mirrors, tears_told}
 use Rattle.key_store.proofs.Midway.{run_closing, run_opening, run_writing}
 use Rattle.key_store.proofs.steps.raise.Goals as goal
 
@@ -26,3 +26,14 @@ returns-in-Done-write_slot-clause-moments g c = λ content rise.
     run_opening content c.args.image.now c.args.at c.args.round c.args.next c.told-image (omega (arith, c.ranges.round.fits)) rise g.D.Disk.may_leave g.D.Disk.moment g.D.Disk.left_since
     _ (g.D.Disk.file c.close_gate.new.disk) (g.D.Disk.file c.write_slot.new.disk) c.args.disk.now c.write_slot.new.disk c.open_gate.new.disk mirrors (c.in-Done.ensures.done refl)
     (c.in-Done-write_slot.ensures.done refl) writing c.open_gate.ensures.moments
+
+pub returns-in-Failed-clause-told : goal.returns-in-Failed-clause-told
+returns-in-Failed-clause-told g c = λ some. tears_told _ _ _ _ c.close_gate.ensures.torn some
+
+pub returns-in-Failed-write_slot-clause-told : goal.returns-in-Failed-write_slot-clause-told
+returns-in-Failed-write_slot-clause-told g c = λ some.
+    tears_told _ _ _ _ c.write_slot.ensures.torn (tears_told _ _ _ _ c.close_gate.ensures.torn some)
+
+pub returns-in-Done-write_slot-clause-told : goal.returns-in-Done-write_slot-clause-told
+returns-in-Done-write_slot-clause-told g c = λ some.
+    tears_told _ _ _ _ c.open_gate.ensures.torn (tears_told _ _ _ _ c.write_slot.ensures.torn (tears_told _ _ _ _ c.close_gate.ensures.torn some))

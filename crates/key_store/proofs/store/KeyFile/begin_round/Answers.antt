@@ -1,8 +1,10 @@
-use Rattle.std.proofs.Common.{sym, refl, arith}
+use Rattle.std.proofs.Common.{◌+◌, sym, refl, subst, arith}
 use Rattle.key_store.proofs.Keys.{HasBegun, IsOf, enough_left, has_begun, raised_state, reserved_run, is_of, not_enough, not_later, not_old, not_short, same_exhausted, same_old}
-use Rattle.key_store.specs.Crashes.{IsMidway}
+use Rattle.key_store.specs.Crashes.{IsMidway, IsPaired, IsRise}
 use Rattle.key_store.specs.Disk.{LeavesOf}
 use Rattle.key_store.proofs.Begun.{begun_paired, raised_midway, still_midway}
+use Rattle.key_store.proofs.Calls.{handed_is, if_told, is_told, raise_hands, raise_keeps, rest_seen, rises}
+use Rattle.key_store.proofs.Midway.{raised_paired}
 use Rattle.key_store.proofs.store.KeyFile.begin_round.Goals as goal
 
 pub returns-then-round-kept-clause-old_round : goal.returns-then-round-kept-clause-old_round
@@ -177,3 +179,49 @@ returns-in-Done-clause-paired g c = λ some paired.
     begun_paired c.args.self.now c.self.inside.image c.raise.new.image c.self.inside.secret c.self.inside.failed c.in-Ok.content c.chosen-at.result c.leaves-total.result
     c.args.round c.args.leaves c.self.view_is c.in-Ok.ensures.whole (omega (arith, c.ranges.round.fits)) c.leaves-total.ensures c.chosen-at.ensures.value
     (sym c.in-Ok.ensures.value) c.if-round-kept.false enough (c.in-Done.ensures.image refl) some paired
+
+pub returns-in-Failed-clause-used : goal.returns-in-Failed-clause-used
+returns-in-Failed-clause-used g c = λ some.
+    let enough = enough_left c.args.leaves c.leaves-total.result _ c.in-Ok.content.kept.next c.if-leaves-total.false c.leaves-total.ensures c.in-Ok.ensures.within in
+    let rise : IsPaired c.self.inside.image → IsRise c.in-Ok.content c.self.inside.image c.chosen-at.result c.args.round (c.in-Ok.content.kept.next + c.args.leaves) =
+    rises c.in-Ok.content c.self.inside.image c.chosen-at.result c.leaves-total.result c.args.round c.args.leaves c.leaves-total.ensures c.chosen-at.ensures.value
+    (sym c.in-Ok.ensures.value) c.if-round-kept.false enough some in
+    if_told (g.D.Disk.file c.args.disk.now) (λ file told. (
+      c.raise.ensures.told (is_told _ file told),
+      λ least keeps.
+          raise_keeps g.D.Disk.file g.D.Disk.may_leave g.D.Disk.moment g.D.Disk.left_since g.met.D.Disk.read_is_image g.met.D.Disk.counts_now g.met.D.Disk.only_now
+          c.args.disk.now c.raise.new.disk c.self.inside.image file c.chosen-at.result c.in-Ok.content least _ told
+          (rest_seen _ _ c.args.self.now c.self.inside.image c.self.inside.secret c.self.inside.failed c.self.view_is c.if-self.false c.requires)
+          (sym c.in-Ok.ensures.value) (λ paired. c.raise.ensures.moments c.in-Ok.content (rise paired)) keeps
+          (λ paired said. tt),
+    ))
+
+pub returns-in-Done-clause-used : goal.returns-in-Done-clause-used
+returns-in-Done-clause-used g c = λ some.
+    let of : IsOf c.args.self.now c.self.inside.secret c.in-Ok.content =
+    is_of c.args.self.now c.self.inside.image c.self.inside.secret c.self.inside.failed c.in-Ok.content c.self.view_is
+    (c.self.invariant c.if-self.false) (sym c.in-Ok.ensures.value) in
+    let has : HasBegun c.args.self.now c.self.inside.image c.self.inside.secret c.in-Ok.content c.chosen-at.result c.args.round c.args.leaves c.raise.new.image c.reserve.new.self =
+    has_begun c.args.self.now c.self.inside.image c.self.inside.secret c.in-Ok.content c.chosen-at.result c.args.round c.args.leaves c.raise.new.image c.reserve.new.self
+    of c.in-Ok.ensures.whole (sym c.in-Ok.ensures.value) c.chosen-at.ensures.slot (omega (arith, c.ranges.round.fits)) c.if-round-kept.false
+    (enough_left c.args.leaves c.leaves-total.result _ c.in-Ok.content.kept.next c.if-leaves-total.false c.leaves-total.ensures c.in-Ok.ensures.within)
+    (c.in-Done.ensures.image refl) c.in-Ok-reserve.ensures.risen in
+    let enough = enough_left c.args.leaves c.leaves-total.result _ c.in-Ok.content.kept.next c.if-leaves-total.false c.leaves-total.ensures c.in-Ok.ensures.within in
+    let rise : IsPaired c.self.inside.image → IsRise c.in-Ok.content c.self.inside.image c.chosen-at.result c.args.round (c.in-Ok.content.kept.next + c.args.leaves) =
+    rises c.in-Ok.content c.self.inside.image c.chosen-at.result c.leaves-total.result c.args.round c.args.leaves c.leaves-total.ensures c.chosen-at.ensures.value
+    (sym c.in-Ok.ensures.value) c.if-round-kept.false enough some in
+    if_told (g.D.Disk.file c.args.disk.now) (λ file told. (
+      c.raise.ensures.told (is_told _ file told),
+      λ least keeps.
+          raise_keeps g.D.Disk.file g.D.Disk.may_leave g.D.Disk.moment g.D.Disk.left_since g.met.D.Disk.read_is_image g.met.D.Disk.counts_now g.met.D.Disk.only_now
+          c.args.disk.now c.raise.new.disk c.self.inside.image file c.chosen-at.result c.in-Ok.content least _ told
+          (rest_seen _ _ c.args.self.now c.self.inside.image c.self.inside.secret c.self.inside.failed c.self.view_is c.if-self.false c.requires)
+          (sym c.in-Ok.ensures.value) (λ paired. c.raise.ensures.moments c.in-Ok.content (rise paired)) keeps
+          (λ paired said.
+          raise_hands g.D.Disk.file g.D.Disk.may_leave g.D.Disk.moment g.D.Disk.left_since g.met.D.Disk.read_is_image g.met.D.Disk.counts_now g.met.D.Disk.only_now
+          c.raise.new.disk c.raise.new.image c.in-Ok.content least _ c.args.round c.args.leaves (c.raise.ensures.told (is_told _ file told))
+          (c.in-Done.ensures.current refl) has.read
+          (subst IsPaired (sym (c.in-Done.ensures.image refl)) (raised_paired c.in-Ok.content c.self.inside.image c.chosen-at.result c.args.round _
+          c.in-Ok.ensures.whole (omega (arith, c.ranges.round.fits)) (rise paired)))
+          c.if-round-kept.false (handed_is c.args.round c.args.leaves c.in-Ok-reserve.run' c.self.inside.secret c.in-Ok.content c.in-Ok-reserve.ensures.reserved of.secret_is) said),
+    ))
