@@ -1,37 +1,16 @@
-ghost use Rattle.std.specs.Prelude.{IfOk};
 ghost use Rattle.key_store.specs.Store.{IsCurrent};
 
 use crate::{Disk, DiskAnswer, KeyFile, MemoryDisk, Pick, StoreRefusal, create};
-use lms_tree::{LmsPublic, MadeHeight, OtsType};
+use lms_tree::{MadeHeight, OtsType};
 use std::alloc::Global;
 use std::test::Fail;
 
 const MASTER: [u8; 32] = [7; 32];
 
-fn made<D: Disk>(alloc: Global, disk: &mut D) -> Result<LmsPublic, Fail> {
-    match create(alloc, disk, MadeHeight::H5, OtsType::W4, &MASTER) {
-        Ok(key) => Ok(key),
-        Err(_) => Err(Fail::from("not made")),
-    }
-}
-
-fn loaded<D: Disk>(alloc: Global, disk: &mut D) -> Result<KeyFile, Fail>
-    ensures { IfOk result (λ key. IsCurrent key (D.file disk.new) (D.may_leave disk.new)) }
-{
-    match KeyFile::load(alloc, disk) {
-        Ok(key) => Ok(key),
-        Err(_) => Err(Fail::from("not loaded")),
-    }
-}
-
 // The first leaf of a round and how many there are, or the refusal.
-fn begun<D: Disk>(
-    key: &mut KeyFile,
-    alloc: Global,
-    disk: &mut D,
-    round: u64,
-    leaves: u32,
-) -> Result<(u32, u32), StoreRefusal>
+type Begun = Result<(u32, u32), StoreRefusal>;
+
+fn begun<D: Disk>(key: &mut KeyFile, alloc: Global, disk: &mut D, round: u64, leaves: u32) -> Begun
     requires { IsCurrent key.old (D.file disk.old) (D.may_leave disk.old) }
     ensures { IsCurrent key.new (D.file disk.new) (D.may_leave disk.new) }
 {
@@ -45,25 +24,96 @@ fn begun<D: Disk>(
     }
 }
 
-// What the key file on a disk stands for: the greatest round, and the next leaf.
+// What the key file answers to a round, and to the same once more.
+fn begun_twice<D: Disk>(
+    alloc: Global,
+    disk: &mut D,
+    round: u64,
+    leaves: u32,
+) -> Result<(Begun, Begun), StoreRefusal> {
+    let mut key = KeyFile::load(alloc, disk)?;
+    let first = begun(&mut key, alloc, disk, round, leaves);
+    let again = begun(&mut key, alloc, disk, round, leaves);
+    Ok((first, again))
+}
+
+// What the key file stands for: the greatest round, and the next leaf.
 fn standing<D: Disk>(alloc: Global, disk: &mut D) -> Result<(u64, u32), StoreRefusal> {
     let mut key = KeyFile::load(alloc, disk)?;
     let old = begun(&mut key, alloc, disk, 0, 0);
     let exhausted = begun(&mut key, alloc, disk, u64::MAX, 33);
     match (old, exhausted) {
-        (Err(StoreRefusal::OldRound { kept }), Err(StoreRefusal::Exhausted { next })) => Ok((
-            kept, next,
-        )),
+        (Err(StoreRefusal::OldRound { kept }), Err(StoreRefusal::Exhausted { next })) => {
+            Ok((kept, next))
+        }
         _ => Err(StoreRefusal::DiskFault),
     }
 }
 
-// Makes a key file, loads it, and begins two rounds.
+// The gates of both slots.
+fn gates(disk: &MemoryDisk) -> (Option<u8>, Option<u8>) {
+    (disk.file().get(64).copied(), disk.file().get(96).copied())
+}
+
+// Makes a key file, and says whether it is loaded with its public key.
+fn made<D: Disk>(alloc: Global, disk: &mut D, width: OtsType) -> Result<bool, StoreRefusal> {
+    let public = create(alloc, disk, MadeHeight::H5, width, &MASTER)?;
+    let key = KeyFile::load(alloc, disk)?;
+    Ok(key.public() == public && !key.failed())
+}
+
+// Makes a key file and begins two rounds.
 fn two_rounds<D: Disk>(alloc: Global, disk: &mut D) -> Result<(), StoreRefusal> {
     create(alloc, disk, MadeHeight::H5, OtsType::W1, &MASTER)?;
     let mut key = KeyFile::load(alloc, disk)?;
     begun(&mut key, alloc, disk, 1, 12)?;
     begun(&mut key, alloc, disk, 2, 12)?;
+    Ok(())
+}
+
+#[test]
+fn what_was_begun_is_kept(rt: HostRuntime) -> Result<(), Fail> {
+    let alloc = rt.alloc();
+    // Of the fourth row the second call fails, the sync behind the closing of slot 0.
+    let mut disk = MemoryDisk::new(alloc, 40, vec![in alloc; 21]?)?;
+    assert!(rt; made(alloc, &mut disk, OtsType::W4) == Ok(true));
+    let old = Err(StoreRefusal::OldRound { kept: 1 });
+    let few = Err(StoreRefusal::Exhausted { next: 12 });
+    let fault = Err(StoreRefusal::DiskFault);
+    // A round, its leaves, the answer, that to the same once more, and the gate of slot 0 then.
+    for (round, leaves, first, again, gate) in [
+        (1, 12, Ok((0, 12)), old, 1),
+        (1, 1, old, old, 1),
+        (2, 21, few, few, 1),
+        (2, 12, fault, fault, 0),
+        (
+            2,
+            12,
+            Ok((12, 12)),
+            Err(StoreRefusal::OldRound { kept: 2 }),
+            1,
+        ),
+    ] {
+        let answers = begun_twice(alloc, &mut disk, round, leaves);
+        assert!(rt; answers == Ok((first, again)));
+        assert_eq!(rt; gates(&disk), (Some(gate), Some(1)));
+    }
+    Ok(())
+}
+
+#[test]
+fn leaves_are_handed_out_to_the_last(rt: HostRuntime) -> Result<(), Fail> {
+    let alloc = rt.alloc();
+    for (used, answer) in [
+        (21, Err(StoreRefusal::Exhausted { next: 21 })),
+        (20, Ok((20, 12))),
+    ] {
+        let mut disk = MemoryDisk::new(alloc, 40, Vec::new(alloc))?;
+        assert!(rt; made(alloc, &mut disk, OtsType::W1) == Ok(true));
+        assert!(rt; begun_twice(alloc, &mut disk, 1, used).is_ok());
+        let answers = begun_twice(alloc, &mut disk, 2, 12);
+        assert!(rt; matches!(answers, Ok((first, _)) if first == answer));
+    }
     Ok(())
 }
 
@@ -116,52 +166,6 @@ fn a_crash_at_any_call_leaves_what_was_begun(rt: HostRuntime) -> Result<(), Fail
         assert!(rt; left(alloc, &disk, Pick::Old)? == old);
         assert!(rt; left(alloc, &disk, Pick::New)? == new);
         assert!(rt; left(alloc, &disk, Pick::Ones)? == ones);
-    }
-    Ok(())
-}
-
-#[test]
-fn what_was_begun_is_kept(rt: HostRuntime) -> Result<(), Fail> {
-    let alloc = rt.alloc();
-    let mut disk = MemoryDisk::new(alloc, 40, vec![in alloc; 15]?)?;
-    let public = made(alloc, &mut disk)?;
-    let mut key = loaded(alloc, &mut disk)?;
-    assert!(rt; key.public() == public);
-    assert!(rt; begun(&mut key, alloc, &mut disk, 1, 12) == Ok((0, 12)));
-    assert_eq!(rt; disk.file().get(64), Some(&1));
-    assert_eq!(rt; disk.file().get(96), Some(&1));
-    let mut key = loaded(alloc, &mut disk)?;
-    let kept = 1;
-    assert!(rt; begun(&mut key, alloc, &mut disk, 1, 1) == Err(StoreRefusal::OldRound { kept }));
-    let next = 12;
-    assert!(rt; begun(&mut key, alloc, &mut disk, 2, 21) == Err(StoreRefusal::Exhausted { next }));
-    assert!(rt; !key.failed());
-    // The 15th call is the sync behind the closing of slot 0.
-    assert!(rt; begun(&mut key, alloc, &mut disk, 2, 12) == Err(StoreRefusal::DiskFault));
-    assert!(rt; key.failed());
-    assert!(rt; begun(&mut key, alloc, &mut disk, 2, 12) == Err(StoreRefusal::DiskFault));
-    let mut key = loaded(alloc, &mut disk)?;
-    assert!(rt; begun(&mut key, alloc, &mut disk, 2, 12) == Ok((12, 12)));
-    Ok(())
-}
-
-#[test]
-fn leaves_are_handed_out_to_the_last(rt: HostRuntime) -> Result<(), Fail> {
-    let alloc = rt.alloc();
-    for (used, answer) in [
-        (21, Err(StoreRefusal::Exhausted { next: 21 })),
-        (20, Ok((20, 12))),
-    ] {
-        let mut disk = MemoryDisk::new(alloc, 40, Vec::new(alloc))?;
-        made(alloc, &mut disk)?;
-        let mut key = loaded(alloc, &mut disk)?;
-        assert!(rt; begun(&mut key, alloc, &mut disk, 1, used) == Ok((0, used)));
-        let mut key = loaded(alloc, &mut disk)?;
-        assert!(rt; begun(&mut key, alloc, &mut disk, 2, 12) == answer);
-        if answer.is_ok() {
-            let old = Err(StoreRefusal::OldRound { kept: 2 });
-            assert!(rt; begun(&mut key, alloc, &mut disk, 2, 0) == old);
-        }
     }
     Ok(())
 }
