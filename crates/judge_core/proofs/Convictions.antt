@@ -1,30 +1,38 @@
 -- What the judge accepts convicts, what convicts is accepted, and nobody is framed.
 use Rattle.std.proofs.Common.{◌≡◌, ◌≢◌, ℕ, Bool, true, false, not, ◌&&◌, List, [], ◌∷◌, ◌++◌, length, Option, Some, None, Result, Ok, Err, refl, sym, ap, subst, ◌∙◌, arith}
-use Rattle.std.specs.Prelude.{◌==◌, bytes_eq, Contains, IsTrue, is_ok}
+use Rattle.std.specs.Prelude.{◌==◌, bytes_eq, Contains, is_ok}
 use Rattle.std.specs.List.{AllByRecursion}
 use Rattle.std.specs.Int.{w32, to_be_bytes}
 use Rattle.std.proofs.lemmas.Bool.{eqb-true, eq-eqb, and_parts, both_ways, not-true, not-false, false_from_ne_true}
 use Rattle.std.proofs.lemmas.Slice.Eq.{bytes_eq-Decides}
 use Rattle.wire_core.specs.Bytes.{IsBytes}
 use Rattle.wire_core.proofs.ByteLists.{IsBytes-front, IsBytes-back}
-use Rattle.wire_core.specs.Answers.{◌>>=◌, fault_as, unless, Gives}
+use Rattle.wire_core.specs.Answers.{fault_as, unless, Gives}
 use Rattle.wire_core.proofs.Readings.{bind_ok, fault_as_ok, guard_ok}
+use Rattle.wire_core.specs.declared.cursor.Short.{Short}
+use Rattle.ring_encrypt.specs.Capsule.{key_of_seed}
+use Rattle.phase_message.specs.declared.content.Body.{Body}
+use Rattle.phase_message.specs.declared.content.Body.TheVariants.{Keys, Submit, Shuffled, Abort, Go, Reveal, Dispute, Pads, Check, Confirm, Differ}
 use Rattle.phase_message.specs.declared.content.Content.{Content}
+use Rattle.phase_message.specs.declared.stage.StageKind.{StageKind}
+use Rattle.phase_message.specs.declared.stage.StageKind.TheVariants.{Keys as AtKeys, Submit as AtSubmit, Shuffle as AtShuffle, Go as AtGo, Final as AtFinal, Pad as AtPad, Check as AtCheck, Confirm as AtConfirm}
+use Rattle.phase_message.specs.Body.{body_form, form_of}
+use Rattle.phase_message.specs.Slots.{slots_before}
+use Rattle.phase_message.specs.Stages.{kind_of_stage}
 use Rattle.phase_message.specs.declared.header.Header.{Header}
 use Rattle.phase_message.specs.declared.post.Post.{Post}
-use Rattle.phase_message.specs.Grammar.{OfGrammar, content_text}
+use Rattle.phase_message.specs.Grammar.{IsBody, OfGrammar, content_text, kind_number}
 use Rattle.phase_message.specs.declared.offence.Offence.{Offence}
 use Rattle.phase_message.specs.Offence.{content_read}
-use Rattle.phase_message.specs.Post.{post_spelling}
-use Rattle.phase_message.proofs.Whole.{content-is_spelled, content-is_read}
+use Rattle.phase_message.proofs.Whole.{content-header, content-is_spelled, content-is_read}
 use Rattle.phase_message.specs.Shape.{Shape, IsShape}
 use Rattle.group_roster.specs.Roster.{Roster, shape_of_roster, IsRosterForm}
-use Rattle.wire_core.specs.Answers.{fault_unless, value_unless}
+use Rattle.wire_core.specs.Answers.{fault_unless}
 use Rattle.wire_core.proofs.AnswerLemmas.{fault_unless-holds}
 use Rattle.signed_post.specs.declared.post.PostRefusal.{PostRefusal}
 use Rattle.signed_post.specs.declared.post.PostRefusal.TheVariants.{Frame}
 use Rattle.signed_post.specs.Frame.{frame_of}
-use Rattle.signed_post.specs.Admission.{framed_admission_of, admission_of_bytes, Says}
+use Rattle.signed_post.specs.Admission.{framed_admission_of, admission_of_bytes, IsPostFile, Says}
 use Rattle.signed_post.proofs.Frames.{framed-found, framed-again, framed-bytes}
 use Rattle.signed_post.proofs.Admits.{admit-found, admit-again}
 use Rattle.transcript_form.specs.declared.claim.Claim.{Claim}
@@ -35,16 +43,16 @@ use Rattle.transcript_form.specs.Refusals.{failure_of_refusal}
 use Rattle.transcript_form.specs.declared.transcript.Transcript.{Transcript}
 use Rattle.transcript_form.specs.Claim.{claim_posts}
 use Rattle.transcript_form.specs.Form.{claim_read, transcript_read}
-use Rattle.transcript_form.specs.Transcript.{IsTranscript, transcript_spelling}
 use Rattle.transcript_form.proofs.Transcripts.{transcript_read-found, transcript_read-again, claim_read-transcript, transcript-bytes}
 use Rattle.judge_core.specs.declared.failed_check.FailedCheck.{FailedCheck}
-use Rattle.judge_core.specs.declared.failed_check.FailedCheck.TheVariants.{Form, Post as RefusedPost, Slot, Same, WellFormed}
+use Rattle.judge_core.specs.declared.failed_check.FailedCheck.TheVariants.{Form, Post as RefusedPost, Slot, Body as FailedBody, Kind, Same, WellFormed, SeedFits}
 use Rattle.judge_core.specs.declared.judging.Accepted.{Accepted}
-use Rattle.judge_core.specs.Accepts.{Equivocates, SaysMalformed, Convicts, Accepts}
-use Rattle.judge_core.specs.Checks.{Case, Said, case_of_transcript, is_decided, undecided, is_asked, heard_of, hearing_of, own_failure, conviction_of, judgement_of, printed_judgement_of, AcceptsExactly}
+use Rattle.judge_core.specs.Accepts.{Equivocates, SaysMalformed, RevealsWrongSeed, Convicts, Accepts}
+use Rattle.judge_core.specs.Checks.{Case, Said, case_of_transcript, content_of, is_decided, undecided, is_asked, is_final_stage, is_keys_stage, is_kind_asked, is_of_bodies, is_reveal, is_seed_right, is_slot_asked, heard_of, taken_of, own_failure, conviction_of, judgement_of, printed_judgement_of, AcceptsExactly}
+use Rattle.judge_core.specs.WrongSeed.{inner_key, is_seed_in, is_seed_of_key}
 use Rattle.judge_core.specs.Failures.{failure_of_check}
 use Rattle.judge_core.specs.Framing.{EachOfGrammar, GivesNoGround, OnePerSlot, SaidBy, NobodyIsFramed}
-use Rattle.judge_core.proofs.Hearings.{BothHeard, both_heard, two-both, other_contents, OneHeard, one_heard, one-heard, unformed}
+use Rattle.judge_core.proofs.Hearings.{BothHeard, both_heard, two-both, other_contents, other_seed, OneHeard, one_heard, one-heard, unformed, taken-plain, taken-heard, taken-read, taken-again}
 
 -- ---- a listed post
 
@@ -66,22 +74,41 @@ says-again roster round bytes content header says =
     let frame : frame_of bytes ≡ Ok post = ap frame_of says.spelled ∙ framed-again post says.admitted.frame in
     rw (frame, admit-again roster round post header says.admitted) refl
 
+-- what a post says are bytes
+says-bytes : (roster : Roster) (round : ℕ) (bytes content : List ℕ) (header : Header) → IsBytes bytes → Says roster round bytes content header → IsBytes content
+says-bytes roster round bytes content header fits says =
+    let spelled : IsBytes (to_be_bytes w32 (length content) ++ content ++ says.signature) = subst (λ (x : List ℕ). IsBytes x) says.spelled fits in
+    IsBytes-back (to_be_bytes w32 (length content)) content (IsBytes-front (to_be_bytes w32 (length content) ++ content) says.signature spelled)
+
 -- a post that is heard says what is heard, and the claim asks for it
-heard-found : (case : Case) (first : Option Header) (number : ℕ) (bytes : List ℕ) (x : Said) → IsBytes bytes → heard_of case first number bytes ≡ Ok x
-    → Says case.roster case.round bytes x.content x.header × (is_asked case.claim case.accused first x.header ≡ true)
+pub heard-found : (case : Case) (first : Option Header) (number : ℕ) (bytes : List ℕ) (x : Said) → IsBytes bytes → heard_of case first number bytes ≡ Ok x
+    → Says case.roster case.round bytes x.content x.header × (is_asked case first number x.header ≡ true)
 unfolding heard_of
 heard-found case first number bytes x fits e =
     let a = bind_ok (fault_as (λ refusal. RefusedPost number refusal) (admission_of_bytes case.roster case.round bytes)) _ x e in
     let said : Said = record { header = a.0.0; content = a.0.1 } in
-    let asked = guard_ok (not (is_asked case.claim case.accused first a.0.0)) (Slot number a.0.0.stage) said x a.2 in
+    let asked = guard_ok (not (is_asked case first number a.0.0)) (Slot number a.0.0.stage) said x a.2 in
     let says = says-found case.roster case.round bytes a.0 fits (fault_as_ok (λ refusal. RefusedPost number refusal) (admission_of_bytes case.roster case.round bytes) a.0 a.1) in
-    subst (λ (x : Said). Says case.roster case.round bytes x.content x.header × (is_asked case.claim case.accused first x.header ≡ true)) asked.1
-    (says, not-false (is_asked case.claim case.accused first a.0.0) asked.0)
+    subst (λ (x : Said). Says case.roster case.round bytes x.content x.header × (is_asked case first number x.header ≡ true)) asked.1
+    (says, not-false (is_asked case first number a.0.0) asked.0)
 
-heard-again : (case : Case) (first : Option Header) (number : ℕ) (bytes content : List ℕ) (header : Header) → Says case.roster case.round bytes content header → is_asked case.claim case.accused first header ≡ true
+pub heard-again : (case : Case) (first : Option Header) (number : ℕ) (bytes content : List ℕ) (header : Header) → Says case.roster case.round bytes content header → is_asked case first number header ≡ true
     → heard_of case first number bytes ≡ Ok (record { header = header; content = content })
 unfolding heard_of
 heard-again case first number bytes content header says asked = rw (says-again case.roster case.round bytes content header says, asked) refl
+
+-- the same of what is asked of the claim's slot
+abbrev asks : Claim → Case → Option Header → ℕ → Header → Bool
+asks claim case first number header = is_slot_asked claim case (kind_of_stage (shape_of_roster case.roster) header.stage) first number header
+
+pub asked-found : (case : Case) (claim : Claim) (first : Option Header) (number : ℕ) (header : Header) → case.claim ≡ claim → is_asked case first number header ≡ true → asks claim case first number header ≡ true
+asked-found case claim first number header is asked = subst (λ (c : Claim). asks c case first number header ≡ true) is asked
+
+pub asked-again : (case : Case) (claim : Claim) (first : Option Header) (number : ℕ) (header : Header) → case.claim ≡ claim → asks claim case first number header ≡ true → is_asked case first number header ≡ true
+asked-again case claim first number header is asked = subst (λ (c : Claim). asks c case first number header ≡ true) (sym is) asked
+
+plain-claim : (claim c : Claim) → claim ≡ c → is_of_bodies c ≡ false → is_of_bodies claim ≡ false
+plain-claim claim c is e = ap is_of_bodies is ∙ e
 
 -- ---- Equivocation
 
@@ -101,11 +128,10 @@ two-found : (roster : Roster) (t : Transcript) (first second : List ℕ) → t.c
     → BothHeard (case_of_transcript roster t) first second → Equivocates roster t
 two-found roster t first second is posts fits_first fits_second heard =
     let case = case_of_transcript roster t in
-    let one = heard-found case None 1 first heard.a fits_first heard.first_heard in
-    let two = heard-found case (Some heard.a.header) 2 second heard.b fits_second heard.second_heard in
-    let sender : (heard.a.header.sender == t.accused) ≡ true = subst (λ (c : Claim). is_asked c t.accused None heard.a.header ≡ true) is one.1 in
-    let slot : (heard.b.header.sender == t.accused && (heard.b.header.stage == heard.a.header.stage)) ≡ true = subst (λ (c : Claim). is_asked c t.accused (Some heard.a.header) heard.b.header ≡ true) is two.1 in
-    let parts = and_parts (heard.b.header.sender == t.accused) (heard.b.header.stage == heard.a.header.stage) slot in
+    let one = heard-found case None 1 first heard.a fits_first (taken-heard case None 1 first heard.a heard.first_heard) in
+    let two = heard-found case (Some heard.a.header) 2 second heard.b fits_second (taken-heard case (Some heard.a.header) 2 second heard.b heard.second_heard) in
+    let first_parts = and_parts (heard.a.header.sender == t.accused) true (asked-found case Equivocation None 1 heard.a.header is one.1) in
+    let parts = and_parts (heard.b.header.sender == t.accused) (heard.b.header.stage == heard.a.header.stage) (asked-found case Equivocation (Some heard.a.header) 2 heard.b.header is two.1) in
     record {
       first = first;
       second = second;
@@ -116,10 +142,10 @@ two-found roster t first second is posts fits_first fits_second heard =
       second_header = heard.b.header;
       first_says = one.0;
       second_says = two.0;
-      first_sender = eqb-true _ _ sender;
+      first_sender = eqb-true _ _ first_parts.0;
       second_sender = eqb-true _ _ parts.0;
       one_stage = eqb-true _ _ parts.1;
-      differ = differs heard.a.content heard.b.content (subst (λ (c : Claim). own_failure (shape_of_roster roster) c (heard.a ∷ heard.b ∷ []) ≡ None) is heard.passes);
+      differ = differs heard.a.content heard.b.content (subst (λ (c : Claim). own_failure c case (heard.a ∷ heard.b ∷ []) ≡ None) is heard.passes);
     }
 
 two-again : (roster : Roster) (t : Transcript) → t.claim ≡ Equivocation → Equivocates roster t → conviction_of (case_of_transcript roster t) t.posts ≡ Ok tt
@@ -130,12 +156,197 @@ two-again roster t is e =
     let sender : (e.first_header.sender == t.accused) ≡ true = eq-eqb _ _ e.first_sender in
     let other : (e.second_header.sender == t.accused) ≡ true = eq-eqb _ _ e.second_sender in
     let stage : (e.second_header.stage == e.first_header.stage) ≡ true = eq-eqb _ _ e.one_stage in
-    let asked : is_asked t.claim t.accused None e.first_header ≡ true = subst (λ (c : Claim). is_asked c t.accused None e.first_header ≡ true) (sym is) sender in
-    let asked_again : is_asked t.claim t.accused (Some e.first_header) e.second_header ≡ true = subst (λ (c : Claim). is_asked c t.accused (Some e.first_header) e.second_header ≡ true) (sym is) (rw (other, stage) refl) in
+    let plain = plain-claim t.claim Equivocation is refl in
+    let asked : is_asked case None 1 e.first_header ≡ true = asked-again case Equivocation None 1 e.first_header is (rw sender refl) in
+    let asked_again : is_asked case (Some e.first_header) 2 e.second_header ≡ true = asked-again case Equivocation (Some e.first_header) 2 e.second_header is (rw (other, stage) refl) in
     let differ : bytes_eq e.first_content e.second_content ≡ false = false_from_ne_true (bytes_eq e.first_content e.second_content) (λ same. e.differ ((bytes_eq-Decides e.first_content e.second_content).0 same)) in
     ap (conviction_of case) e.listed
-    ∙ two-both case e.first e.second a b (heard-again case None 1 e.first e.first_content e.first_header e.first_says asked) (heard-again case (Some e.first_header) 2 e.second e.second_content e.second_header e.second_says asked_again)
-    ∙ other_contents (shape_of_roster roster) t.claim a b is differ
+    ∙ two-both case e.first e.second a b
+    (taken-plain case None 1 e.first plain ∙ heard-again case None 1 e.first e.first_content e.first_header e.first_says asked)
+    (taken-plain case (Some e.first_header) 2 e.second plain ∙ heard-again case (Some e.first_header) 2 e.second e.second_content e.second_header e.second_says asked_again)
+    ∙ other_contents case a b is differ
+
+-- ---- a post whose body is looked at
+
+-- what is taken of a post for a claim that looks at bodies is a post of a content of the grammar
+pub record TakenPost (case : Case) (first : Option Header) (number : ℕ) (bytes : List ℕ) (x : Said) : Type 0 where
+  pub content : Content
+  pub header_is : content.header ≡ x.header
+  pub file : IsPostFile case.roster case.round bytes content
+  pub reads : content_read (shape_of_roster case.roster) x.content ≡ Ok content
+  pub asked : is_asked case first number x.header ≡ true
+  pub kind : is_kind_asked case.claim first content.body ≡ true
+
+abbrev header_ok : Header → Result Header Short
+header_ok header = Ok header
+
+pub taken-found : (case : Case) (first : Option Header) (number : ℕ) (bytes : List ℕ) (x : Said) → is_of_bodies case.claim ≡ true → IsBytes bytes → taken_of case first number bytes ≡ Ok x → TakenPost case first number bytes x
+unfolding content_of
+taken-found case first number bytes x bodies fits e =
+    let heard = heard-found case first number bytes x fits (taken-heard case first number bytes x e) in
+    let looked = taken-read case first number bytes x bodies e in
+    let read = bind_ok (fault_as (λ offence. FailedBody number offence.at) (content_read (shape_of_roster case.roster) x.content)) _ looked.0 looked.1 in
+    let asked = guard_ok (not (is_kind_asked case.claim first read.0.body)) (Kind number (kind_number read.0.body)) read.0 looked.0 read.2 in
+    let found = fault_as_ok (λ offence. FailedBody number offence.at) (content_read (shape_of_roster case.roster) x.content) read.0 read.1 in
+    let header : header_ok read.0.header ≡ header_ok x.header = sym (content-header (shape_of_roster case.roster) x.content read.0 found) ∙ heard.0.admitted.reads in
+    let same : read.0.header ≡ x.header = cc in
+    record {
+      content = read.0;
+      header_is = same;
+      file = record { text = x.content; says = subst (λ (h : Header). Says case.roster case.round bytes x.content h) (sym same) heard.0; reads = found };
+      reads = found;
+      asked = heard.1;
+      kind = not-false (is_kind_asked case.claim first read.0.body) asked.0;
+    }
+
+-- and such a post is taken
+pub file-taken : (case : Case) (first : Option Header) (number : ℕ) (bytes : List ℕ) (content : Content) (file : IsPostFile case.roster case.round bytes content)
+    → is_asked case first number content.header ≡ true → is_kind_asked case.claim first content.body ≡ true
+    → taken_of case first number bytes ≡ Ok (record { header = content.header; content = file.text })
+unfolding content_of
+file-taken case first number bytes content file asked kind =
+    taken-again case first number bytes (record { header = content.header; content = file.text }) content
+    (heard-again case first number bytes file.text content.header file.says asked)
+    (rw (file.reads, kind) refl)
+
+-- ---- WrongSeed
+
+is-keys : (kind : Option StageKind) → is_keys_stage kind ≡ true → kind ≡ Some AtKeys
+is-keys (Some AtKeys) e = refl
+is-keys None e = absurd cc
+is-keys (Some (AtSubmit shuffle)) e = absurd cc
+is-keys (Some (AtShuffle shuffle k)) e = absurd cc
+is-keys (Some (AtGo shuffle)) e = absurd cc
+is-keys (Some (AtFinal shuffle)) e = absurd cc
+is-keys (Some AtPad) e = absurd cc
+is-keys (Some AtCheck) e = absurd cc
+is-keys (Some AtConfirm) e = absurd cc
+
+is-final : (kind : Option StageKind) → is_final_stage kind ≡ true → (shuffle : ℕ) × (kind ≡ Some (AtFinal shuffle))
+is-final (Some (AtFinal shuffle)) e = (shuffle, refl)
+is-final None e = absurd cc
+is-final (Some AtKeys) e = absurd cc
+is-final (Some (AtSubmit shuffle)) e = absurd cc
+is-final (Some (AtShuffle shuffle k)) e = absurd cc
+is-final (Some (AtGo shuffle)) e = absurd cc
+is-final (Some AtPad) e = absurd cc
+is-final (Some AtCheck) e = absurd cc
+is-final (Some AtConfirm) e = absurd cc
+
+-- at the stage of keys a body of the grammar is one of keys
+no_keys : {F : Type 0} (o : Option StageKind) (form : Option StageKind → Option F) (f : F) → o ≡ Some AtKeys → form (Some AtKeys) ≡ None → form o ≡ Some f → ⊥
+no_keys {F} o form f e other is = never (form o) f (ap form e ∙ other) is
+  where
+    never : (o : Option F) (x : F) → o ≡ None → o ≡ Some x → ⊥
+    never None x none some = absurd cc
+    never (Some y) x none some = absurd cc
+
+keys_body : (shape : Shape) (stage : ℕ) (body : Body) → kind_of_stage shape stage ≡ Some AtKeys → IsBody shape stage body → (keys : List (List ℕ)) × (body ≡ Keys keys)
+unfolding body_form
+keys_body shape stage (Keys keys) e is = (keys, refl)
+keys_body shape stage (Submit ciphertext) e is = absurd (no_keys (kind_of_stage shape stage) (λ o. form_of shape (slots_before shape stage) o 2) is.0 e refl is.1)
+keys_body shape stage (Shuffled list) e is = absurd (no_keys (kind_of_stage shape stage) (λ o. form_of shape (slots_before shape stage) o 3) is.0 e refl is.1)
+keys_body shape stage Abort e is = absurd (no_keys (kind_of_stage shape stage) (λ o. form_of shape (slots_before shape stage) o 4) is.0 e refl is.1)
+keys_body shape stage (Go vote) e is = absurd (no_keys (kind_of_stage shape stage) (λ o. form_of shape (slots_before shape stage) o 5) is.0 e refl is.1)
+keys_body shape stage (Reveal votes seed) e is = absurd (no_keys (kind_of_stage shape stage) (λ o. form_of shape (slots_before shape stage) o 6) is.0 e refl is.1)
+keys_body shape stage (Dispute posts seed opening) e is = absurd (no_keys (kind_of_stage shape stage) (λ o. form_of shape (slots_before shape stage) o 7) is.0 e refl is.1)
+keys_body shape stage (Pads pads) e is = absurd (no_keys (kind_of_stage shape stage) (λ o. form_of shape (slots_before shape stage) o 8) is.0 e refl is.1)
+keys_body shape stage (Check vote) e is = absurd (no_keys (kind_of_stage shape stage) (λ o. form_of shape (slots_before shape stage) o 9) is.0 e refl is.1)
+keys_body shape stage (Confirm votes) e is = absurd (no_keys (kind_of_stage shape stage) (λ o. form_of shape (slots_before shape stage) o 10) is.0 e refl is.1)
+keys_body shape stage (Differ posts) e is = absurd (no_keys (kind_of_stage shape stage) (λ o. form_of shape (slots_before shape stage) o 11) is.0 e refl is.1)
+
+reveal_body : (body : Body) → is_reveal body ≡ true → (votes : List (List ℕ)) × (seed : List ℕ) × (body ≡ Reveal votes seed)
+reveal_body (Reveal votes seed) e = (votes, seed, refl)
+reveal_body (Keys keys) e = absurd cc
+reveal_body (Submit ciphertext) e = absurd cc
+reveal_body (Shuffled list) e = absurd cc
+reveal_body Abort e = absurd cc
+reveal_body (Go vote) e = absurd cc
+reveal_body (Dispute posts seed opening) e = absurd cc
+reveal_body (Pads pads) e = absurd cc
+reveal_body (Check vote) e = absurd cc
+reveal_body (Confirm votes) e = absurd cc
+reveal_body (Differ posts) e = absurd cc
+
+-- what is right of a seed, of contents that are read
+seed-right : (kind : Option StageKind) (first last : Result Content Offence) (a b : Content) (shuffle : ℕ) (keys votes : List (List ℕ)) (seed : List ℕ)
+    → kind ≡ Some (AtFinal shuffle) → first ≡ Ok a → last ≡ Ok b → a.body ≡ Keys keys → b.body ≡ Reveal votes seed → is_seed_of_key kind first last ≡ bytes_eq (key_of_seed seed) (inner_key shuffle keys)
+seed-right kind first last a b shuffle keys votes seed e1 e2 e3 e4 e5 =
+    rw (e1, e2, e3) (ap (λ (body : Body). is_seed_in (Some (AtFinal shuffle)) body b.body) e4 ∙ ap (λ (body : Body). is_seed_in (Some (AtFinal shuffle)) (Keys keys) body) e5)
+
+-- a content by its header and its body
+same_content : (c : Content) (header : Header) (body : Body) → c.header ≡ header → c.body ≡ body → c ≡ record { header = header; body = body }
+same_content c header body e1 e2 = rw (← e1, ← e2) refl
+
+seed-found : (roster : Roster) (t : Transcript) (first second : List ℕ) → t.claim ≡ WrongSeed → t.posts ≡ first ∷ second ∷ [] → IsBytes first → IsBytes second
+    → BothHeard (case_of_transcript roster t) first second → RevealsWrongSeed roster t
+seed-found roster t first second is posts fits_first fits_second heard =
+    let case = case_of_transcript roster t in
+    let shape = shape_of_roster roster in
+    let bodies : is_of_bodies case.claim ≡ true = ap is_of_bodies is in
+    let one = taken-found case None 1 first heard.a bodies fits_first heard.first_heard in
+    let two = taken-found case (Some heard.a.header) 2 second heard.b bodies fits_second heard.second_heard in
+    let a : Content = one.content in
+    let b : Content = two.content in
+    let parts = and_parts (heard.a.header.sender == t.accused) (is_keys_stage (kind_of_stage shape heard.a.header.stage)) (asked-found case WrongSeed None 1 heard.a.header is one.asked) in
+    let others = and_parts (heard.b.header.sender == t.accused) (is_final_stage (kind_of_stage shape heard.b.header.stage)) (asked-found case WrongSeed (Some heard.a.header) 2 heard.b.header is two.asked) in
+    let stage = is-keys (kind_of_stage shape heard.a.header.stage) parts.1 in
+    let last = is-final (kind_of_stage shape heard.b.header.stage) others.1 in
+    let grammar = content-is_spelled shape one.file.text a (says-bytes roster t.round first one.file.text a.header fits_first one.file.says) one.file.reads in
+    let keys = keys_body shape a.header.stage a.body (ap (λ (h : Header). kind_of_stage shape h.stage) one.header_is ∙ stage) grammar.1.1 in
+    let reveal = reveal_body b.body (subst (λ (c : Claim). is_kind_asked c (Some heard.a.header) b.body ≡ true) is two.kind) in
+    let right = seed-right (kind_of_stage shape heard.b.header.stage) (content_read shape heard.a.content) (content_read shape heard.b.content) a b last.0 keys.0 reveal.0 reveal.1 last.1 one.reads two.reads keys.1 reveal.2 in
+    let wrong = not-true (is_seed_right shape (heard.a ∷ heard.b ∷ [])) (fault_unless-holds (not (is_seed_right shape (heard.a ∷ heard.b ∷ []))) SeedFits (subst (λ (c : Claim). own_failure c case (heard.a ∷ heard.b ∷ []) ≡ None) is heard.passes)) in
+    record {
+      keys_post = first;
+      final_post = second;
+      listed = posts;
+      keys_header = heard.a.header;
+      final_header = heard.b.header;
+      keys = keys.0;
+      votes = reveal.0;
+      seed = reveal.1;
+      keys_are = subst (λ (c : Content). IsPostFile roster t.round first c) (same_content a heard.a.header (Keys keys.0) one.header_is keys.1) one.file;
+      final_is = subst (λ (c : Content). IsPostFile roster t.round second c) (same_content b heard.b.header (Reveal reveal.0 reveal.1) two.header_is reveal.2) two.file;
+      keys_sender = eqb-true _ _ parts.0;
+      final_sender = eqb-true _ _ others.0;
+      keys_stage = stage;
+      shuffle = last.0;
+      final_stage = last.1;
+      other = unequal (key_of_seed reveal.1) (inner_key last.0 keys.0) (sym right ∙ wrong);
+    }
+  where
+    unequal : (x y : List ℕ) → bytes_eq x y ≡ false → x ≢ y
+    unequal x y e same = absurd (let equal : bytes_eq x y ≡ true = (bytes_eq-Decides x y).1 same in cc)
+
+seed-again : (roster : Roster) (t : Transcript) → t.claim ≡ WrongSeed → RevealsWrongSeed roster t → conviction_of (case_of_transcript roster t) t.posts ≡ Ok tt
+seed-again roster t is e =
+    let case = case_of_transcript roster t in
+    let shape = shape_of_roster roster in
+    let first : Content = record { header = e.keys_header; body = Keys e.keys } in
+    let last : Content = record { header = e.final_header; body = Reveal e.votes e.seed } in
+    let a : Said = record { header = e.keys_header; content = e.keys_are.text } in
+    let b : Said = record { header = e.final_header; content = e.final_is.text } in
+    let sender : (e.keys_header.sender == t.accused) ≡ true = eq-eqb _ _ e.keys_sender in
+    let other : (e.final_header.sender == t.accused) ≡ true = eq-eqb _ _ e.final_sender in
+    let keys : is_keys_stage (kind_of_stage shape e.keys_header.stage) ≡ true = ap is_keys_stage e.keys_stage in
+    let final : is_final_stage (kind_of_stage shape e.final_header.stage) ≡ true = ap is_final_stage e.final_stage in
+    let asked : is_asked case None 1 e.keys_header ≡ true = asked-again case WrongSeed None 1 e.keys_header is (both _ _ sender keys) in
+    let asked_again : is_asked case (Some e.keys_header) 2 e.final_header ≡ true = asked-again case WrongSeed (Some e.keys_header) 2 e.final_header is (both _ _ other final) in
+    let kind : is_kind_asked case.claim None (Keys e.keys) ≡ true = subst (λ (c : Claim). is_kind_asked c None (Keys e.keys) ≡ true) (sym is) refl in
+    let kind_again : is_kind_asked case.claim (Some e.keys_header) (Reveal e.votes e.seed) ≡ true = subst (λ (c : Claim). is_kind_asked c (Some e.keys_header) (Reveal e.votes e.seed) ≡ true) (sym is) refl in
+    let right = seed-right (kind_of_stage shape e.final_header.stage) (content_read shape e.keys_are.text) (content_read shape e.final_is.text) first last e.shuffle e.keys e.votes e.seed e.final_stage e.keys_are.reads e.final_is.reads refl refl in
+    let differ : bytes_eq (key_of_seed e.seed) (inner_key e.shuffle e.keys) ≡ false = false_from_ne_true _ (λ same. e.other ((bytes_eq-Decides (key_of_seed e.seed) (inner_key e.shuffle e.keys)).0 same)) in
+    ap (conviction_of case) e.listed
+    ∙ two-both case e.keys_post e.final_post a b
+    (file-taken case None 1 e.keys_post first e.keys_are asked kind)
+    (file-taken case (Some e.keys_header) 2 e.final_post last e.final_is asked_again kind_again)
+    ∙ other_seed case a b is (right ∙ differ)
+  where
+    both : (x y : Bool) → x ≡ true → y ≡ true → (x && y) ≡ true
+    both true true e f = refl
+    both true false e f = absurd cc
+    both false y e f = absurd cc
 
 -- ---- Malformed
 
@@ -162,16 +373,15 @@ one-found : (roster : Roster) (t : Transcript) (only : List ℕ) → t.claim ≡
 one-found roster t only is posts fits one =
     let case = case_of_transcript roster t in
     let shape = shape_of_roster roster in
-    let heard = heard-found case None 1 only one.a fits one.heard in
-    let sender : (one.a.header.sender == t.accused) ≡ true = subst (λ (c : Claim). is_asked c t.accused None one.a.header ≡ true) is heard.1 in
-    let passes : fault_unless (not (is_ok (content_read shape one.a.content))) WellFormed ≡ None = subst (λ (c : Claim). own_failure shape c (one.a ∷ []) ≡ None) is one.passes in
+    let heard = heard-found case None 1 only one.a fits (taken-heard case None 1 only one.a one.heard) in
+    let passes : fault_unless (not (is_ok (content_read shape one.a.content))) WellFormed ≡ None = subst (λ (c : Claim). own_failure c case (one.a ∷ []) ≡ None) is one.passes in
     record {
       post = only;
       listed = posts;
       content = one.a.content;
       header = one.a.header;
       says = heard.0;
-      sender = eqb-true _ _ sender;
+      sender = eqb-true _ _ (asked-found case Malformed None 1 one.a.header is heard.1);
       outside = is_outside shape one.a.content (not-true (is_ok (content_read shape one.a.content)) (fault_unless-holds (not (is_ok (content_read shape one.a.content))) WellFormed passes));
     }
 
@@ -180,19 +390,15 @@ one-again roster t is fits m =
     let case = case_of_transcript roster t in
     let shape = shape_of_roster roster in
     let a : Said = record { header = m.header; content = m.content } in
-    let sender : (m.header.sender == t.accused) ≡ true = eq-eqb _ _ m.sender in
-    let asked : is_asked t.claim t.accused None m.header ≡ true = subst (λ (c : Claim). is_asked c t.accused None m.header ≡ true) (sym is) sender in
+    let asked : is_asked case None 1 m.header ≡ true = asked-again case Malformed None 1 m.header is (eq-eqb _ _ m.sender) in
     let post : IsBytes m.post = front_bytes m.post (subst (λ (x : List (List ℕ)). AllByRecursion IsBytes x) m.listed fits) in
-    let content : IsBytes m.content = content_bytes m.content m.says.signature (subst (λ (x : List ℕ). IsBytes x) m.says.spelled post) in
+    let content : IsBytes m.content = says-bytes roster t.round m.post m.content m.header post m.says in
     ap (conviction_of case) m.listed
-    ∙ one-heard case m.post a (heard-again case None 1 m.post m.content m.header m.says asked)
-    ∙ unformed shape t.claim a is (is_unread shape m.content content m.outside)
+    ∙ one-heard case m.post a (taken-plain case None 1 m.post (plain-claim t.claim Malformed is refl) ∙ heard-again case None 1 m.post m.content m.header m.says asked)
+    ∙ unformed case a is (is_unread shape m.content content m.outside)
   where
     front_bytes : (post : List ℕ) → AllByRecursion IsBytes (post ∷ []) → IsBytes post
     front_bytes post fits = fits.0
-
-    content_bytes : (content signature : List ℕ) → IsBytes (post_spelling (record { content = content; signature = signature })) → IsBytes content
-    content_bytes content signature fits = IsBytes-back (to_be_bytes w32 (length content)) content (IsBytes-front (to_be_bytes w32 (length content) ++ content) signature fits)
 
 -- ---- by claim
 
@@ -212,7 +418,13 @@ convicts-found roster t Malformed is decided count fits e =
   where
     only_bytes : (a : List ℕ) → AllByRecursion IsBytes (a ∷ []) → IsBytes a
     only_bytes a fits = fits.0
-convicts-found roster t WrongSeed is decided count fits e = absurd cc
+convicts-found roster t WrongSeed is decided count fits e =
+    let two = two_listed t.posts count in
+    let bytes : IsBytes two.0 × IsBytes two.1 = two_bytes two.0 two.1 (subst (λ (x : List (List ℕ)). AllByRecursion IsBytes x) two.2 fits) in
+    seed-found roster t two.0 two.1 is two.2 bytes.0 bytes.1 (both_heard (case_of_transcript roster t) two.0 two.1 (sym (ap (conviction_of (case_of_transcript roster t)) two.2) ∙ e))
+  where
+    two_bytes : (a b : List ℕ) → AllByRecursion IsBytes (a ∷ b ∷ []) → IsBytes a × IsBytes b
+    two_bytes a b fits = (fits.0, fits.1.0)
 convicts-found roster t BadLog is decided count fits e = absurd cc
 convicts-found roster t Replay is decided count fits e = absurd cc
 convicts-found roster t Pad is decided count fits e = absurd cc
@@ -220,7 +432,7 @@ convicts-found roster t Pad is decided count fits e = absurd cc
 convicts-again : (roster : Roster) (t : Transcript) (claim : Claim) → t.claim ≡ claim → AllByRecursion IsBytes t.posts → Convicts roster t claim → (is_decided claim ≡ true) × (conviction_of (case_of_transcript roster t) t.posts ≡ Ok tt)
 convicts-again roster t Equivocation is fits convicts = (refl, two-again roster t is convicts)
 convicts-again roster t Malformed is fits convicts = (refl, one-again roster t is fits convicts)
-convicts-again roster t WrongSeed is fits convicts = absurd convicts
+convicts-again roster t WrongSeed is fits convicts = (refl, seed-again roster t is convicts)
 convicts-again roster t BadLog is fits convicts = absurd convicts
 convicts-again roster t Replay is fits convicts = absurd convicts
 convicts-again roster t Pad is fits convicts = absurd convicts
@@ -312,10 +524,10 @@ nobody_malforms roster t sent each said m =
 framed_by : (roster : Roster) (t : Transcript) (claim : Claim) (sent : List (List ℕ)) → GivesNoGround (shape_of_roster roster) claim sent → SaidBy roster t.round t.accused t.posts sent → Convicts roster t claim → ⊥
 framed_by roster t Equivocation sent ground said convicts = nobody_equivocates roster t sent ground said convicts
 framed_by roster t Malformed sent ground said convicts = nobody_malforms roster t sent ground said convicts
-framed_by roster t WrongSeed sent ground said convicts = convicts
-framed_by roster t BadLog sent ground said convicts = convicts
-framed_by roster t Replay sent ground said convicts = convicts
-framed_by roster t Pad sent ground said convicts = convicts
+framed_by roster t WrongSeed sent ground said convicts = ground
+framed_by roster t BadLog sent ground said convicts = ground
+framed_by roster t Replay sent ground said convicts = ground
+framed_by roster t Pad sent ground said convicts = ground
 
 pub nobody_is_framed : NobodyIsFramed
 nobody_is_framed roster bytes accused claim sent ground lists accepts =

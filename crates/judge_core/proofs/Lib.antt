@@ -1,2 +1,3 @@
 pub mod Hearings
+pub mod BodyKinds
 pub mod Convictions

@@ -24,11 +24,12 @@ abbrev pub EachOfGrammar : Shape → List (List ℕ) → Type 0
 EachOfGrammar shape sent = (content : List ℕ) → Contains sent content
     → (c : Content) × OfGrammar shape c × (content ≡ content_text c)
 
--- a member's contents that give no ground for a claim; of a claim that is not decided nothing is asked
+-- a member's contents that give no ground for a claim. Of the claims behind Malformed nothing is promised: no contents
+-- count as giving no ground for one of them
 abbrev pub GivesNoGround : Shape → Claim → List (List ℕ) → Type 0
 GivesNoGround shape Equivocation sent = OnePerSlot sent
 GivesNoGround shape Malformed sent = EachOfGrammar shape sent
-GivesNoGround shape claim sent = Unit {0}
+GivesNoGround shape claim sent = ⊥
 
 -- whatever these posts say for the accused in the round, it sent
 abbrev pub SaidBy : Roster → ℕ → ℕ → List (List ℕ) → List (List ℕ) → Type 0

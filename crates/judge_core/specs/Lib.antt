@@ -2,3 +2,4 @@ pub mod Accepts
 pub mod Checks
 pub mod Failures
 pub mod Framing
+pub mod WrongSeed

@@ -16,10 +16,16 @@ pub enum FailedCheck {
     Post { post: u32, refusal: PostRefusal },
     /// Check 5: the sender or the stage of a listed post is not the claim's.
     Slot { post: u32, stage: u8 },
+    /// Check 6: the content of a listed post is outside the grammar, at this offset.
+    Body { post: u32, at: u32 },
+    /// Check 7: the body of a listed post is of a kind that the claim does not ask for.
+    Kind { post: u32, kind: u8 },
     /// Check 8: the contents that are to differ are equal.
     Same,
     /// Check 9: the content that is to be malformed is of the grammar.
     WellFormed,
+    /// Check 10: the seed that is to be wrong is that of the inner key.
+    SeedFits,
 }
 
 // Why a transcript convicts nobody.
@@ -38,8 +44,11 @@ impl FailedCheck {
             FailedCheck::Form(form) => form.check(),
             FailedCheck::Post { .. } => 4,
             FailedCheck::Slot { .. } => 5,
+            FailedCheck::Body { .. } => 6,
+            FailedCheck::Kind { .. } => 7,
             FailedCheck::Same => 8,
             FailedCheck::WellFormed => 9,
+            FailedCheck::SeedFits => 10,
         }
     }
 
@@ -49,14 +58,17 @@ impl FailedCheck {
     {
         match self {
             FailedCheck::Form(form) => form.post(),
-            FailedCheck::Post { post, .. } | FailedCheck::Slot { post, .. } => *post,
-            FailedCheck::Same => 2,
+            FailedCheck::Post { post, .. }
+            | FailedCheck::Slot { post, .. }
+            | FailedCheck::Body { post, .. }
+            | FailedCheck::Kind { post, .. } => *post,
+            FailedCheck::Same | FailedCheck::SeedFits => 2,
             FailedCheck::WellFormed => 1,
         }
     }
 
     /// Where it fails: for the checks 1 to 3 an offset, for 4 the number of the post's refusal, from 1 to 7,
-    /// for 5 the stage of the post, and for 8 and 9 it is 0.
+    /// for 5 the stage of the post, for 6 the offset in its content, for 7 its kind, and for 8 to 10 it is 0.
     pub fn at(&self) -> u32
         ensures { result ≡ failed_at self.now }
     {
@@ -64,7 +76,9 @@ impl FailedCheck {
             FailedCheck::Form(form) => form.at(),
             FailedCheck::Post { refusal, .. } => refusal.number(),
             FailedCheck::Slot { stage, .. } => u32::from(*stage),
-            FailedCheck::Same | FailedCheck::WellFormed => 0,
+            FailedCheck::Body { at, .. } => *at,
+            FailedCheck::Kind { kind, .. } => u32::from(*kind),
+            FailedCheck::Same | FailedCheck::WellFormed | FailedCheck::SeedFits => 0,
         }
     }
 }

@@ -4,10 +4,13 @@
 #[cfg(test)]
 mod evidence;
 mod failed_check;
+mod hearing;
 mod judging;
 mod laws;
+mod reading;
 #[cfg(test)]
 mod stored_evidence;
+mod wrong_seed;
 
 pub use failed_check::FailedCheck;
 pub use judging::{Accepted, judge};

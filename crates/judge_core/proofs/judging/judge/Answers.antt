@@ -1,5 +1,5 @@
 use Rattle.group_roster.specs.Given.{roster_of}
-use Rattle.std.proofs.Common.{◌≡◌, arith, sym, ap, subst, ◌∙◌, Result, Ok, Err}
+use Rattle.std.proofs.Common.{◌≡◌, arith, sym, ap, subst, Result, Ok, Err}
 use Rattle.wire_core.specs.Answers.{Gives, fault_as}
 use Rattle.judge_core.specs.declared.judging.Accepted.{Accepted}
 use Rattle.judge_core.specs.declared.failed_check.FailedCheck.{FailedCheck}
