@@ -15,7 +15,9 @@ use Rattle.phase_message.specs.Shape.{Shape}
 use Rattle.phase_message.proofs.Whole.{content-is_spelled, length-header_text}
 use Rattle.group_roster.specs.Roster.{shape_of_roster}
 use Rattle.judge_core.specs.declared.failed_check.FailedCheck.TheVariants.{Kind}
-use Rattle.judge_core.specs.Checks.{Case, content_of, is_kind_asked, is_reveal}
+use Rattle.judge_core.specs.Checks.{content_of, is_kind_asked}
+use Rattle.judge_core.specs.Case.{Case}
+use Rattle.judge_core.specs.Pad.{is_reveal}
 
 -- the byte of the kind stands behind the header
 pub kind-byte : (shape : Shape) (bytes : List ℕ) (c : Content) → IsBytes bytes → content_read shape bytes ≡ Ok c → (75 < length bytes) × (get_or bytes 75 0 ≡ kind_number c.body)

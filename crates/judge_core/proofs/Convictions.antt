@@ -48,7 +48,9 @@ use Rattle.judge_core.specs.declared.failed_check.FailedCheck.{FailedCheck}
 use Rattle.judge_core.specs.declared.failed_check.FailedCheck.TheVariants.{Form, Post as RefusedPost, Slot, Body as FailedBody, Kind, Same, WellFormed, SeedFits}
 use Rattle.judge_core.specs.declared.judging.Accepted.{Accepted}
 use Rattle.judge_core.specs.Accepts.{Equivocates, SaysMalformed, RevealsWrongSeed, Convicts, Accepts}
-use Rattle.judge_core.specs.Checks.{Case, Said, case_of_transcript, content_of, is_decided, undecided, is_asked, is_final_stage, is_keys_stage, is_kind_asked, is_of_bodies, is_reveal, is_seed_right, is_slot_asked, heard_of, taken_of, own_failure, conviction_of, judgement_of, printed_judgement_of, AcceptsExactly}
+use Rattle.judge_core.specs.Checks.{content_of, is_decided, undecided, is_asked, is_final_stage, is_keys_stage, is_kind_asked, is_of_bodies, is_seed_right, is_slot_asked, heard_of, taken_of, own_failure, conviction_of, judgement_of, printed_judgement_of, AcceptsExactly}
+use Rattle.judge_core.specs.Case.{Case, Said, case_of_transcript}
+use Rattle.judge_core.specs.Pad.{is_reveal}
 use Rattle.judge_core.specs.WrongSeed.{inner_key, is_seed_in, is_seed_of_key}
 use Rattle.judge_core.specs.Failures.{failure_of_check}
 use Rattle.judge_core.specs.Framing.{EachOfGrammar, GivesNoGround, OnePerSlot, SaidBy, NobodyIsFramed}

@@ -16,7 +16,8 @@ use Rattle.transcript_form.specs.declared.claim.Claim.{Claim}
 use Rattle.transcript_form.specs.declared.claim.Claim.TheVariants.{Equivocation, Malformed, WrongSeed}
 use Rattle.judge_core.specs.declared.failed_check.FailedCheck.{FailedCheck}
 use Rattle.judge_core.specs.declared.failed_check.FailedCheck.TheVariants.{Body as FailedBody, Same, WellFormed, SeedFits}
-use Rattle.judge_core.specs.Checks.{Case, WantsMemory, Said, content_of, heard_of, taken_of, hearing_of, is_of_bodies, is_seed_right, own_failure, conviction_of}
+use Rattle.judge_core.specs.Checks.{WantsMemory, content_of, heard_of, taken_of, hearing_of, is_of_bodies, is_seed_right, own_failure, conviction_of}
+use Rattle.judge_core.specs.Case.{Case, Said}
 
 -- two posts are all
 pub two_posts : (posts rest others : List (List ℕ)) (first second : List ℕ) → posts ≡ first ∷ rest → rest ≡ second ∷ others → length posts ≡ 2 → posts ≡ first ∷ second ∷ []

@@ -4,7 +4,6 @@ use Rattle.wire_core.specs.Bytes.{IsBytes}
 use Rattle.wire_core.specs.Reading.{◌>>=◌, fault_as, unless}
 use Rattle.wire_core.specs.Answers.{fault_unless, value_unless}
 use Rattle.phase_message.specs.declared.content.Body.{Body}
-use Rattle.phase_message.specs.declared.content.Body.TheVariants.{Reveal, Dispute, Differ}
 use Rattle.phase_message.specs.declared.content.Content.{Content}
 use Rattle.phase_message.specs.declared.header.Header.{Header}
 use Rattle.phase_message.specs.declared.stage.StageKind.{StageKind}
@@ -14,10 +13,9 @@ use Rattle.phase_message.specs.Offence.{content_read}
 use Rattle.phase_message.specs.Shape.{Shape}
 use Rattle.phase_message.specs.Slots.{slot_number}
 use Rattle.phase_message.specs.Stages.{kind_of_stage, vote_of}
-use Rattle.group_roster.specs.Given.{roster_of}
 use Rattle.group_roster.specs.Roster.{Roster, IsRosterForm, shape_of_roster}
 use Rattle.signed_post.specs.Admission.{admission_of_bytes}
-use Rattle.transcript_form.specs.declared.accusation.Accusation.{Accusation}
+use Rattle.round_spec.specs.Verdict.{is_dissent}
 use Rattle.transcript_form.specs.declared.claim.Claim.{Claim}
 use Rattle.transcript_form.specs.declared.claim.Claim.TheVariants.{Equivocation, Malformed, WrongSeed, BadLog, Replay, Pad}
 use Rattle.transcript_form.specs.declared.refusal.FailedForm.TheVariants.{Form as WrongForm}
@@ -26,47 +24,17 @@ use Rattle.transcript_form.specs.Claim.{claim_posts}
 use Rattle.transcript_form.specs.Form.{claim_read, transcript_read}
 use Rattle.transcript_form.specs.Refusals.{Failure}
 use Rattle.judge_core.specs.declared.failed_check.FailedCheck.{FailedCheck}
-use Rattle.judge_core.specs.declared.failed_check.FailedCheck.TheVariants.{Form, Post, Slot, Body as FailedBody, Kind, Same, WellFormed, SeedFits}
+use Rattle.judge_core.specs.declared.failed_check.FailedCheck.TheVariants.{Form, Post, Slot, Body as FailedBody, Kind, Same, WellFormed, SeedFits, Justified}
 use Rattle.judge_core.specs.declared.failed_check.Unjudged.{Unjudged}
 use Rattle.judge_core.specs.declared.failed_check.Unjudged.TheVariants.{Failed, Memory}
-use Rattle.judge_core.specs.declared.hearing.Case.{Case as GivenCase}
-use Rattle.judge_core.specs.declared.hearing.Said.{Said as GivenSaid}
 use Rattle.judge_core.specs.declared.judging.Accepted.{Accepted}
 use Rattle.judge_core.specs.Accepts.{Accepts}
 use Rattle.judge_core.specs.Failures.{failure_of_check}
+use Rattle.judge_core.specs.Case.{Case, Said, case_of_transcript, shape_in}
+use Rattle.judge_core.specs.Closing.{is_justified_in}
+use Rattle.judge_core.specs.Pad.{is_reveal, pad_failure}
+use Rattle.judge_core.specs.Replay.{replay_failure}
 use Rattle.judge_core.specs.WrongSeed.{is_seed_of_key}
-
--- what a judge knows before the first post: the roster, the claim, the accused, the round, and the accusation of a pad
-pub record Case : Type 0 where
-  pub roster : Roster
-  pub claim : Claim
-  pub accused : ℕ
-  pub round : ℕ
-  pub detail : Option Accusation
-
--- a listed post that passes the seven checks before its body and stands in a slot that the claim asks for: its header
--- and its content
-pub record Said : Type 0 where
-  pub header : Header
-  pub content : List ℕ
-
--- the same of what the code holds
-abbrev pub case_of : GivenCase → Case
-case_of given = record {
-  roster = roster_of given.roster.now;
-  claim = given.claim;
-  accused = given.accused;
-  round = given.round;
-  detail = given.detail;
-}
-
-abbrev pub said_of : GivenSaid → Said
-said_of given = record { header = given.header; content = given.content.now }
-
--- the case of a transcript
-abbrev pub case_of_transcript : Roster → Transcript → Case
-case_of_transcript roster t =
-    record { roster = roster; claim = t.claim; accused = t.accused; round = t.round; detail = t.detail }
 
 -- ---- the claims that are decided
 
@@ -141,21 +109,10 @@ is_of_bodies Equivocation = false
 is_of_bodies Malformed = false
 is_of_bodies claim = true
 
--- whether a body is a Reveal
-abbrev pub is_reveal : Body → Bool
-is_reveal (Reveal votes seed) = true
-is_reveal body = false
-
--- whether a body is a Dispute or a Differ. At one stage there is one of the two
-abbrev pub is_objection : Body → Bool
-is_objection (Dispute posts seed opening) = true
-is_objection (Differ posts) = true
-is_objection body = false
-
 -- whether a claim asks for a body of this kind: in WrongSeed the second reveals, and in Replay each objects
 abbrev pub is_kind_asked : Claim → Option Header → Body → Bool
 is_kind_asked WrongSeed (Some first) body = is_reveal body
-is_kind_asked Replay first body = is_objection body
+is_kind_asked Replay first body = is_dissent body
 is_kind_asked claim first body = true
 
 -- what a listed post says: its content is of the grammar, and its body of a kind that the claim asks for
@@ -201,13 +158,21 @@ is_seed_right shape (keys ∷ final ∷ []) =
     is_seed_of_key (kind_of_stage shape final.header.stage) (content_read shape keys.content) (content_read shape final.content)
 is_seed_right shape said = true
 
+-- whether a listed closing post is justified
+abbrev pub is_borne_out : Case → List Said → Bool
+is_borne_out case (only ∷ []) = is_justified_in case only
+is_borne_out case said = true
+
 -- The first of a claim's own checks that fails: in Equivocation the contents are equal, in Malformed the content is of
--- the grammar, and in WrongSeed the seed is the right one
+-- the grammar, in WrongSeed the seed is the right one, and in BadLog the content is justified; a replay and a pad have
+-- several
 abbrev pub own_failure : Claim → Case → List Said → Option FailedCheck
 own_failure Equivocation case said = fault_unless (not (is_one_content said)) Same
-own_failure Malformed case said = fault_unless (not (is_well_formed (shape_of_roster case.roster) said)) WellFormed
-own_failure WrongSeed case said = fault_unless (not (is_seed_right (shape_of_roster case.roster) said)) SeedFits
-own_failure claim case said = Some undecided
+own_failure Malformed case said = fault_unless (not (is_well_formed (shape_in case) said)) WellFormed
+own_failure WrongSeed case said = fault_unless (not (is_seed_right (shape_in case) said)) SeedFits
+own_failure BadLog case said = fault_unless (not (is_borne_out case said)) Justified
+own_failure Replay case said = replay_failure case said
+own_failure Pad case said = pad_failure case said
 
 -- what the listed posts come to
 unfoldable pub conviction_of : Case → List (List ℕ) → Result (Unit {0}) FailedCheck

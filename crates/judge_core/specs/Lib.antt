@@ -1,5 +1,9 @@
 pub mod Accepts
+pub mod Case
 pub mod Checks
+pub mod Closing
 pub mod Failures
 pub mod Framing
+pub mod Pad
+pub mod Replay
 pub mod WrongSeed

@@ -1,5 +1,5 @@
 -- When a revealed seed is that of the key that its member said.
-use Rattle.std.specs.Prelude.{ℕ, List, [], Bool, true, bytes_eq, ◌==◌, if◌then◌else◌, Option, Some, Result, Ok, slice_index_or}
+use Rattle.std.specs.Prelude.{ℕ, List, [], Bool, true, bytes_eq, Option, Some, Result, Ok, slice_index_or}
 use Rattle.phase_message.specs.declared.content.Body.{Body}
 use Rattle.phase_message.specs.declared.content.Body.TheVariants.{Keys, Reveal}
 use Rattle.phase_message.specs.declared.content.Content.{Content}
@@ -7,10 +7,7 @@ use Rattle.phase_message.specs.declared.stage.StageKind.{StageKind}
 use Rattle.phase_message.specs.declared.stage.StageKind.TheVariants.{Final}
 use Rattle.phase_message.specs.declared.offence.Offence.{Offence}
 use Rattle.ring_encrypt.specs.Capsule.{key_of_seed}
-
--- which of five keys is the inner one of a shuffle: the first, or the fourth
-abbrev pub inner_place : ℕ → ℕ
-inner_place shuffle = if shuffle == 1 then 0 else 3
+use Rattle.round_spec.specs.Slots.{inner_place}
 
 -- the inner key of a shuffle
 abbrev pub inner_key : ℕ → List (List ℕ) → List ℕ

@@ -7,7 +7,8 @@ ghost use Rattle.phase_message.specs.declared.content.Body.{Body};
 ghost use Rattle.phase_message.specs.Grammar.{kind_number};
 ghost use Rattle.phase_message.specs.Stages.{is_slot, kind_of_stage, shape_of};
 ghost use Rattle.group_roster.specs.Roster.{shape_of_roster};
-ghost use Rattle.judge_core.specs.Checks.{Looks, case_of, content_of, heard_of, is_asked, is_closing_stage, is_final_stage, is_keys_stage, is_kind_asked, is_of_bodies, is_of_one_stage, is_pad_stage, said_of, taken_of};
+ghost use Rattle.judge_core.specs.Checks.{Looks, content_of, heard_of, is_asked, is_closing_stage, is_final_stage, is_keys_stage, is_kind_asked, is_of_bodies, is_of_one_stage, is_pad_stage, taken_of};
+ghost use Rattle.judge_core.specs.Case.{case_of, said_of};
 
 use crate::failed_check::FailedCheck;
 use group_roster::Roster;

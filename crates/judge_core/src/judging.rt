@@ -9,7 +9,8 @@ ghost use Rattle.group_roster.specs.Roster.{shape_of_roster};
 ghost use Rattle.transcript_form.specs.Claim.{claim_posts};
 ghost use Rattle.transcript_form.specs.Refusals.{failure_of_refusal};
 ghost use Rattle.judge_core.specs.Accepts.{Accepts};
-ghost use Rattle.judge_core.specs.Checks.{JudgingWantsMemory, WantsMemory, case_of, conviction_of, failed_of, is_decided, judgement_of, printed_judgement_of};
+ghost use Rattle.judge_core.specs.Checks.{JudgingWantsMemory, WantsMemory, conviction_of, failed_of, is_decided, judgement_of, printed_judgement_of};
+ghost use Rattle.judge_core.specs.Case.{case_of};
 ghost use Rattle.judge_core.specs.Framing.{GivesNoGround, ListsSaid};
 
 use crate::failed_check::{FailedCheck, Unjudged};

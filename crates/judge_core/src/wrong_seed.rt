@@ -5,8 +5,10 @@ ghost use Rattle.std.specs.Prelude.{◌≡◌, ◌<◌, ◌^◌, ◌∷◌, [], 
 ghost use Rattle.phase_message.specs.Offence.{content_read};
 ghost use Rattle.phase_message.specs.Stages.{shape_of};
 ghost use Rattle.wire_core.specs.Answers.{Gives};
-ghost use Rattle.judge_core.specs.Checks.{WantsMemory, case_of, conviction_of, failed_of, is_seed_right, said_of};
-ghost use Rattle.judge_core.specs.WrongSeed.{inner_place, is_seed_in};
+ghost use Rattle.judge_core.specs.Checks.{WantsMemory, conviction_of, failed_of, is_seed_right};
+ghost use Rattle.judge_core.specs.Case.{case_of, said_of};
+ghost use Rattle.judge_core.specs.WrongSeed.{is_seed_in};
+ghost use Rattle.round_spec.specs.Slots.{inner_place};
 
 use crate::failed_check::{FailedCheck, Unjudged};
 use crate::hearing::{Case, Said, take};

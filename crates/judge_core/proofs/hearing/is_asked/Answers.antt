@@ -9,7 +9,8 @@ use Rattle.group_roster.specs.Roster.{shape_of_roster}
 use Rattle.transcript_form.specs.declared.claim.Claim.{Claim}
 use Rattle.transcript_form.specs.declared.claim.Claim.TheVariants.{Pad}
 use Rattle.transcript_form.specs.Claim.{claim_posts}
-use Rattle.judge_core.specs.Checks.{Case, case_of, is_asked, is_pad_stage, is_slot_asked}
+use Rattle.judge_core.specs.Checks.{is_asked, is_pad_stage, is_slot_asked}
+use Rattle.judge_core.specs.Case.{Case, case_of}
 use Rattle.judge_core.proofs.hearing.is_asked.Goals as goal
 
 -- of the posts before the pad the claim asks for the slot of that number

@@ -8,7 +8,7 @@ use Rattle.phase_message.specs.Shape.{Shape}
 use Rattle.group_roster.specs.Roster.{shape_of_roster}
 use Rattle.judge_core.specs.declared.failed_check.FailedCheck.{FailedCheck}
 use Rattle.judge_core.specs.declared.failed_check.FailedCheck.TheVariants.{Kind}
-use Rattle.judge_core.specs.Checks.{case_of}
+use Rattle.judge_core.specs.Case.{case_of}
 use Rattle.judge_core.proofs.BodyKinds.{kind-byte, look-kind, look-passes, no_offence}
 use Rattle.judge_core.proofs.hearing.look.Goals as goal
 

@@ -1,6 +1,7 @@
 use Rattle.std.proofs.Common.{◌∙◌, ap, sym, None}
 use Rattle.std.proofs.lemmas.Result.{err_from_is_err_and}
-use Rattle.judge_core.specs.Checks.{case_of, conviction_of, is_of_bodies, said_of}
+use Rattle.judge_core.specs.Checks.{conviction_of, is_of_bodies}
+use Rattle.judge_core.specs.Case.{case_of, said_of}
 use Rattle.judge_core.proofs.Hearings.{two_posts, two-first, two-second, two-both, equal_contents, other_contents, taken-plain}
 use Rattle.judge_core.proofs.judging.equivocation.Goals as goal
 

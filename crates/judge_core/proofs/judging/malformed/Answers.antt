@@ -3,7 +3,8 @@ use Rattle.std.proofs.lemmas.Result.{err_from_is_err_and}
 use Rattle.std.specs.Prelude.{is_ok}
 use Rattle.phase_message.specs.Offence.{content_read}
 use Rattle.phase_message.specs.Shape.{Shape}
-use Rattle.judge_core.specs.Checks.{case_of, conviction_of, is_of_bodies, said_of}
+use Rattle.judge_core.specs.Checks.{conviction_of, is_of_bodies}
+use Rattle.judge_core.specs.Case.{case_of, said_of}
 use Rattle.judge_core.proofs.Hearings.{one_post, one-unheard, one-heard, formed, unformed, taken-plain}
 use Rattle.judge_core.proofs.judging.malformed.Goals as goal
 

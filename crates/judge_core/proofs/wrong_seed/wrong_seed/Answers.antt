@@ -3,7 +3,8 @@ use Rattle.std.specs.Prelude.{IsOk}
 use Rattle.std.proofs.lemmas.Result.{err_from_is_err_and}
 use Rattle.phase_message.specs.Offence.{content_read}
 use Rattle.phase_message.specs.Shape.{Shape}
-use Rattle.judge_core.specs.Checks.{WantsMemory, case_of, conviction_of, is_of_bodies, is_seed_right, said_of}
+use Rattle.judge_core.specs.Checks.{WantsMemory, conviction_of, is_of_bodies, is_seed_right}
+use Rattle.judge_core.specs.Case.{case_of, said_of}
 use Rattle.judge_core.proofs.Hearings.{two_posts, two-both, two-first, two-second, two-wants, right_seed, other_seed, taken-grammar}
 use Rattle.judge_core.proofs.wrong_seed.wrong_seed.Goals as goal
 
