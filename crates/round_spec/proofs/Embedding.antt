@@ -1,10 +1,10 @@
 -- What justified closing contents embed: where nothing is at fault, the contents that were kept.
-use Rattle.std.proofs.Common.{◌≡◌, ℕ, zero, suc, ◌+◌, ◌-◌, ◌<◌, ◌≤◌, Bool, true, false, List, [], ◌∷◌, length, get_or, map, take, drop, min, Option, Some, None, Result, Ok, Err, ap, sym, ◌∙◌, refl, subst, arith, inl, inr}
-use Rattle.std.specs.Prelude.{◌&&◌, ◌==◌, not, IsTrue, bytes_eq, slice_index_or, option_map, zip, if◌then◌else◌}
+use Rattle.std.proofs.Common.{◌≡◌, ℕ, zero, suc, ◌+◌, ◌-◌, ◌<◌, ◌≤◌, Bool, true, false, List, [], ◌∷◌, length, get_or, map, take, drop, Option, Some, None, Result, Ok, ap, sym, ◌∙◌, refl, subst, arith, inl, inr}
+use Rattle.std.specs.Prelude.{not, bytes_eq, slice_index_or, option_map, zip}
 use Rattle.std.specs.List.{slice_get, slice_range}
 use Rattle.std.proofs.Math.ListN.{get_or-map}
-use Rattle.std.proofs.lemmas.Bool.{cases_Bool, cond-true, cond-false, and_parts}
-use Rattle.std.proofs.lemmas.List.{drop-map, ext_get_or, get_or-take, length-drop, length-map, length-take, length-take-le, take-map}
+use Rattle.std.proofs.lemmas.Bool.{cases_Bool, cond-true, cond-false}
+use Rattle.std.proofs.lemmas.List.{drop-map, ext_get_or, get_or-take, length-map, length-take-le, take-map}
 use Rattle.std.proofs.lemmas.Option.{get_or_from_slice_get, slice_get-map}
 use Rattle.std.proofs.lemmas.Slice.Eq.{bytes_eq-Decides}
 use Rattle.std.proofs.lemmas.Slice.Zip.{firsts-zip}
@@ -12,16 +12,12 @@ use Rattle.std.proofs.lemmas.Simd.{map-map}
 use Rattle.wire_core.specs.Answers.{◌>>=◌, fault_as, first_some, unless}
 use Rattle.wire_core.proofs.AnswerLemmas.{first_some-none_parts}
 use Rattle.wire_core.proofs.Readings.{bind_ok, fault_as_ok, guard_ok}
-use Rattle.phase_message.specs.declared.content.Body.{Body}
 use Rattle.phase_message.specs.declared.content.Content.{Content}
 use Rattle.phase_message.specs.declared.post.Post.{Post}
 use Rattle.phase_message.specs.declared.stage.Slot.{Slot}
-use Rattle.phase_message.specs.declared.offence.Offence.{Offence}
-use Rattle.phase_message.specs.Offence.{content_read}
-use Rattle.phase_message.specs.Shape.{Shape}
-use Rattle.phase_message.specs.Slots.{slot_at, slot_count, slot_number, slots_before, slots_of}
+use Rattle.phase_message.specs.Slots.{slot_count, slots_before, slots_of}
 use Rattle.phase_message.proofs.SlotLists.{length-slots_of, slot_at-is, slots_before-most, slots_before-rises}
-use Rattle.group_roster.specs.Roster.{Roster, shape_of_roster}
+use Rattle.group_roster.specs.Roster.{Roster}
 use Rattle.signed_post.specs.declared.post.PostRefusal.{PostRefusal}
 use Rattle.signed_post.specs.declared.post.PostRefusal.TheVariants.{Frame}
 use Rattle.signed_post.specs.Admission.{check_of}
@@ -30,7 +26,7 @@ use Rattle.stage_log.specs.Log.{contents_of}
 use Rattle.stage_log.proofs.Pasts.{slice_range-take}
 use Rattle.go_nogo.specs.Closing.{embedded_of, is_assent, posts_embedded, slots_embedded}
 use Rattle.round_spec.specs.Embedded.{BadPost, Misplaced, Refused, WhyNot, checked_post, embedded_pairs, names_slot, post_for_slot, posts_for, slot_named}
-use Rattle.round_spec.specs.Verdict.{Closing, Verdict, content_of_post, no_post, past_at, post_in, second_content, shape_at}
+use Rattle.round_spec.specs.Verdict.{Closing, content_of_post, no_post, past_at, post_in, second_content, shape_at}
 
 -- ---- one embedded post
 

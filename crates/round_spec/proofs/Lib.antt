@@ -1,3 +1,4 @@
 pub mod Courses
 pub mod Embedding
 pub mod Votes
+pub mod Verdicts

@@ -1,7 +1,7 @@
 -- Where votes are not unanimous, the replay of what was said before them blames somebody.
-use Rattle.std.proofs.Common.{◌≡◌, ◌≢◌, ℕ, zero, suc, ◌+◌, ◌-◌, ◌<◌, ◌≤◌, Bool, true, false, List, [], ◌∷◌, length, get_or, map, take, drop, Option, Some, None, Result, Ok, Err, ap, sym, ◌∙◌, refl, subst, arith, rules, inl, inr}
-use Rattle.std.specs.Prelude.{◌⊎◌, ◌&&◌, IsSome, IsTrue, is_some, bytes_eq, slice_index_or, option_and_then}
-use Rattle.std.specs.List.{list_all, slice_range}
+use Rattle.std.proofs.Common.{◌≡◌, ℕ, zero, suc, ◌+◌, ◌-◌, ◌<◌, ◌≤◌, Bool, true, List, [], ◌∷◌, length, get_or, map, take, drop, Option, Some, None, Result, Ok, Err, ap, sym, ◌∙◌, refl, subst, arith, rules, inl, inr}
+use Rattle.std.specs.Prelude.{◌⊎◌, IsSome, is_some, bytes_eq, slice_index_or, option_and_then}
+use Rattle.std.specs.List.{list_all}
 use Rattle.std.proofs.lemmas.Bool.{cases_Bool, and_from, true_from_ne_false}
 use Rattle.std.proofs.lemmas.List.{get_or-take, get_or-drop, length-drop, length-take-le}
 use Rattle.std.proofs.lemmas.Slice.Eq.{bytes_eq-Decides}
@@ -18,12 +18,12 @@ use Rattle.phase_message.specs.Stages.{is_member, is_sender, is_slot, kind_of_st
 use Rattle.phase_message.proofs.Closings.{closing-follows}
 use Rattle.phase_message.proofs.Counts.{slots_next}
 use Rattle.stage_log.specs.Log.{all_some, contents_at}
-use Rattle.stage_log.proofs.Pasts.{all_some-map}
+use Rattle.stage_log.proofs.Pasts.{all_some-map, slice_range-take}
+use Rattle.phase_message.proofs.SlotLists.{slots_before-rises}
 use Rattle.go_nogo.specs.declared.votes.Vote.{Vote}
-use Rattle.go_nogo.specs.Votes.{are_unanimous, body_vote, has_unanimous, is_unanimous, is_yes_with, vote_of as vote_in, vote_read, votes_agree, votes_of}
-use Rattle.shuffle_blame.specs.declared.fault.Fault.{Fault}
+use Rattle.go_nogo.specs.Votes.{are_unanimous, body_vote, has_unanimous, is_unanimous, is_yes_with, vote_of as vote_in, vote_read, votes_agree}
 use Rattle.shuffle_blame.specs.Replay.{Inquiry, body_of, bytes_in, culprit_of, is_yes, votes_yes}
-use Rattle.shuffle_blame.specs.Laws.{HasNo, HasTwoViews, IsMember}
+use Rattle.shuffle_blame.specs.Laws.{IsMember}
 use Rattle.shuffle_blame.proofs.Faults.{unlike_votes_blame}
 use Rattle.round_spec.specs.Verdict.{is_closing}
 use Rattle.round_spec.specs.Laws.{NotUnanimousBlames}
@@ -114,9 +114,16 @@ vote-place shape past stage i kind is whole lt =
     let number : a + i ≡ slot_number shape stage (i + 1) = sym (ap (λ (o : Option StageKind). a + place_in o (i + 1)) is.0 ∙ ap (λ (k : ℕ). a + k) (is.2 (i + 1)) ∙ omega arith) in
     (omega (arith, next), get_or-take (b - a) (drop a past) i [] few ∙ get_or-drop a past i [] ∙ ap (λ (k : ℕ). slice_index_or past k []) number)
 
+-- the votes stand in the front that reaches to the closing stage
+pub votes-front : (shape : Shape) (past : List (List ℕ)) (stage : ℕ) → is_closing shape stage ≡ true → votes_agree shape (take (slots_before shape stage) past) stage ≡ votes_agree shape past stage
+votes-front shape past stage closing =
+    let least = (votes-kind shape stage closing).0 in
+    ap (are_unanimous shape) (slice_range-take past (slots_before shape (stage - 1)) (slots_before shape (stage - 1 + 1)) (slots_before shape stage)
+    (slots_before-rises shape (stage - 1) (stage - 1 + 1) (omega arith)) (slots_before-rises shape (stage - 1 + 1) stage (omega arith)))
+
 -- ---- blame
 
-not-none : {A : Type 0} (o : Option A) → IsSome o → o ≡ None → ⊥
+pub not-none : {A : Type 0} (o : Option A) → IsSome o → o ≡ None → ⊥
 not-none None is e = absurd cc
 not-none (Some x) is e = absurd cc
 
@@ -134,29 +141,36 @@ all-same q closing whole none = by_members q.shape.members refl
   where
     follows : (1 ≤ q.stage) × ((kind : StageKind) × IsVotesOf q.shape (q.stage - 1) kind)
     follows = votes-kind q.shape q.stage closing
+
     back : q.stage - 1 + 1 ≡ q.stage
     back = let least = follows.0 in omega arith
+
     long : slots_before q.shape (q.stage - 1 + 1) ≤ length q.past
     long = subst (λ (s : ℕ). slots_before q.shape s ≤ length q.past) (sym back) whole
+
     says_yes : (member : ℕ) → IsMember q member → votes_yes q member ≡ true
     says_yes member is = true_from_ne_false _ (λ no_said. not-none (culprit_of q) (unlike_votes_blame q follows.0 (inl (member, is, no_said))) none)
+
     vote : (member : ℕ) → IsMember q member → (content : Content) × (content_read q.shape (bytes_in q (q.stage - 1) member) ≡ Ok content) × (vote_in q.shape (bytes_in q (q.stage - 1) member) ≡ Some (record { yes = true; view = content.header.view }))
     vote member is = yes-read (content_read q.shape (bytes_in q (q.stage - 1) member)) (says_yes member is)
+
     first : (content : Content) → Vote
     first content = record { yes = true; view = content.header.view }
+
     one_view : (member other : ℕ) (m : IsMember q member) (o : IsMember q other) → (vote member m).0.header.view ≡ (vote other o).0.header.view
     one_view member other m o = elim (cases_Bool (bytes_eq (vote member m).0.header.view (vote other o).0.header.view)) [
       | inl same ↦ (bytes_eq-Decides (vote member m).0.header.view (vote other o).0.header.view).0 same
       | inr unlike ↦ absurd (not-none (culprit_of q) (unlike_votes_blame q follows.0 (inr (record {
-          member = member;
-          other = other;
-          vote = (vote member m).0;
-          other_vote = (vote other o).0;
-          said = record { speaks = member-speaks q.shape (q.stage - 1) member follows.1.0 follows.1.1 m.least m.most; read = (vote member m).1 };
-          other_said = record { speaks = member-speaks q.shape (q.stage - 1) other follows.1.0 follows.1.1 o.least o.most; read = (vote other o).1 };
-          unlike = λ same. (let t = (bytes_eq-Decides (vote member m).0.header.view (vote other o).0.header.view).1 same in cc);
-        }))) none)
+        member = member;
+        other = other;
+        vote = (vote member m).0;
+        other_vote = (vote other o).0;
+        said = record { speaks = member-speaks q.shape (q.stage - 1) member follows.1.0 follows.1.1 m.least m.most; read = (vote member m).1 };
+        other_said = record { speaks = member-speaks q.shape (q.stage - 1) other follows.1.0 follows.1.1 o.least o.most; read = (vote other o).1 };
+        unlike = λ same. (let t = (bytes_eq-Decides (vote member m).0.header.view (vote other o).0.header.view).1 same in cc);
+      }))) none)
     ]
+
     by_members : (n : ℕ) → q.shape.members ≡ n → votes_agree q.shape q.past q.stage ≡ true
     by_members zero e = unanimous-same q.shape (record { yes = true; view = [] }) (contents_at q.shape q.past (q.stage - 1)) refl
         (λ i lt. absurd (let few = (vote-place q.shape q.past (q.stage - 1) i follows.1.0 follows.1.1 long lt).0 in omega (arith, e)))

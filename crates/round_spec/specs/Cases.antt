@@ -1,10 +1,9 @@
 -- The cases of a verdict: what each means, and that nothing that is looked at before it was found.
-use Rattle.std.specs.Prelude.{◌≡◌, ◌≢◌, ◌⊎◌, ℕ, ◌+◌, ◌<◌, ◌≤◌, List, [], ◌∷◌, length, Bool, true, false, IsTrue, Contains, Option, Some, None, Result, Ok}
+use Rattle.std.specs.Prelude.{◌≡◌, ◌≢◌, ◌⊎◌, ℕ, ◌+◌, ◌<◌, ◌≤◌, List, [], ◌∷◌, length, Bool, false, IsTrue, Contains, Some, None, Ok}
 use Rattle.std.specs.List.{list_any}
 use Rattle.phase_message.specs.declared.content.Content.{Content}
 use Rattle.phase_message.specs.declared.post.Post.{Post}
 use Rattle.phase_message.specs.declared.stage.Slot.{Slot}
-use Rattle.phase_message.specs.declared.stage.StageKind.{StageKind}
 use Rattle.phase_message.specs.declared.stage.StageKind.TheVariants.{Final, Confirm}
 use Rattle.phase_message.specs.Slots.{slots_before}
 use Rattle.phase_message.specs.Stages.{kind_of_stage}
@@ -12,6 +11,7 @@ use Rattle.signed_post.specs.Frame.{frame_of}
 use Rattle.stage_log.specs.Log.{contents_of}
 use Rattle.transcript_form.specs.declared.accusation.Accusation.{Accusation}
 use Rattle.transcript_form.specs.declared.claim.Claim.TheVariants.{Equivocation, WrongSeed, BadLog}
+use Rattle.transcript_form.specs.declared.transcript.Transcript.{Transcript}
 use Rattle.transcript_form.specs.Accusation.{accusation_of}
 use Rattle.go_nogo.specs.Closing.{embedded_of, is_assent}
 use Rattle.go_nogo.specs.Votes.{votes_agree}
@@ -19,7 +19,7 @@ use Rattle.shuffle_blame.specs.declared.fault.Fault.{Fault}
 use Rattle.shuffle_blame.specs.Replay.{culprit_of}
 use Rattle.round_spec.specs.Slots.{items_opened, slots_of_past}
 use Rattle.round_spec.specs.Embedded.{embedded_pairs, posts_in_content, is_content_justified}
-use Rattle.round_spec.specs.Verdict.{Closing, Verdict, Goes, Done, against, bad_pad, closing_content, content_of_post, equivocation_in, first_bad_pad, inquiry_at, is_bad, is_closing, is_dissent, is_held, is_inner_seed, is_read_justified, past_at, post_in, replayed, sent_in, shape_at, verdict_of}
+use Rattle.round_spec.specs.Verdict.{Closing, Verdict, Goes, Done, Convicts, against, bad_log, bad_pad, closing_content, content_of_post, equivocation, equivocation_in, first_bad_pad, inquiry_at, is_bad, is_closing, is_dissent, is_held, is_inner_seed, is_read_justified, past_at, post_in, replayed, sent_in, shape_at, verdict_of}
 
 -- ---- what is supposed
 
@@ -149,3 +149,15 @@ pub data Case (v : Closing) (verdict : Verdict) : Type 0 where
 -- a verdict on a whole stage is in one of the cases
 abbrev pub VerdictCases : Type 0
 VerdictCases = (v : Closing) → IsWhole v → Case v (verdict_of v)
+
+-- where there is no bad log and no equivocation, all said justified contents that embed what was kept, and all of one kind
+abbrev pub OneKind : Type 0
+OneKind = (v : Closing) → IsWhole v → bad_log v ≡ None → equivocation v ≡ None → AreFaithful v
+
+-- a verdict that convicts nobody means that all agree
+abbrev pub SparingMeansAgreed : Type 0
+SparingMeansAgreed = (v : Closing) → IsWhole v → ((t : Transcript) → verdict_of v ≢ Convicts t) → AllAgree v
+
+-- the end of shuffle B has a verdict that ends the round
+abbrev pub FinalBEnds : Type 0
+FinalBEnds = (v : Closing) → IsWhole v → kind_of_stage (shape_at v) v.stage ≡ Some (Final 2) → verdict_of v ≢ Goes

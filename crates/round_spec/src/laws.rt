@@ -1,5 +1,6 @@
 //! Laws of rounds. Nobody calls these functions: the contract of each states a law.
 
+ghost use Rattle.round_spec.specs.Cases.{FinalBEnds, OneKind, SparingMeansAgreed, VerdictCases};
 ghost use Rattle.round_spec.specs.Laws.{CourseAdds, CourseGrows, CourseEndUnique, NotUnanimousBlames};
 
 /// Some stages of a course and then others are all of them in one. With more posts of others a course comes through
@@ -13,4 +14,14 @@ pub fn course_laws()
 /// Where the votes before a closing stage are not unanimous, the replay of what was said before it blames somebody.
 pub fn not_unanimous_blames()
     ensures { NotUnanimousBlames }
+{}
+
+/// Why a verdict on a closing stage is what it is, and that nothing that is looked at before it was found. Where there is
+/// no bad log and no equivocation, all closing contents are justified, embed what was kept and are of one kind. A
+/// verdict that convicts nobody means that all agree, and the end of shuffle B always has one that ends the round.
+pub fn verdict_laws()
+    ensures cases { VerdictCases }
+    ensures one_kind { OneKind }
+    ensures agreed { SparingMeansAgreed }
+    ensures final_b { FinalBEnds }
 {}

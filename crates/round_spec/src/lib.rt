@@ -3,4 +3,4 @@
 
 mod laws;
 
-pub use laws::{course_laws, not_unanimous_blames};
+pub use laws::{course_laws, not_unanimous_blames, verdict_laws};
