@@ -10,7 +10,7 @@ use Rattle.phase_message.specs.Stages.{kind_of_stage}
 use Rattle.stage_log.specs.Log.{all_some}
 use Rattle.stage_log.proofs.Pasts.{option_map-some}
 use Rattle.round_spec.specs.Say.{Configuration, own_post, shape_in}
-use Rattle.round_spec.specs.Course.{Others, Stand, course_from, going_on, is_open, next_stand, passed, post_of, posts_of_kind, stage_filled}
+use Rattle.round_spec.specs.Course.{Others, Stand, course_from, stand_or_next, is_open, next_stand, stand_behind, post_of, posts_of_kind, stage_filled}
 use Rattle.round_spec.specs.Laws.{IsContained, ComesThrough}
 
 -- ---- options
@@ -67,16 +67,16 @@ pub next-grows : (c : Configuration) (others more : Others) (stand next : Stand)
     → next_stand c others stand ≡ Some next → next_stand c more stand ≡ Some next
 unfolding next_stand
 next-grows c others more stand next contained e = elim (cases_Bool (is_open stand.verdict)) [
-  | inl still ↦ cond-true (is_open stand.verdict) (option_map (passed c stand) (stage_filled c more stand)) None still
-      ∙ map-some (passed c stand) (stage_filled c others stand) (stage_filled c more stand) next (λ posts. filled-grows c others more stand posts contained)
-      (sym (cond-true (is_open stand.verdict) (option_map (passed c stand) (stage_filled c others stand)) None still) ∙ e)
-  | inr ended ↦ absurd (none-some next (sym (cond-false (is_open stand.verdict) (option_map (passed c stand) (stage_filled c others stand)) None ended) ∙ e))
+  | inl still ↦ cond-true (is_open stand.verdict) (option_map (stand_behind c stand) (stage_filled c more stand)) None still
+      ∙ map-some (stand_behind c stand) (stage_filled c others stand) (stage_filled c more stand) next (λ posts. filled-grows c others more stand posts contained)
+      (sym (cond-true (is_open stand.verdict) (option_map (stand_behind c stand) (stage_filled c others stand)) None still) ∙ e)
+  | inr ended ↦ absurd (none-some next (sym (cond-false (is_open stand.verdict) (option_map (stand_behind c stand) (stage_filled c others stand)) None ended) ∙ e))
 ]
 
 -- a round that is not open has no next stand
 pub next-ended : (c : Configuration) (others : Others) (stand : Stand) → is_open stand.verdict ≡ false → next_stand c others stand ≡ None
 unfolding next_stand
-next-ended c others stand ended = cond-false (is_open stand.verdict) (option_map (passed c stand) (stage_filled c others stand)) None ended
+next-ended c others stand ended = cond-false (is_open stand.verdict) (option_map (stand_behind c stand) (stage_filled c others stand)) None ended
 
 -- ---- many stages
 
@@ -84,13 +84,13 @@ next-ended c others stand ended = cond-false (is_open stand.verdict) (option_map
 pub course-stays : (c : Configuration) (others : Others) (stages : ℕ) (stand : Stand) → next_stand c others stand ≡ None → course_from c others stages stand ≡ stand
 unfolding course_from
 course-stays c others zero stand none = refl
-course-stays c others (suc stages) stand none = ap (going_on (course_from c others stages) stand) none
+course-stays c others (suc stages) stand none = ap (stand_or_next (course_from c others stages) stand) none
 
 -- with one it goes on from there
 pub course-next : (c : Configuration) (others : Others) (stages : ℕ) (stand next : Stand) → next_stand c others stand ≡ Some next
     → course_from c others (suc stages) stand ≡ course_from c others stages next
 unfolding course_from
-course-next c others stages stand next some = ap (going_on (course_from c others stages) stand) some
+course-next c others stages stand next some = ap (stand_or_next (course_from c others stages) stand) some
 
 course-zero : (c : Configuration) (others : Others) (stand : Stand) → course_from c others 0 stand ≡ stand
 unfolding course_from

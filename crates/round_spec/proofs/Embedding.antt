@@ -26,7 +26,7 @@ use Rattle.stage_log.specs.Log.{contents_of}
 use Rattle.stage_log.proofs.Pasts.{slice_range-take}
 use Rattle.go_nogo.specs.Closing.{embedded_of, is_assent, posts_embedded, slots_embedded}
 use Rattle.round_spec.specs.Embedded.{BadPost, Misplaced, Refused, WhyNot, checked_post, embedded_pairs, names_slot, post_for_slot, posts_for, slot_named}
-use Rattle.round_spec.specs.Verdict.{Closing, content_of_post, no_post, past_at, post_in, second_content, shape_at}
+use Rattle.round_spec.specs.Verdict.{ClosedStage, content_of_post, no_post, past_at, post_in, second_content, shape_at}
 
 -- ---- one embedded post
 
@@ -65,10 +65,10 @@ post-for-slot roster round slot bytes post e =
 -- ---- all of them
 
 -- the content that was kept in a slot
-pub content_kept : Closing → Slot → List ℕ
+pub content_kept : ClosedStage → Slot → List ℕ
 content_kept v slot = (post_in v slot.stage slot.sender).content
 
-same-content : (v : Closing) (pair : Slot × List ℕ) (post : Post) → frame_of pair.1 ≡ Ok post → second_content v pair ≡ None → post.content ≡ content_kept v pair.0
+same-content : (v : ClosedStage) (pair : Slot × List ℕ) (post : Post) → frame_of pair.1 ≡ Ok post → second_content v pair ≡ None → post.content ≡ content_kept v pair.0
 unfolding content_kept
 same-content v pair post spelled none = elim (cases_Bool (bytes_eq (content_of_post (frame_of pair.1)) (post_in v pair.0.stage pair.0.sender).content)) [
   | inl same ↦ sym (ap content_of_post spelled) ∙ (bytes_eq-Decides (content_of_post (frame_of pair.1)) (post_in v pair.0.stage pair.0.sender).content).0 same
@@ -76,7 +76,7 @@ same-content v pair post spelled none = elim (cases_Bool (bytes_eq (content_of_p
 ]
 
 -- posts for slots that repeat what was kept have the contents that were kept
-pub embedded-contents : (v : Closing) (place : ℕ) (pairs : List (Slot × List ℕ)) (posts : List Post) → posts_for v.roster v.round place pairs ≡ Ok posts
+pub embedded-contents : (v : ClosedStage) (place : ℕ) (pairs : List (Slot × List ℕ)) (posts : List Post) → posts_for v.roster v.round place pairs ≡ Ok posts
     → first_some (map (second_content v) pairs) ≡ None → contents_of posts ≡ map (λ pair. content_kept v pair.0) pairs
 unfolding posts_for
 embedded-contents v place [] posts e none = ap contents_of (sym (told_same [] posts e))
@@ -104,7 +104,7 @@ absent (slot ∷ slots) zero lt e = cc
 absent (slot ∷ slots) (suc i) lt e = absent slots i (omega (arith, lt)) e
 
 -- what is kept in the slots, in their order, is the past
-kept-at : (v : Closing) (i : ℕ) → i < slot_count (shape_at v) → get_or (map (content_kept v) (slots_of (shape_at v))) i [] ≡ get_or (past_at v) i []
+kept-at : (v : ClosedStage) (i : ℕ) → i < slot_count (shape_at v) → get_or (map (content_kept v) (slots_of (shape_at v))) i [] ≡ get_or (past_at v) i []
 unfolding content_kept
 kept-at v i lt = by_slot (slice_get (slots_of (shape_at v)) i) refl
   where
@@ -117,7 +117,7 @@ kept-at v i lt = by_slot (slice_get (slots_of (shape_at v)) i) refl
         ∙ sym (get_or-map (λ (post : Post). post.content) v.posts i no_post)
 
 -- so is what is kept in the slots before a stage
-kept-before : (v : Closing) (stage : ℕ) → slots_before (shape_at v) stage ≤ length v.posts
+kept-before : (v : ClosedStage) (stage : ℕ) → slots_before (shape_at v) stage ≤ length v.posts
     → take (slots_before (shape_at v) stage) (map (content_kept v) (slots_of (shape_at v))) ≡ take (slots_before (shape_at v) stage) (past_at v)
 kept-before v stage whole =
     let n : ℕ = slots_before (shape_at v) stage in
@@ -133,7 +133,7 @@ slice-map : {A B : Type 0} (f : A → B) (xs : List A) (a b : ℕ) → slice_ran
 slice-map f xs a b = ap (take (b - a)) (drop-map f a xs) ∙ take-map f (b - a) (drop a xs)
 
 -- what is kept in the slots that a closing content embeds is what it embeds of the past
-pub kept-embedded : (v : Closing) (content : Content) → 1 ≤ content.header.stage → slots_before (shape_at v) content.header.stage ≤ length v.posts
+pub kept-embedded : (v : ClosedStage) (content : Content) → 1 ≤ content.header.stage → slots_before (shape_at v) content.header.stage ≤ length v.posts
     → map (content_kept v) (slots_embedded (shape_at v) content) ≡ embedded_of (shape_at v) content (past_at v)
 kept-embedded v content least whole =
     let stage : ℕ = content.header.stage in
@@ -161,7 +161,7 @@ kept-embedded v content least whole =
     ]
 
 -- as many slots as posts: what is kept in the slots of all pairs
-pub kept-pairs : (v : Closing) (content : Content) → length (posts_embedded content.body) ≡ length (slots_embedded (shape_at v) content)
+pub kept-pairs : (v : ClosedStage) (content : Content) → length (posts_embedded content.body) ≡ length (slots_embedded (shape_at v) content)
     → map (λ (pair : Slot × List ℕ). content_kept v pair.0) (embedded_pairs v.roster content) ≡ map (content_kept v) (slots_embedded (shape_at v) content)
 kept-pairs v content count =
     sym (map-map (content_kept v) (λ (pair : Slot × List ℕ). pair.0) (zip (slots_embedded (shape_at v) content) (posts_embedded content.body)))

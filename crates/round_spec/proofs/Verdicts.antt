@@ -38,8 +38,8 @@ use Rattle.go_nogo.proofs.OneKind.{one-kind}
 use Rattle.shuffle_blame.specs.declared.fault.Fault.{Fault}
 use Rattle.shuffle_blame.specs.Replay.{body_of, culprit_of}
 use Rattle.round_spec.specs.Slots.{items_opened, said_in, slots_of_past}
-use Rattle.round_spec.specs.Embedded.{BadPost, embedded_pairs, is_content_justified, justify, posts_in_content}
-use Rattle.round_spec.specs.Verdict.{Closing, Verdict, Goes, Done, Convicts, agreed_at, all_say, bad_log, bad_log_of, bad_pad, bad_pad_by, bad_pad_if, closing_body, closing_content, concluded_at, content_of_post, dissented_at, equivocation, equivocation_in, first_bad_pad, first_on, inquiry_at, is_bad, is_closing, is_dissent, is_held, is_inner_seed, is_read_justified, no_post, pairs_read, past_at, post_in, replayed, second_content, shape_at, verdict_of, wrong_seed, wrong_seed_of}
+use Rattle.round_spec.specs.Embedded.{BadPost, embedded_pairs, is_content_justified, is_justified_by, posts_in_content}
+use Rattle.round_spec.specs.Verdict.{ClosedStage, Verdict, Goes, Done, Convicts, agreed_at, all_say, bad_log, bad_log_of, bad_pad, bad_pad_by, bad_pad_if, closing_body, closing_content, concluded_at, content_of_post, dissented_at, equivocation, equivocation_in, first_bad_pad, first_on, inquiry_into, is_bad, is_closing, is_dissent, is_held, is_inner_seed, is_read_justified, no_post, pairs_read, past_at, post_in, replay_conviction, second_content, shape_at, verdict_of, wrong_seed, wrong_seed_of}
 use Rattle.round_spec.specs.Cases.{AllAgree, AllJustified, AreFaithful, ByBadLog, ByBadPad, ByEquivocation, ByReplay, ByWrongSeed, Case, Ends, GoesOn, IsBadLog, IsBadPad, IsEquivocation, IsFaithful, IsMemberOf, IsWhole, IsWrongSeed, LeavesWork, FinalBEnds, SparingMeansAgreed, VerdictCases, agree_before}
 use Rattle.round_spec.proofs.Embedding.{embedded-contents, kept-embedded, kept-pairs}
 use Rattle.round_spec.proofs.Votes.{not-none, not_unanimous_blames, votes-front}
@@ -47,7 +47,7 @@ use Rattle.round_spec.proofs.Votes.{not-none, not_unanimous_blames, votes-front}
 -- ---- the first of the members
 
 -- none on any member
-on-none : (v : Closing) (verdict_on : ℕ → Option Verdict) (member : ℕ) → first_on v verdict_on ≡ None → IsMemberOf v member → verdict_on member ≡ None
+on-none : (v : ClosedStage) (verdict_on : ℕ → Option Verdict) (member : ℕ) → first_on v verdict_on ≡ None → IsMemberOf v member → verdict_on member ≡ None
 on-none v verdict_on member none is =
     let least = is.least in
     let most = is.most in
@@ -55,13 +55,13 @@ on-none v verdict_on member none is =
     subst (λ (k : ℕ). verdict_on k ≡ None) same (first_below-each (λ place. verdict_on (place + 1)) (shape_at v).members none (member - 1) (omega arith))
 
 -- the least member on which there is one
-record IsFirstOn (v : Closing) (verdict_on : ℕ → Option Verdict) (verdict : Verdict) : Type 0 where
+record IsFirstOn (v : ClosedStage) (verdict_on : ℕ → Option Verdict) (verdict : Verdict) : Type 0 where
   pub member : ℕ
   pub is_member : IsMemberOf v member
   pub here : verdict_on member ≡ Some verdict
   pub earlier : (other : ℕ) → IsMemberOf v other → other < member → verdict_on other ≡ None
 
-on-some : (v : Closing) (verdict_on : ℕ → Option Verdict) (verdict : Verdict) → first_on v verdict_on ≡ Some verdict → IsFirstOn v verdict_on verdict
+on-some : (v : ClosedStage) (verdict_on : ℕ → Option Verdict) (verdict : Verdict) → first_on v verdict_on ≡ Some verdict → IsFirstOn v verdict_on verdict
 on-some v verdict_on verdict some =
     let found = first_below-found (λ place. verdict_on (place + 1)) (shape_at v).members verdict some in
     let within = found.1 in record {
@@ -90,15 +90,15 @@ unless-some false x y e = (refl, sym (some-is x y e))
 
 -- ---- justified contents
 
-read-justified : (v : Closing) (r : Result Content Offence) → is_read_justified v r ≡ true → (content : Content) × (r ≡ Ok content) × (is_content_justified v.roster v.round content ≡ true)
+read-justified : (v : ClosedStage) (r : Result Content Offence) → is_read_justified v r ≡ true → (content : Content) × (r ≡ Ok content) × (is_content_justified v.roster v.round content ≡ true)
 read-justified v (Ok content) e = (content, refl, e)
 read-justified v (Err offence) e = absurd cc
 
-justify-parts : (shape : Shape) (content : Content) (r : Result (List Post) BadPost) → justify shape content r ≡ true → (posts : List Post) × (r ≡ Ok posts) × (is_justified shape content (contents_of posts) ≡ true)
+justify-parts : (shape : Shape) (content : Content) (r : Result (List Post) BadPost) → is_justified_by shape content r ≡ true → (posts : List Post) × (r ≡ Ok posts) × (is_justified shape content (contents_of posts) ≡ true)
 justify-parts shape content (Ok posts) e = (posts, refl, e)
 justify-parts shape content (Err bad) e = absurd cc
 
-justified-parts : (v : Closing) (content : Content) → is_content_justified v.roster v.round content ≡ true
+justified-parts : (v : ClosedStage) (content : Content) → is_content_justified v.roster v.round content ≡ true
     → (posts : List Post) × (posts_in_content v.roster v.round content ≡ Ok posts) × (is_justified (shape_at v) content (contents_of posts) ≡ true)
 unfolding is_content_justified
 justified-parts v content e = justify-parts (shape_at v) content (posts_in_content v.roster v.round content) e
@@ -163,18 +163,18 @@ slots-count shape content is (inr dissents) =
 
 -- ---- no bad log and no equivocation
 
-bad-none : (v : Closing) → bad_log v ≡ None → AllJustified v
+bad-none : (v : ClosedStage) → bad_log v ≡ None → AllJustified v
 unfolding bad_log
 bad-none v none member is = unless-none (is_read_justified v (closing_content v member)) _ (on-none v (bad_log_of v) member none is)
 
-second-none : (v : Closing) (member : ℕ) (content : Content) → equivocation v ≡ None → IsMemberOf v member → closing_content v member ≡ Ok content
+second-none : (v : ClosedStage) (member : ℕ) (content : Content) → equivocation v ≡ None → IsMemberOf v member → closing_content v member ≡ Ok content
     → first_some (map (second_content v) (embedded_pairs v.roster content)) ≡ None
 unfolding equivocation
 second-none v member content none is reads =
     sym (ap (λ (r : Result Content Offence). first_some (map (second_content v) (pairs_read v r))) reads) ∙ on-none v (equivocation_in v) member none is
 
 -- so each member said what it ought to
-pub faithful : (v : Closing) → IsWhole v → bad_log v ≡ None → equivocation v ≡ None → AreFaithful v
+pub faithful : (v : ClosedStage) → IsWhole v → bad_log v ≡ None → equivocation v ≡ None → AreFaithful v
 faithful v whole no_bad no_second member is =
     let found = read-justified v (closing_content v member) (bad-none v no_bad member is) in
     let content : Content = found.0 in
@@ -216,12 +216,12 @@ faithful v whole no_bad no_second member is =
 
 -- ---- what all say
 
-closing-body : (v : Closing) (member : ℕ) → closing_body v member ≡ body_of (closing_content v member)
+closing-body : (v : ClosedStage) (member : ℕ) → closing_body v member ≡ body_of (closing_content v member)
 unfolding said_in
 closing-body v member =
     ap (λ (bytes : List ℕ). body_of (content_read (shape_at v) bytes)) (get_or-map (λ (post : Post). post.content) v.posts (slot_number (shape_at v) v.stage member) no_post)
 
-faithful-body : (v : Closing) (member : ℕ) (is : IsFaithful v member) → closing_body v member ≡ is.content.body
+faithful-body : (v : ClosedStage) (member : ℕ) (is : IsFaithful v member) → closing_body v member ≡ is.content.body
 faithful-body v member is = closing-body v member ∙ ap body_of is.reads
 
 range-all : (p : ℕ → Bool) (a n : ℕ) → ((k : ℕ) → a ≤ k → k < a + n → p k ≡ true) → list_all p (range_with_len a n) ≡ true
@@ -232,24 +232,24 @@ range-not : (p : ℕ → Bool) (a n : ℕ) → 1 ≤ n → p a ≡ false → lis
 range-not p a zero le e = absurd (omega arith)
 range-not p a (suc n) le e = and_left (p a) (list_all p (range_with_len (a + 1) n)) e
 
-all-say : (v : Closing) (is_one : Body → Bool) → ((member : ℕ) → IsMemberOf v member → is_one (closing_body v member) ≡ true) → all_say v is_one ≡ true
+all-say : (v : ClosedStage) (is_one : Body → Bool) → ((member : ℕ) → IsMemberOf v member → is_one (closing_body v member) ≡ true) → all_say v is_one ≡ true
 all-say v is_one each =
     list_all-map (λ body. is_one body) (closing_body v) (range_with_len 1 (shape_at v).members)
     ∙ range-all (λ member. is_one (closing_body v member)) 1 (shape_at v).members (λ k le lt. each k (record { least = le; most = omega arith }))
 
-not-all-say : (v : Closing) (is_one : Body → Bool) → 1 ≤ (shape_at v).members → is_one (closing_body v 1) ≡ false → all_say v is_one ≡ false
+not-all-say : (v : ClosedStage) (is_one : Body → Bool) → 1 ≤ (shape_at v).members → is_one (closing_body v 1) ≡ false → all_say v is_one ≡ false
 not-all-say v is_one le e =
     list_all-map (λ body. is_one body) (closing_body v) (range_with_len 1 (shape_at v).members)
     ∙ range-not (λ member. is_one (closing_body v member)) 1 (shape_at v).members le e
 
 -- where the votes are unanimous, all agree, and else all dissent
-concluded-agreed : (v : Closing) → AreFaithful v → agree_before v ≡ true → concluded_at v ≡ agreed_at v (kind_of_stage (shape_at v) v.stage)
+concluded-agreed : (v : ClosedStage) → AreFaithful v → agree_before v ≡ true → concluded_at v ≡ agreed_at v (kind_of_stage (shape_at v) v.stage)
 unfolding concluded_at
 concluded-agreed v all agree =
     cond-true (all_say v is_assent) (agreed_at v (kind_of_stage (shape_at v) v.stage)) _
     (all-say v is_assent (λ member is. ap is_assent (faithful-body v member (all member is)) ∙ (all member is).assents ∙ agree))
 
-concluded-dissented : (v : Closing) → 1 ≤ (shape_at v).members → AreFaithful v → agree_before v ≡ false → concluded_at v ≡ dissented_at v
+concluded-dissented : (v : ClosedStage) → 1 ≤ (shape_at v).members → AreFaithful v → agree_before v ≡ false → concluded_at v ≡ dissented_at v
 unfolding concluded_at
 concluded-dissented v least all differ =
     let first : IsMemberOf v 1 = record { least = omega arith; most = least } in
@@ -272,11 +272,11 @@ first-in f (y ∷ ys) x e = elim (first_some-some_parts (f y) (map f ys) x e) [
 ]
 
 -- the verdict of a closing stage: a bad log, else an equivocation, else what its contents come to
-verdict-is : (v : Closing) → is_closing (shape_at v) v.stage ≡ true → verdict_of v ≡ unwrap_or (first_some (bad_log v ∷ equivocation v ∷ [])) (concluded_at v)
+verdict-is : (v : ClosedStage) → is_closing (shape_at v) v.stage ≡ true → verdict_of v ≡ unwrap_or (first_some (bad_log v ∷ equivocation v ∷ [])) (concluded_at v)
 unfolding verdict_of
 verdict-is v closing = cond-true (is_closing (shape_at v) v.stage) (unwrap_or (first_some (bad_log v ∷ equivocation v ∷ [])) (concluded_at v)) Goes closing
 
-case-bad_log : (v : Closing) (x verdict : Verdict) → bad_log v ≡ Some x → verdict ≡ x → IsBadLog v verdict
+case-bad_log : (v : ClosedStage) (x verdict : Verdict) → bad_log v ≡ Some x → verdict ≡ x → IsBadLog v verdict
 unfolding bad_log
 case-bad_log v x verdict some is =
     let found = on-some v (bad_log_of v) x some in
@@ -289,7 +289,7 @@ case-bad_log v x verdict some is =
       verdict_is = is ∙ here.1;
     }
 
-case-equivocation : (v : Closing) (x verdict : Verdict) → bad_log v ≡ None → equivocation v ≡ Some x → verdict ≡ x → IsEquivocation v verdict
+case-equivocation : (v : ClosedStage) (x verdict : Verdict) → bad_log v ≡ None → equivocation v ≡ Some x → verdict ≡ x → IsEquivocation v verdict
 unfolding equivocation
 case-equivocation v x verdict none some is =
     let found = on-some v (equivocation_in v) x some in
@@ -312,7 +312,7 @@ case-equivocation v x verdict none some is =
       verdict_is = is ∙ here.1;
     }
 
-case-wrong_seed : (v : Closing) (shuffle : ℕ) (x verdict : Verdict) → AreFaithful v → agree_before v ≡ true → kind_of_stage (shape_at v) v.stage ≡ Some (AtFinal shuffle)
+case-wrong_seed : (v : ClosedStage) (shuffle : ℕ) (x verdict : Verdict) → AreFaithful v → agree_before v ≡ true → kind_of_stage (shape_at v) v.stage ≡ Some (AtFinal shuffle)
     → wrong_seed v shuffle ≡ Some x → verdict ≡ x → IsWrongSeed v verdict
 unfolding wrong_seed
 case-wrong_seed v shuffle x verdict all agree kind some is =
@@ -330,7 +330,7 @@ case-wrong_seed v shuffle x verdict all agree kind some is =
       verdict_is = is ∙ here.1;
     }
 
-seed-none : (v : Closing) (shuffle member : ℕ) → wrong_seed v shuffle ≡ None → IsMemberOf v member → is_inner_seed v shuffle member ≡ true
+seed-none : (v : ClosedStage) (shuffle member : ℕ) → wrong_seed v shuffle ≡ None → IsMemberOf v member → is_inner_seed v shuffle member ≡ true
 unfolding wrong_seed
 seed-none v shuffle member none is = unless-none (is_inner_seed v shuffle member) _ (on-none v (wrong_seed_of v shuffle) member none is)
 
@@ -341,7 +341,7 @@ final-number : (a b : ℕ) → AtFinal a ≡ AtFinal b → a ≡ b
 final-number a b e = cc
 
 -- all agree at the end of a shuffle where no seed is wrong
-agree-final : (v : Closing) (shuffle : ℕ) → AreFaithful v → agree_before v ≡ true → kind_of_stage (shape_at v) v.stage ≡ Some (AtFinal shuffle) → wrong_seed v shuffle ≡ None → AllAgree v
+agree-final : (v : ClosedStage) (shuffle : ℕ) → AreFaithful v → agree_before v ≡ true → kind_of_stage (shape_at v) v.stage ≡ Some (AtFinal shuffle) → wrong_seed v shuffle ≡ None → AllAgree v
 agree-final v shuffle all agree kind none = record {
   faithful = all;
   votes = agree;
@@ -350,7 +350,7 @@ agree-final v shuffle all agree kind none = record {
       subst (λ (s : ℕ). is_inner_seed v s member ≡ true) same (seed-none v shuffle member none is));
 }
 
-agree-confirm : (v : Closing) → AreFaithful v → agree_before v ≡ true → kind_of_stage (shape_at v) v.stage ≡ Some AtConfirm → AllAgree v
+agree-confirm : (v : ClosedStage) → AreFaithful v → agree_before v ≡ true → kind_of_stage (shape_at v) v.stage ≡ Some AtConfirm → AllAgree v
 agree-confirm v all agree kind = record {
   faithful = all;
   votes = agree;
@@ -358,7 +358,7 @@ agree-confirm v all agree kind = record {
 }
 
 -- an item that gives a verdict is an accusation that holds
-pad-parts : (v : Closing) (item : Option (List ℕ)) (x : Verdict) → bad_pad_by v item ≡ Some x
+pad-parts : (v : ClosedStage) (item : Option (List ℕ)) (x : Verdict) → bad_pad_by v item ≡ Some x
     → (bytes : List ℕ) × (a : Accusation) × (item ≡ Some bytes) × (accusation_of bytes ≡ Some a) × (is_held (shape_at v) (past_at v) a ≡ true) × (x ≡ bad_pad v a)
 pad-parts v None x e = absurd (none-some x e)
 pad-parts v (Some bytes) x e = by_accusation (accusation_of bytes) refl e
@@ -374,7 +374,7 @@ pad-parts v (Some bytes) x e = by_accusation (accusation_of bytes) refl e
         held_parts true y e = (refl, sym (some-is y x e))
         held_parts false y e = absurd (none-some x e)
 
-case-bad_pad : (v : Closing) (shuffle : ℕ) (x verdict : Verdict) → AllAgree v → kind_of_stage (shape_at v) v.stage ≡ Some (AtFinal shuffle) → shuffle ≢ 1
+case-bad_pad : (v : ClosedStage) (shuffle : ℕ) (x verdict : Verdict) → AllAgree v → kind_of_stage (shape_at v) v.stage ≡ Some (AtFinal shuffle) → shuffle ≢ 1
     → first_bad_pad v ≡ Some x → verdict ≡ x → IsBadPad v verdict
 unfolding first_bad_pad
 case-bad_pad v shuffle x verdict agree kind second some is =
@@ -393,7 +393,7 @@ case-bad_pad v shuffle x verdict agree kind second some is =
       verdict_is = is ∙ parts.5;
     }
 
-case-final : (v : Closing) (shuffle : ℕ) (verdict : Verdict) → AreFaithful v → agree_before v ≡ true → kind_of_stage (shape_at v) v.stage ≡ Some (AtFinal shuffle)
+case-final : (v : ClosedStage) (shuffle : ℕ) (verdict : Verdict) → AreFaithful v → agree_before v ≡ true → kind_of_stage (shape_at v) v.stage ≡ Some (AtFinal shuffle)
     → verdict ≡ agreed_at v (Some (AtFinal shuffle)) → Case v verdict
 case-final v shuffle verdict all agree kind is = by_seed (wrong_seed v shuffle) refl
   where
@@ -414,7 +414,7 @@ case-final v shuffle verdict all agree kind is = by_seed (wrong_seed v shuffle) 
         by_pad agrees second is (Some x) e = ByBadPad (case-bad_pad v shuffle x verdict agrees kind second e (is ∙ ap (λ (o : Option Verdict). unwrap_or o Done) e))
         by_pad agrees second is None e = Ends agrees (inl (shuffle, kind, second, e)) (is ∙ ap (λ (o : Option Verdict). unwrap_or o Done) e)
 
-case-confirm : (v : Closing) (verdict : Verdict) → AreFaithful v → agree_before v ≡ true → kind_of_stage (shape_at v) v.stage ≡ Some AtConfirm
+case-confirm : (v : ClosedStage) (verdict : Verdict) → AreFaithful v → agree_before v ≡ true → kind_of_stage (shape_at v) v.stage ≡ Some AtConfirm
     → verdict ≡ agreed_at v (Some AtConfirm) → Case v verdict
 case-confirm v verdict all agree kind is =
     let some_bad : Bool = list_any is_bad (slots_of_past (shape_at v) (past_at v)) in
@@ -423,7 +423,7 @@ case-confirm v verdict all agree kind is =
       | inr good ↦ Ends (agree-confirm v all agree kind) (inr (kind, good)) (is ∙ cond-false some_bad Goes Done good)
     ]
 
-case-agreed : (v : Closing) (verdict : Verdict) → IsWhole v → AreFaithful v → agree_before v ≡ true → verdict ≡ agreed_at v (kind_of_stage (shape_at v) v.stage) → Case v verdict
+case-agreed : (v : ClosedStage) (verdict : Verdict) → IsWhole v → AreFaithful v → agree_before v ≡ true → verdict ≡ agreed_at v (kind_of_stage (shape_at v) v.stage) → Case v verdict
 case-agreed v verdict whole all agree is = by_kind (closing-kind (shape_at v) v.stage whole.closing)
   where
     by_kind : IsClosingKind (shape_at v) v.stage → Case v verdict
@@ -440,9 +440,9 @@ case-agreed v verdict whole all agree is = by_kind (closing-kind (shape_at v) v.
         by_case AtCheck vote kind closes = absurd cc
 
 -- votes that are not unanimous are so in the past that is replayed
-case-dissented : (v : Closing) (verdict : Verdict) → IsWhole v → AreFaithful v → agree_before v ≡ false → verdict ≡ dissented_at v → Case v verdict
+case-dissented : (v : ClosedStage) (verdict : Verdict) → IsWhole v → AreFaithful v → agree_before v ≡ false → verdict ≡ dissented_at v → Case v verdict
 unfolding dissented_at
-case-dissented v verdict whole all differ is = by_culprit (culprit_of (inquiry_at v)) refl
+case-dissented v verdict whole all differ is = by_culprit (culprit_of (inquiry_into v)) refl
   where
     n : ℕ
     n = slots_before (shape_at v) v.stage
@@ -453,15 +453,15 @@ case-dissented v verdict whole all differ is = by_culprit (culprit_of (inquiry_a
     front : n ≤ length (take n (past_at v))
     front = omega (arith, length-take-le n (past_at v) long)
 
-    by_culprit : (o : Option Fault) → culprit_of (inquiry_at v) ≡ o → Case v verdict
+    by_culprit : (o : Option Fault) → culprit_of (inquiry_into v) ≡ o → Case v verdict
     by_culprit (Some fault) e = ByReplay (record {
       faithful = all;
       votes = differ;
       fault = fault;
       culprit = e;
-      verdict_is = is ∙ ap (λ (o : Option Fault). unwrap_or (option_map (replayed v) o) Goes) e;
+      verdict_is = is ∙ ap (λ (o : Option Fault). unwrap_or (option_map (replay_conviction v) o) Goes) e;
     })
-    by_culprit None e = absurd (not-none (culprit_of (inquiry_at v)) (not_unanimous_blames (inquiry_at v) whole.closing front (votes-front (shape_at v) (past_at v) v.stage whole.closing ∙ differ)) e)
+    by_culprit None e = absurd (not-none (culprit_of (inquiry_into v)) (not_unanimous_blames (inquiry_into v) whole.closing front (votes-front (shape_at v) (past_at v) v.stage whole.closing ∙ differ)) e)
 
 pub verdict_cases : VerdictCases
 verdict_cases v whole = by_bad (bad_log v) refl
@@ -501,7 +501,7 @@ sparing_means_agreed v whole spares = by_case (verdict_cases v whole)
 convicts-ends : (verdict : Verdict) (t : Transcript) → verdict ≡ Convicts t → verdict ≡ Goes → ⊥
 convicts-ends verdict t is goes = (let same = sym is ∙ goes in cc)
 
-final-one : (v : Closing) → kind_of_stage (shape_at v) v.stage ≡ Some (AtFinal 2) → LeavesWork v → ⊥
+final-one : (v : ClosedStage) → kind_of_stage (shape_at v) v.stage ≡ Some (AtFinal 2) → LeavesWork v → ⊥
 final-one v kind (inl first) = (let same = final-number 1 2 (one-kind_of (AtFinal 1) (AtFinal 2) (sym first ∙ kind)) in omega (arith, same))
 final-one v kind (inr confirm) = (let same = one-kind_of AtConfirm (AtFinal 2) (sym confirm.0 ∙ kind) in cc)
 

@@ -19,17 +19,17 @@ use Rattle.shuffle_blame.specs.declared.fault.Fault.{Fault}
 use Rattle.shuffle_blame.specs.Replay.{culprit_of}
 use Rattle.round_spec.specs.Slots.{items_opened, slots_of_past}
 use Rattle.round_spec.specs.Embedded.{embedded_pairs, posts_in_content, is_content_justified}
-use Rattle.round_spec.specs.Verdict.{Closing, Verdict, Goes, Done, Convicts, against, bad_log, bad_pad, closing_content, content_of_post, equivocation, equivocation_in, first_bad_pad, inquiry_at, is_bad, is_closing, is_dissent, is_held, is_inner_seed, is_read_justified, past_at, post_in, replayed, sent_in, shape_at, verdict_of}
+use Rattle.round_spec.specs.Verdict.{ClosedStage, Verdict, Goes, Done, Convicts, conviction, bad_log, bad_pad, closing_content, content_of_post, equivocation, equivocation_in, first_bad_pad, inquiry_into, is_bad, is_closing, is_dissent, is_held, is_inner_seed, is_read_justified, past_at, post_in, replay_conviction, sent_in, shape_at, verdict_of}
 
 -- ---- what is supposed
 
 -- a member of the round
-pub record IsMemberOf (v : Closing) (member : ℕ) : Type 0 where
+pub record IsMemberOf (v : ClosedStage) (member : ℕ) : Type 0 where
   pub least : 1 ≤ member
   pub most : member ≤ (shape_at v).members
 
 -- a closing stage with a post for each slot to its end, where each content that reads names the stage
-pub record IsWhole (v : Closing) : Type 0 where
+pub record IsWhole (v : ClosedStage) : Type 0 where
   pub members : 1 ≤ (shape_at v).members
   pub closing : IsTrue (is_closing (shape_at v) v.stage)
   pub posts : length v.posts ≡ slots_before (shape_at v) (v.stage + 1)
@@ -38,16 +38,16 @@ pub record IsWhole (v : Closing) : Type 0 where
 -- ---- what all said
 
 -- whether the votes before the stage are unanimous
-abbrev pub agree_before : Closing → Bool
+abbrev pub agree_before : ClosedStage → Bool
 agree_before v = votes_agree (shape_at v) (past_at v) v.stage
 
 -- each member's closing content is justified
-abbrev pub AllJustified : Closing → Type 0
+abbrev pub AllJustified : ClosedStage → Type 0
 AllJustified v = (member : ℕ) → IsMemberOf v member → IsTrue (is_read_justified v (closing_content v member))
 
 -- a member said a justified closing content that embeds the contents that were kept; it says that the votes are
 -- unanimous where they are, and else objects
-pub record IsFaithful (v : Closing) (member : ℕ) : Type 0 where
+pub record IsFaithful (v : ClosedStage) (member : ℕ) : Type 0 where
   pub content : Content
   pub reads : closing_content v member ≡ Ok content
   pub justified : IsTrue (is_content_justified v.roster v.round content)
@@ -58,11 +58,11 @@ pub record IsFaithful (v : Closing) (member : ℕ) : Type 0 where
   pub dissents : agree_before v ≡ false → IsTrue (is_dissent content.body)
 
 -- so did all members
-abbrev pub AreFaithful : Closing → Type 0
+abbrev pub AreFaithful : ClosedStage → Type 0
 AreFaithful v = (member : ℕ) → IsMemberOf v member → IsFaithful v member
 
 -- all members agree: the votes are unanimous, and at the end of a shuffle each revealed the seed of its inner key
-pub record AllAgree (v : Closing) : Type 0 where
+pub record AllAgree (v : ClosedStage) : Type 0 where
   pub faithful : AreFaithful v
   pub votes : IsTrue (agree_before v)
   pub seeds : (shuffle member : ℕ) → kind_of_stage (shape_at v) v.stage ≡ Some (Final shuffle) → IsMemberOf v member →
@@ -71,15 +71,15 @@ pub record AllAgree (v : Closing) : Type 0 where
 -- ---- the cases
 
 -- the least member whose closing content is not justified
-pub record IsBadLog (v : Closing) (verdict : Verdict) : Type 0 where
+pub record IsBadLog (v : ClosedStage) (verdict : Verdict) : Type 0 where
   pub member : ℕ
   pub is_member : IsMemberOf v member
   pub bad : is_read_justified v (closing_content v member) ≡ false
   pub earlier : (other : ℕ) → IsMemberOf v other → other < member → IsTrue (is_read_justified v (closing_content v other))
-  pub verdict_is : verdict ≡ against v.round member BadLog (sent_in v v.stage member ∷ [])
+  pub verdict_is : verdict ≡ conviction v.round member BadLog (sent_in v v.stage member ∷ [])
 
 -- the least member that embeds another content than was kept, in the first such slot
-pub record IsEquivocation (v : Closing) (verdict : Verdict) : Type 0 where
+pub record IsEquivocation (v : ClosedStage) (verdict : Verdict) : Type 0 where
   pub justified : AllJustified v
   pub member : ℕ
   pub is_member : IsMemberOf v member
@@ -89,10 +89,10 @@ pub record IsEquivocation (v : Closing) (verdict : Verdict) : Type 0 where
   pub pair : Slot × List ℕ
   pub embedded : Contains (embedded_pairs v.roster content) pair
   pub other_content : content_of_post (frame_of pair.1) ≢ (post_in v pair.0.stage pair.0.sender).content
-  pub verdict_is : verdict ≡ against v.round pair.0.sender Equivocation (sent_in v pair.0.stage pair.0.sender ∷ pair.1 ∷ [])
+  pub verdict_is : verdict ≡ conviction v.round pair.0.sender Equivocation (sent_in v pair.0.stage pair.0.sender ∷ pair.1 ∷ [])
 
 -- the least member that revealed another seed than that of its inner key
-pub record IsWrongSeed (v : Closing) (verdict : Verdict) : Type 0 where
+pub record IsWrongSeed (v : ClosedStage) (verdict : Verdict) : Type 0 where
   pub faithful : AreFaithful v
   pub votes : IsTrue (agree_before v)
   pub shuffle : ℕ
@@ -101,18 +101,18 @@ pub record IsWrongSeed (v : Closing) (verdict : Verdict) : Type 0 where
   pub is_member : IsMemberOf v member
   pub wrong : is_inner_seed v shuffle member ≡ false
   pub earlier : (other : ℕ) → IsMemberOf v other → other < member → IsTrue (is_inner_seed v shuffle other)
-  pub verdict_is : verdict ≡ against v.round member WrongSeed (sent_in v 0 member ∷ sent_in v v.stage member ∷ [])
+  pub verdict_is : verdict ≡ conviction v.round member WrongSeed (sent_in v 0 member ∷ sent_in v v.stage member ∷ [])
 
 -- all dissent, and the replay blames a member
-pub record IsReplay (v : Closing) (verdict : Verdict) : Type 0 where
+pub record IsReplay (v : ClosedStage) (verdict : Verdict) : Type 0 where
   pub faithful : AreFaithful v
   pub votes : agree_before v ≡ false
   pub fault : Fault
-  pub culprit : culprit_of (inquiry_at v) ≡ Some fault
-  pub verdict_is : verdict ≡ replayed v fault
+  pub culprit : culprit_of (inquiry_into v) ≡ Some fault
+  pub verdict_is : verdict ≡ replay_conviction v fault
 
 -- all agree at the end of shuffle B, and an item that opened is an accusation that holds
-pub record IsBadPad (v : Closing) (verdict : Verdict) : Type 0 where
+pub record IsBadPad (v : ClosedStage) (verdict : Verdict) : Type 0 where
   pub agree : AllAgree v
   pub shuffle : ℕ
   pub kind : kind_of_stage (shape_at v) v.stage ≡ Some (Final shuffle)
@@ -125,19 +125,19 @@ pub record IsBadPad (v : Closing) (verdict : Verdict) : Type 0 where
   pub verdict_is : verdict ≡ bad_pad v accusation
 
 -- the stage is the end of shuffle A, or that behind the checks and a slot is bad
-abbrev pub LeavesWork : Closing → Type 0
+abbrev pub LeavesWork : ClosedStage → Type 0
 LeavesWork v =
     (kind_of_stage (shape_at v) v.stage ≡ Some (Final 1))
     ⊎ ((kind_of_stage (shape_at v) v.stage ≡ Some Confirm) × IsTrue (list_any is_bad (slots_of_past (shape_at v) (past_at v))))
 
 -- the stage is the end of shuffle B and no accusation holds, or that behind the checks and no slot is bad
-abbrev pub LeavesNoWork : Closing → Type 0
+abbrev pub LeavesNoWork : ClosedStage → Type 0
 LeavesNoWork v =
     ((shuffle : ℕ) × (kind_of_stage (shape_at v) v.stage ≡ Some (Final shuffle)) × (shuffle ≢ 1) × (first_bad_pad v ≡ None))
     ⊎ ((kind_of_stage (shape_at v) v.stage ≡ Some Confirm) × (list_any is_bad (slots_of_past (shape_at v) (past_at v)) ≡ false))
 
 -- why a verdict is what it is
-pub data Case (v : Closing) (verdict : Verdict) : Type 0 where
+pub data Case (v : ClosedStage) (verdict : Verdict) : Type 0 where
   ByBadLog : IsBadLog v verdict → Case v verdict
   ByEquivocation : IsEquivocation v verdict → Case v verdict
   ByWrongSeed : IsWrongSeed v verdict → Case v verdict
@@ -148,16 +148,16 @@ pub data Case (v : Closing) (verdict : Verdict) : Type 0 where
 
 -- a verdict on a whole stage is in one of the cases
 abbrev pub VerdictCases : Type 0
-VerdictCases = (v : Closing) → IsWhole v → Case v (verdict_of v)
+VerdictCases = (v : ClosedStage) → IsWhole v → Case v (verdict_of v)
 
 -- where there is no bad log and no equivocation, all said justified contents that embed what was kept, and all of one kind
 abbrev pub OneKind : Type 0
-OneKind = (v : Closing) → IsWhole v → bad_log v ≡ None → equivocation v ≡ None → AreFaithful v
+OneKind = (v : ClosedStage) → IsWhole v → bad_log v ≡ None → equivocation v ≡ None → AreFaithful v
 
 -- a verdict that convicts nobody means that all agree
 abbrev pub SparingMeansAgreed : Type 0
-SparingMeansAgreed = (v : Closing) → IsWhole v → ((t : Transcript) → verdict_of v ≢ Convicts t) → AllAgree v
+SparingMeansAgreed = (v : ClosedStage) → IsWhole v → ((t : Transcript) → verdict_of v ≢ Convicts t) → AllAgree v
 
 -- the end of shuffle B has a verdict that ends the round
 abbrev pub FinalBEnds : Type 0
-FinalBEnds = (v : Closing) → IsWhole v → kind_of_stage (shape_at v) v.stage ≡ Some (Final 2) → verdict_of v ≢ Goes
+FinalBEnds = (v : ClosedStage) → IsWhole v → kind_of_stage (shape_at v) v.stage ≡ Some (Final 2) → verdict_of v ≢ Goes

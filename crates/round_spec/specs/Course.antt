@@ -11,7 +11,7 @@ use Rattle.phase_message.specs.Stages.{is_slot, kind_of_stage}
 use Rattle.stage_log.specs.Log.{all_some}
 use Rattle.stage_log.specs.Table.{Log}
 use Rattle.round_spec.specs.Say.{Configuration, own_post, shape_in}
-use Rattle.round_spec.specs.Verdict.{Closing, Verdict, Goes, Done, Convicts, verdict_of}
+use Rattle.round_spec.specs.Verdict.{ClosedStage, Verdict, Goes, Done, Convicts, verdict_of}
 
 -- ---- one stage
 
@@ -23,8 +23,8 @@ pub record Stand : Type 0 where
   pub verdict : Verdict
 
 -- where it begins
-abbrev pub beginning : Stand
-beginning = record { at = 0; past = []; verdict = Goes }
+abbrev pub first_stand : Stand
+first_stand = record { at = 0; past = []; verdict = Goes }
 
 -- whether a verdict leaves the round open
 abbrev pub is_open : Verdict → Bool
@@ -55,12 +55,12 @@ abbrev pub stage_after : Shape → Verdict → ℕ → ℕ
 stage_after shape verdict stage = stage + 1
 
 -- what a verdict is on, in the round of a member
-abbrev pub closing_of : Configuration → List Post → ℕ → Closing
+abbrev pub closing_of : Configuration → List Post → ℕ → ClosedStage
 closing_of c posts stage = record { roster = c.roster; round = c.round; posts = posts; stage = stage }
 
 -- where it stands once these posts have filled the stage
-unfoldable pub passed : Configuration → Stand → List Post → Stand
-passed c stand posts =
+unfoldable pub stand_behind : Configuration → Stand → List Post → Stand
+stand_behind c stand posts =
     let verdict = verdict_of (closing_of c (stand.past ++ posts) stand.at) in
     record { at = stage_after (shape_in c) verdict stand.at; past = stand.past ++ posts; verdict = verdict }
 
@@ -69,21 +69,21 @@ passed c stand posts =
 -- where it stands after the stage that is being filled, if the round is open and the stage is filled
 unfoldable pub next_stand : Configuration → Others → Stand → Option Stand
 next_stand c others stand =
-    if is_open stand.verdict then option_map (passed c stand) (stage_filled c others stand) else None
+    if is_open stand.verdict then option_map (stand_behind c stand) (stage_filled c others stand) else None
 
 -- going on from the next stand, if there is one
-abbrev pub going_on : (Stand → Stand) → Stand → Option Stand → Stand
-going_on go stand None = stand
-going_on go stand (Some next) = go next
+abbrev pub stand_or_next : (Stand → Stand) → Stand → Option Stand → Stand
+stand_or_next go stand None = stand
+stand_or_next go stand (Some next) = go next
 
 -- the course from a stand, of at most so many stages that are passed
 unfoldable pub course_from : Configuration → Others → ℕ → Stand → Stand
 course_from c others zero stand = stand
-course_from c others (suc stages) stand = going_on (course_from c others stages) stand (next_stand c others stand)
+course_from c others (suc stages) stand = stand_or_next (course_from c others stages) stand (next_stand c others stand)
 
 -- the course of a whole round
 unfoldable pub course_of : Configuration → Others → Stand
-course_of c others = course_from c others (stage_count (shape_in c)) beginning
+course_of c others = course_from c others (stage_count (shape_in c)) first_stand
 
 -- ---- the settled log
 

@@ -86,12 +86,12 @@ embedded_log roster round content = log_for roster round (embedded_pairs roster 
 -- ---- justified closing contents
 
 -- whether posts were found, and they justify a closing content
-abbrev pub justify : Shape → Content → Result (List Post) BadPost → Bool
-justify shape content (Ok posts) = is_justified shape content (contents_of posts)
-justify shape content (Err bad) = false
+abbrev pub is_justified_by : Shape → Content → Result (List Post) BadPost → Bool
+is_justified_by shape content (Ok posts) = is_justified shape content (contents_of posts)
+is_justified_by shape content (Err bad) = false
 
 -- whether a closing content is justified: each embedded post checks and stands in its slot; the votes are unanimous
 -- where it says so; and else they are not, and its header carries the view of what it embeds
 unfoldable pub is_content_justified : Roster → ℕ → Content → Bool
 is_content_justified roster round content =
-    justify (shape_of_roster roster) content (posts_in_content roster round content)
+    is_justified_by (shape_of_roster roster) content (posts_in_content roster round content)

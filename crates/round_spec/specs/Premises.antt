@@ -1,5 +1,5 @@
 -- The strings on which the promises rest: where no two of them have one SHA-256, nothing else is asked of hashes.
-use Rattle.std.specs.Prelude.{ℕ, List, [], ◌∷◌, ◌++◌, map, take, filter_map, Option, Some, None, zip, option_and_then, if◌then◌else◌}
+use Rattle.std.specs.Prelude.{ℕ, List, [], ◌∷◌, ◌++◌, map, take, filter_map, Option, Some, None, Result, Ok, Err, zip, option_and_then, if◌then◌else◌}
 use Rattle.std.specs.List.{flat_map, range_with_len}
 use Rattle.std.specs.Option.{option_map_or}
 use Rattle.std.specs.Result.{result_ok}
@@ -25,7 +25,9 @@ use Rattle.stage_log.specs.Views.{view_string}
 use Rattle.transcript_form.specs.declared.accusation.Accusation.{Accusation}
 use Rattle.transcript_form.specs.declared.claim.Claim.{Claim}
 use Rattle.transcript_form.specs.declared.claim.Claim.TheVariants.{Pad}
+use Rattle.transcript_form.specs.declared.refusal.FailedForm.{FailedForm}
 use Rattle.transcript_form.specs.declared.transcript.Transcript.{Transcript}
+use Rattle.transcript_form.specs.Form.{transcript_read}
 use Rattle.bulk_descriptor.specs.Descriptor.{Description, made_pads}
 use Rattle.bulk_descriptor.specs.Laws.{pad_string}
 use Rattle.accusation.specs.Accusation.{descriptor_at}
@@ -141,6 +143,15 @@ strings_of_transcript roster t =
     ++ (flat_map strings_of_pads (contents_listed roster t)
     ++ option_map_or (accused_pad_strings roster t) t.detail [])))
 
+-- the strings of what was read as a transcript, or none
+abbrev pub strings_read : Roster → Result Transcript FailedForm → List (List ℕ)
+strings_read roster (Ok t) = strings_of_transcript roster t
+strings_read roster (Err failed) = []
+
+-- the strings of bytes: those of the transcript that they spell, if they spell one
+unfoldable pub strings_of_evidence : Roster → List ℕ → List (List ℕ)
+strings_of_evidence roster bytes = strings_read roster (transcript_read (shape_of_roster roster) bytes)
+
 -- ---- no collision
 
 -- the strings of all runs of a list
@@ -151,6 +162,6 @@ strings_of_runs runs = flat_map strings_of_run runs
 abbrev pub NoRunsCollide : List Run → Type 0
 NoRunsCollide runs = NoCollision (strings_of_runs runs)
 
--- the same of the runs and of a transcript together
-abbrev pub NoneCollide : Roster → List Run → Transcript → Type 0
-NoneCollide roster runs t = NoCollision (strings_of_runs runs ++ strings_of_transcript roster t)
+-- the same of the runs and of the bytes of a transcript together
+abbrev pub NoneCollide : Roster → List Run → List ℕ → Type 0
+NoneCollide roster runs bytes = NoCollision (strings_of_runs runs ++ strings_of_evidence roster bytes)

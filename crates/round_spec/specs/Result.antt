@@ -13,6 +13,7 @@ use Rattle.phase_message.specs.Post.{post_spelling}
 use Rattle.phase_message.specs.Slots.{senders_in}
 use Rattle.phase_message.specs.Stages.{kind_of_stage}
 use Rattle.stage_log.specs.Log.{contents_of}
+use Rattle.stage_log.specs.Table.{Log}
 use Rattle.bulk_descriptor.specs.declared.slot_state.SlotState.{SlotState}
 use Rattle.transcript_form.specs.declared.claim.Claim.TheVariants.{Equivocation, Malformed}
 use Rattle.transcript_form.specs.declared.transcript.Transcript.{Transcript}
@@ -21,8 +22,8 @@ use Rattle.signed_post.specs.Admission.{framed_admission_of}
 use Rattle.round_spec.specs.Slots.{slots_of_past}
 use Rattle.round_spec.specs.Say.{Configuration, shape_in}
 use Rattle.round_spec.specs.Embedded.{names_slot, slot_named}
-use Rattle.round_spec.specs.Verdict.{Verdict, Goes, Done, Convicts, against}
-use Rattle.round_spec.specs.Course.{Others, Stand, course_of, is_open, own_posts}
+use Rattle.round_spec.specs.Verdict.{Verdict, Goes, Done, Convicts, conviction}
+use Rattle.round_spec.specs.Course.{Others, Stand, course_of, is_open, own_posts, settled_log}
 
 -- ---- what is heard
 
@@ -67,24 +68,24 @@ stand_after c delivered = course_of c (first_posts c delivered)
 -- ---- what ends a list of deliveries
 
 -- a body that is outside the grammar convicts its sender
-abbrev pub malformed : Configuration → List ℕ → Heard → Option Verdict
-malformed c bytes heard =
-    if is_ok heard.content then None else Some (against c.round heard.header.sender Malformed (bytes ∷ []))
+abbrev pub malformed_conviction : Configuration → List ℕ → Heard → Option Verdict
+malformed_conviction c bytes heard =
+    if is_ok heard.content then None else Some (conviction c.round heard.header.sender Malformed (bytes ∷ []))
 
 -- a post in the grammar whose slot was first given another content convicts its sender
-abbrev pub contradicts : Configuration → List ℕ → Heard → Post → Option Verdict
-contradicts c bytes heard first =
+abbrev pub contradiction_with : Configuration → List ℕ → Heard → Post → Option Verdict
+contradiction_with c bytes heard first =
     if bytes_eq first.content heard.post.content then None
-    else Some (against c.round heard.header.sender Equivocation (post_spelling first ∷ bytes ∷ []))
+    else Some (conviction c.round heard.header.sender Equivocation (post_spelling first ∷ bytes ∷ []))
 
 -- what is heard contradicts the first post of its slot, if its slot has one
 abbrev pub contradiction : Configuration → Others → List ℕ → Heard → Option Verdict
-contradiction c firsts bytes heard = option_and_then (contradicts c bytes heard) (firsts (slot_named heard.header))
+contradiction c firsts bytes heard = option_and_then (contradiction_with c bytes heard) (firsts (slot_named heard.header))
 
 -- what the last of some deliveries shows against its sender
 abbrev pub fault_shown : Configuration → Others → List ℕ → Option Verdict
 fault_shown c firsts bytes = option_and_then
-    (λ heard. first_some (malformed c bytes heard ∷ contradiction c firsts bytes heard ∷ [])) (heard_of c bytes)
+    (λ heard. first_some (malformed_conviction c bytes heard ∷ contradiction c firsts bytes heard ∷ [])) (heard_of c bytes)
 
 -- the last of a list
 abbrev pub last_of : List (List ℕ) → Option (List ℕ)
@@ -102,7 +103,7 @@ ending_of c delivered = first_some (
     ∷ ending_verdict (stand_after c delivered).verdict
     ∷ [])
 
--- how many of the first deliveries end, and by what verdict
+-- so many first deliveries with the verdict that ends them, if they end
 abbrev pub ending_at : Configuration → List (List ℕ) → ℕ → Option (ℕ × Verdict)
 ending_at c delivered count = option_map (λ verdict. (count, verdict)) (ending_of c (take count delivered))
 
@@ -117,7 +118,7 @@ least_ending c delivered = first_below (suc (length delivered)) (ending_at c del
 pub data Outcome : Type 0 where
   Waiting : ℕ → List ℕ → Outcome
   Blamed : Transcript → Outcome
-  Finished : List SlotState → Outcome
+  DoneWith : List SlotState → Outcome
 
 -- who speaks at a stage, in order
 abbrev pub senders_at : Configuration → ℕ → List ℕ
@@ -129,18 +130,18 @@ is_awaited c others stage sender =
     not (sender == c.number) && is_none (others (record { stage = stage; sender = sender }))
 
 -- it waits for those whose posts are missing at the stage that is being filled
-abbrev pub waiting : Configuration → Others → Stand → Outcome
-waiting c others stand = Waiting stand.at (filter (is_awaited c others stand.at) (senders_at c stand.at))
+abbrev pub waiting_outcome : Configuration → Others → Stand → Outcome
+waiting_outcome c others stand = Waiting stand.at (filter (is_awaited c others stand.at) (senders_at c stand.at))
 
 -- what it comes to where a verdict ended it at a stand; no verdict that leaves the round open ends it
 abbrev pub outcome_ended : Configuration → Stand → Verdict → Outcome
-outcome_ended c stand Done = Finished (slots_of_past (shape_in c) (contents_of stand.past))
+outcome_ended c stand Done = DoneWith (slots_of_past (shape_in c) (contents_of stand.past))
 outcome_ended c stand (Convicts transcript) = Blamed transcript
 outcome_ended c stand Goes = Waiting stand.at []
 
 -- the outcome by the verdict that ends, if one does
 abbrev pub outcome_by : Configuration → List (List ℕ) → Option (ℕ × Verdict) → Outcome
-outcome_by c delivered None = waiting c (first_posts c delivered) (stand_after c delivered)
+outcome_by c delivered None = waiting_outcome c (first_posts c delivered) (stand_after c delivered)
 outcome_by c delivered (Some ending) = outcome_ended c (stand_after c (take ending.0 delivered)) ending.1
 
 -- the result of deliveries: that of the least first part of them that ends, and of all of them where none does
@@ -148,10 +149,18 @@ unfoldable pub result_of : Configuration → List (List ℕ) → Outcome
 result_of c delivered = outcome_by c delivered (least_ending c delivered)
 
 -- the deliveries that count: the least first part that ends, and all of them where none does
-abbrev pub counted : List (List ℕ) → Option (ℕ × Verdict) → List (List ℕ)
-counted delivered None = delivered
-counted delivered (Some ending) = take ending.0 delivered
+abbrev pub counted_part : List (List ℕ) → Option (ℕ × Verdict) → List (List ℕ)
+counted_part delivered None = delivered
+counted_part delivered (Some ending) = take ending.0 delivered
+
+-- those of a list of deliveries
+abbrev pub delivered_counted : Configuration → List (List ℕ) → List (List ℕ)
+delivered_counted c delivered = counted_part delivered (least_ending c delivered)
+
+-- the log that a member keeps after deliveries
+unfoldable pub log_after : Configuration → List (List ℕ) → Log
+log_after c delivered = settled_log c (first_posts c (delivered_counted c delivered))
 
 -- the posts that a member makes, by stage
 unfoldable pub posts_of : Configuration → List (List ℕ) → List Post
-posts_of c delivered = own_posts c (stand_after c (counted delivered (least_ending c delivered)))
+posts_of c delivered = own_posts c (stand_after c (delivered_counted c delivered))

@@ -1,7 +1,7 @@
 -- Runs of honest members: what a member kept in a round, and what makes it honest; lists of such runs, and what it
 -- means that no signature of theirs was forged.
-use Rattle.std.specs.Prelude.{◌≡◌, ◌≢◌, ℕ, ◌+◌, ◌^◌, ◌<◌, ◌≤◌, ◌⊎◌, List, length, map, take, filter_map, All, AllPairs, Contains, Some, Ok}
-use Rattle.std.specs.List.{range_with_len}
+use Rattle.std.specs.Prelude.{◌≡◌, ◌≢◌, ℕ, ◌+◌, ◌^◌, ◌<◌, ◌≤◌, ◌⊎◌, List, length, map, take, filter, filter_map, ◌==◌, All, AllPairs, Contains, Some, Ok}
+use Rattle.std.specs.List.{flat_map, range_with_len}
 use Rattle.wire_core.specs.Bytes.{IsBytes}
 use Rattle.lms_tree.specs.Secret.{leaves, own_public}
 use Rattle.phase_message.specs.declared.content.Content.{Content}
@@ -20,6 +20,7 @@ use Rattle.round_spec.specs.Embedded.{slot_named}
 use Rattle.round_spec.specs.Say.{Configuration, own_post, shape_in}
 use Rattle.round_spec.specs.Verdict.{Goes, verdict_of}
 use Rattle.round_spec.specs.Course.{closing_of}
+use Rattle.round_spec.specs.Result.{log_after}
 
 -- ---- configurations
 
@@ -58,6 +59,10 @@ own_slot run stage = record { stage = stage; sender = run.config.number }
 abbrev pub posts_said : Run → List Post
 posts_said run = filter_map (λ stage. kept_in run.log (own_slot run stage)) (range_with_len 0 (stage_count run.log.shape))
 
+-- the run of a member that these byte strings were delivered to
+abbrev pub run_after : Configuration → List (List ℕ) → Run
+run_after c delivered = record { config = c; log = log_after c delivered }
+
 -- what it sent: the contents of these
 unfoldable pub sent : Run → List (List ℕ)
 sent run = map (λ post. post.content) (posts_said run)
@@ -79,6 +84,8 @@ pub record IsOwnPost (run : Run) (stage : ℕ) (post : Post) : Type 0 where
 pub record ChecksIn (c : Configuration) (slot : Slot) (post : Post) : Type 0 where
   pub content : Content
   pub checks : check_of c.roster c.round post ≡ Ok content
+  pub content_bytes : IsBytes post.content
+  pub signature_bytes : IsBytes post.signature
   pub named : slot_named content.header ≡ slot
 
 -- a run of an honest member, which may have ended anywhere: what it kept are posts that check, each in its slot, and in
@@ -106,12 +113,21 @@ pub record AreHonest (roster : Roster) (runs : List Run) : Type 0 where
 abbrev pub HasNumber : List Run → ℕ → Type 0
 HasNumber runs number = (run : Run) × Contains runs run × (run.config.number ≡ number)
 
+-- the runs of a member
+abbrev pub runs_of : List Run → ℕ → List Run
+runs_of runs number = filter (λ run. run.config.number == number) runs
+
+-- all that the runs of a member sent
+unfoldable pub contents_sent : List Run → ℕ → List (List ℕ)
+contents_sent runs number = flat_map sent (runs_of runs number)
+
 -- a run of a member sent a content
-pub record Sent (runs : List Run) (number : ℕ) (content : List ℕ) : Type 0 where
-  pub run : Run
-  pub listed : Contains runs run
-  pub member : run.config.number ≡ number
-  pub contains : Contains (sent run) content
+abbrev pub Sent : List Run → ℕ → List ℕ → Type 0
+Sent runs number content = Contains (contents_sent runs number) content
+
+-- a member is faulty in a round: none of the runs is of this member and this round
+abbrev pub IsFaulty : List Run → ℕ → ℕ → Type 0
+IsFaulty runs round number = (run : Run) → Contains runs run → run.config.number ≡ number → run.config.round ≢ round
 
 -- ---- forging
 

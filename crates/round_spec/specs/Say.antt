@@ -117,22 +117,22 @@ unfoldable pub pads_row : Configuration → List ℕ → List (List ℕ) → Bod
 pads_row c own past = Pads (map (pad_for c own) (items_opened (shape_in c) past 1))
 
 -- what it says at a stage of a kind, where its own descriptor has these bytes and these are the posts before
-abbrev pub body_at : Configuration → List ℕ → List Post → ℕ → StageKind → Body
-body_at c own posts stage Keys = keys_row c
-body_at c own posts stage (Submit shuffle) = SubmitBody (own_submission c own (contents_of posts) shuffle).ciphertext
-body_at c own posts stage (Shuffle shuffle k) = turn_row c (contents_of posts) shuffle
-body_at c own posts stage (Go shuffle) =
+abbrev pub own_body_at : Configuration → List ℕ → List Post → ℕ → StageKind → Body
+own_body_at c own posts stage Keys = keys_row c
+own_body_at c own posts stage (Submit shuffle) = SubmitBody (own_submission c own (contents_of posts) shuffle).ciphertext
+own_body_at c own posts stage (Shuffle shuffle k) = turn_row c (contents_of posts) shuffle
+own_body_at c own posts stage (Go shuffle) =
     go_row (shape_in c) (contents_of posts) stage (own_submission c own (contents_of posts) shuffle).inner_ciphertext
-body_at c own posts stage (Final shuffle) = final_row (shape_in c) posts stage
+own_body_at c own posts stage (Final shuffle) = final_row (shape_in c) posts stage
     (own_key_seed c (inner_place shuffle)) (own_key_seed c (outer_place shuffle)) (own_opening c shuffle 2)
-body_at c own posts stage Pad = pads_row c own (contents_of posts)
-body_at c own posts stage Check = check_row (shape_in c) (contents_of posts) stage
-body_at c own posts stage Confirm = confirm_row (shape_in c) posts stage
+own_body_at c own posts stage Pad = pads_row c own (contents_of posts)
+own_body_at c own posts stage Check = check_row (shape_in c) (contents_of posts) stage
+own_body_at c own posts stage Confirm = confirm_row (shape_in c) posts stage
 
--- a stage that the round does not have has nothing to be said
-abbrev pub body_if : Configuration → List ℕ → List Post → ℕ → Option StageKind → Body
-body_if c own posts stage None = Abort
-body_if c own posts stage (Some kind) = body_at c own posts stage kind
+-- at a stage that the round does not have the body would be Abort, but nobody speaks there
+abbrev pub own_body_if : Configuration → List ℕ → List Post → ℕ → Option StageKind → Body
+own_body_if c own posts stage None = Abort
+own_body_if c own posts stage (Some kind) = own_body_at c own posts stage kind
 
 -- ---- what it says
 
@@ -152,21 +152,21 @@ own_header c posts stage = record {
 unfoldable pub content_with : Configuration → List ℕ → List Post → ℕ → Content
 content_with c own posts stage = record {
   header = own_header c posts stage;
-  body = body_if c own posts stage (kind_of_stage (shape_in c) stage);
+  body = own_body_if c own posts stage (kind_of_stage (shape_in c) stage);
 }
 
 -- the bytes of its content at a stage, by the posts before it
-unfoldable pub say : Configuration → List Post → ℕ → List ℕ
-say c posts stage = content_text (content_with c (own_descriptor c (contents_of posts)) posts stage)
+unfoldable pub own_content : Configuration → List Post → ℕ → List ℕ
+own_content c posts stage = content_text (content_with c (own_descriptor c (contents_of posts)) posts stage)
 
 -- how many posts it has said before a stage
-unfoldable pub own_place : Configuration → ℕ → ℕ
-own_place c stage = count_by (λ earlier. is_slot (shape_in c) earlier c.number) (range_with_len 0 stage)
+unfoldable pub number_said_before : Configuration → ℕ → ℕ
+number_said_before c stage = count_by (λ earlier. is_slot (shape_in c) earlier c.number) (range_with_len 0 stage)
 
 -- a content as it posts it at a stage: signed with its next leaf
 abbrev pub signed_at : Configuration → ℕ → List ℕ → Post
-signed_at c stage content = record { content = content; signature = lms_signature c.key (c.first + own_place c stage) content }
+signed_at c stage content = record { content = content; signature = lms_signature c.key (c.first + number_said_before c stage) content }
 
 -- its post at a stage
 unfoldable pub own_post : Configuration → List Post → ℕ → Post
-own_post c posts stage = signed_at c stage (say c posts stage)
+own_post c posts stage = signed_at c stage (own_content c posts stage)
