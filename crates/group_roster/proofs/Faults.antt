@@ -1,7 +1,5 @@
--- Tests, and lemmas of wire_core under the names by which they were known here.
+-- What a test of two tests says of each.
 use Rattle.std.proofs.Common.{◌≡◌, Bool, true, false, not, ◌&&◌, ◌||◌, refl}
-pub use Rattle.wire_core.proofs.AnswerLemmas.{fault_unless-true, fault_unless-false, fault_unless-holds, value_unless-ok, value_unless-err, nothing_mapped}
-pub use Rattle.wire_core.proofs.PlaceLemmas.{byte_there, there_byte, first_unlike-none, first_unlike-some, first_unlike-each}
 
 pub both : (a b : Bool) → (a && b) ≡ true → (a ≡ true) × (b ≡ true)
 both true true e = (refl, refl)

@@ -2,6 +2,5 @@ pub mod Roster
 pub mod Rules
 pub mod Binary
 pub mod Given
-pub mod Places
 pub mod Toml
 pub mod Ids

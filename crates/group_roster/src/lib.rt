@@ -16,4 +16,4 @@ pub use laws::{ids_determine_rosters, rosters_are_spelled};
 pub use refusal::RosterRefusal;
 pub use roster::Roster;
 pub use toml_form::from_toml;
-pub use wire_core::{List, first_unlike};
+pub use wire_core::List;

@@ -50,7 +50,7 @@ pub enum PostRefusal {
     /// The body is outside the grammar: the first rule that the content breaks, and the offset in the content, as
     /// `phase_message::DecodeRefusal` has them.
     Body { at: u32, rule: u32 },
-    /// Wanted for the content, once the checks before the body are passed.
+    /// Wanted for the content, once all checks are passed.
     Memory,
 }
 
@@ -189,7 +189,7 @@ pub fn check_header(roster: &Roster, round: u64, post: &Post) -> Result<Header, 
 }
 
 /// The content of a post that passes the eight checks, and else the first of them that refuses it: the seven of
-/// `check_header`, and then `Body`. Memory is wanted after the seven alone.
+/// `check_header`, and then `Body`. Out of memory comes only where all eight pass.
 #[tactic(auto, unfolding(crate::specs::Admission::check_of))]
 pub fn check(
     alloc: Global,
@@ -199,7 +199,7 @@ pub fn check(
 ) -> Result<Content, PostRefusal>
     ensures { (result ≡ check_of (roster_of roster.now) round post.now)
         ⊎ ((result ≡ Err PostRefusal.Memory)
-        × IsOk (admission_of (roster_of roster.now) round post.now)) }
+        × IsOk (check_of (roster_of roster.now) round post.now)) }
 {
     let _header = check_header(roster, round, post)?;
     match decode(alloc, roster.shape(), post.content.items()) {
