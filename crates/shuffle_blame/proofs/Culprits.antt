@@ -1,5 +1,5 @@
 -- The culprit by the rules in their order.
-use Rattle.std.proofs.Common.{◌≡◌, ℕ, List, [], ◌∷◌, Option, Some, None, refl, ap, ◌∙◌}
+use Rattle.std.proofs.Common.{sym, ◌≡◌, ℕ, List, [], ◌∷◌, Option, Some, None, refl, ap, ◌∙◌, length, subst}
 use Rattle.std.specs.Prelude.{unwrap_or}
 use Rattle.std.specs.Option.{option_map}
 use Rattle.wire_core.specs.Answers.{first_some}
@@ -8,13 +8,16 @@ use Rattle.phase_message.specs.declared.post.Post.{Post}
 use Rattle.phase_message.specs.declared.stage.Slot.{Slot}
 use Rattle.phase_message.specs.declared.stage.StageKind.{StageKind}
 use Rattle.phase_message.specs.declared.stage.StageKind.TheVariants.{Keys, Submit, Shuffle, Go, Final, Pad, Check, Confirm}
+use Rattle.phase_message.specs.Shape.{Shape}
+use Rattle.phase_message.specs.Stages.{kind_of_stage}
 use Rattle.stage_log.specs.Log.{before, contents_of, first_wrong, log_first_wrong}
 use Rattle.stage_log.specs.Table.{Log}
 use Rattle.stage_log.proofs.Pasts.{option_map-some}
 use Rattle.shuffle_blame.specs.declared.fault.Cause.TheVariants.{View}
 use Rattle.shuffle_blame.specs.declared.fault.Fault.{Fault}
 use Rattle.shuffle_blame.specs.declared.fault.Shown.{Shown}
-use Rattle.shuffle_blame.specs.Asked.{fault_shown, inquiry_of}
+use Rattle.shuffle_blame.specs.declared.parts.Part.{Part}
+use Rattle.shuffle_blame.specs.Asked.{AreShown, fault_shown, inquiry_of, shown_by}
 use Rattle.shuffle_blame.specs.Replay.{Inquiry, culprit_at, fault, seed_fault, submission_fault, turn_fault, view_fault, vote_fault}
 
 in_turn : (v s u t n : Option Fault) → first_some (v ∷ s ∷ u ∷ t ∷ n ∷ []) ≡ first_some (v ∷ first_some (s ∷ u ∷ t ∷ []) ∷ n ∷ [])
@@ -60,3 +63,13 @@ view-told log stage round shown found e =
     let posts = option_map-some (λ (posts : List Post). first_wrong log.shape (contents_of posts) stage) (before log stage) found e in
     ap (λ (o : Option (List Post)). option_map (λ (slot : Slot). fault View slot.sender) (first_wrong log.shape (contents_of (unwrap_or o [])) stage)) posts.1
     ∙ ap (option_map (λ (slot : Slot). fault View slot.sender)) posts.2
+
+-- what is shown at the end of a shuffle, made ready for use
+pub shown-length : (shape : Shape) (o : Option StageKind) (shuffle : ℕ) (shown : List Shown) → o ≡ Some (Final shuffle) → AreShown shape o shown → length shown ≡ shape.members
+shown-length shape o shuffle shown e are = subst (λ (o : Option StageKind). AreShown shape o shown) e are
+
+pub shown-told : (log : Log) (stage round shuffle : ℕ) (shown : List Shown) (parts : List Part) → kind_of_stage log.shape stage ≡ Some (Final shuffle) → shown_by parts ≡ shown
+    → fault_shown (Some (Final shuffle)) (inquiry_of log stage round (shown_by parts)) ≡ fault_shown (kind_of_stage log.shape stage) (inquiry_of log stage round shown)
+shown-told log stage round shuffle shown parts kind same =
+    ap (λ (s : List Shown). fault_shown (Some (Final shuffle)) (inquiry_of log stage round s)) same
+    ∙ ap (λ (o : Option StageKind). fault_shown o (inquiry_of log stage round shown)) (sym kind)

@@ -6,9 +6,12 @@ use Rattle.std.proofs.lemmas.List.{get_or-map, length-map}
 use Rattle.std.proofs.lemmas.List.FromFn.{get_or-map-range_with_len, map-range_with_len_more}
 use Rattle.wire_core.specs.Answers.{fault_unless}
 use Rattle.wire_core.proofs.AnswerLemmas.{fault_unless-false, fault_unless-true, first_below-none, first_below-some}
+use Rattle.stage_log.specs.Table.{Log}
+use Rattle.shuffle_blame.specs.declared.ended.Ended.{Ended}
 use Rattle.shuffle_blame.specs.declared.fault.Fault.{Fault}
 use Rattle.shuffle_blame.specs.declared.fault.Shown.{Shown}
-use Rattle.shuffle_blame.specs.declared.outer_key.OuterKey.{OuterKey}
+use Rattle.shuffle_blame.specs.declared.parts.Part.{Part}
+use Rattle.shuffle_blame.specs.Asked.{inquiry_at, shown_by}
 use Rattle.shuffle_blame.specs.Replay.{Inquiry, first_member, outer_opening, outer_seed, outer_seeds, submission, submissions}
 use Rattle.shuffle_blame.specs.Laws.{IsMember}
 
@@ -42,25 +45,23 @@ one_fails q test at member is before fails =
 
 -- ---- what members show and said
 
--- the outer seed and the outer opening of a member stand at its place
-pub shown-seed : (q : Inquiry) (member place : ℕ) (d : Shown) → place ≡ member - 1 → place < length q.shown → outer_seed q member ≡ (get_or q.shown place d).outer_seed
-shown-seed q member place d at lt = ap (λ (k : ℕ). get_or (outer_seeds q) k []) (sym at) ∙ get_or-map (λ (s : Shown). s.outer_seed) q.shown place d [] lt
+-- the outer opening of a member, and its outer seed, stand at its place
+pub part-opening : (log : Log) (ended : Ended) (parts : List Part) (member place : ℕ) (part : Part) → place ≡ member - 1 → place < length parts → part ≡ get_or parts place part
+    → outer_opening (inquiry_at log ended parts) member ≡ part.shown.outer_opening
+part-opening log ended parts member place part at lt here =
+    ap (λ (k : ℕ). get_or (map (λ (s : Shown). s.outer_opening) (shown_by parts)) k []) (sym at)
+    ∙ get_or-map (λ (s : Shown). s.outer_opening) (shown_by parts) place part.shown [] (omega (arith, length-map parts (λ (part : Part). part.shown)))
+    ∙ ap (λ (s : Shown). s.outer_opening) (get_or-map (λ (part : Part). part.shown) parts place part part.shown lt)
+    ∙ ap (λ (part : Part). part.shown.outer_opening) (sym here)
 
-pub shown-opening : (q : Inquiry) (member place : ℕ) (d : Shown) → place ≡ member - 1 → place < length q.shown → outer_opening q member ≡ (get_or q.shown place d).outer_opening
-shown-opening q member place d at lt =
-    ap (λ (k : ℕ). get_or (map (λ (s : Shown). s.outer_opening) q.shown) k []) (sym at) ∙ get_or-map (λ (s : Shown). s.outer_opening) q.shown place d [] lt
-
-pub key-seed : (q : Inquiry) (keys : List OuterKey) (member place : ℕ) (key : OuterKey) → map (λ key. key.seed) keys ≡ outer_seeds q → place ≡ member - 1 → place < length keys
-    → key ≡ get_or keys place key → key.seed ≡ outer_seed q member
-key-seed q keys member place key same at lt here =
-    ap (λ (key : OuterKey). key.seed) here
-    ∙ sym (get_or-map (λ (key : OuterKey). key.seed) keys place key [] lt)
-    ∙ ap (λ (seeds : List (List ℕ)). get_or seeds place []) same
-    ∙ ap (λ (k : ℕ). get_or (outer_seeds q) k []) at
-
-pub length-keys : (q : Inquiry) (keys : List OuterKey) → map (λ key. key.seed) keys ≡ outer_seeds q → length keys ≡ length q.shown
-length-keys q keys same =
-    sym (length-map keys (λ (key : OuterKey). key.seed)) ∙ ap (λ (seeds : List (List ℕ)). length seeds) same ∙ length-map q.shown (λ (shown : Shown). shown.outer_seed)
+pub part-seed : (log : Log) (ended : Ended) (parts : List Part) (member place : ℕ) (part : Part) → place ≡ member - 1 → place < length parts → part ≡ get_or parts place part
+    → part.key ≡ outer_seed (inquiry_at log ended parts) member
+part-seed log ended parts member place part at lt here =
+    part.same
+    ∙ ap (λ (part : Part). part.shown.outer_seed) here
+    ∙ ap (λ (s : Shown). s.outer_seed) (sym (get_or-map (λ (part : Part). part.shown) parts place part part.shown lt))
+    ∙ sym (get_or-map (λ (s : Shown). s.outer_seed) (shown_by parts) place part.shown [] (omega (arith, length-map parts (λ (part : Part). part.shown))))
+    ∙ ap (λ (k : ℕ). get_or (outer_seeds (inquiry_at log ended parts)) k []) at
 
 pub submissions-next : (q : Inquiry) (sender : ℕ) (list : List (List ℕ)) (bytes : List ℕ) → 1 ≤ sender → list ≡ map (submission q) (range_with_len 1 (sender - 1)) → bytes ≡ submission q sender
     → list ++ bytes ∷ [] ≡ map (submission q) (range_with_len 1 (sender + 1 - 1))

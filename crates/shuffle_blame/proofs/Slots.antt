@@ -13,7 +13,8 @@ use Rattle.stage_log.specs.Table.{Log}
 use Rattle.stage_log.proofs.Pasts.{some_of}
 use Rattle.shuffle_blame.specs.declared.ended.Ended.{Ended}
 use Rattle.shuffle_blame.specs.declared.fault.Shown.{Shown}
-use Rattle.shuffle_blame.specs.Asked.{IsClosing, IsEnd, body_kept, inquiry_at, inquiry_of}
+use Rattle.shuffle_blame.specs.declared.parts.Part.{Part}
+use Rattle.shuffle_blame.specs.Asked.{IsClosing, IsEnd, body_kept, inquiry_at, inquiry_of, shown_by}
 use Rattle.shuffle_blame.specs.Replay.{body_in, submit_stage}
 use Rattle.shuffle_blame.proofs.Endings.{ends_at, submit_there, turn_there}
 use Rattle.shuffle_blame.proofs.Kept.{body_kept-past}
@@ -71,24 +72,24 @@ vote-said log stage round member shown closing complete least most =
 pub end-least : (shape : Shape) (stage shuffle : ℕ) → kind_of_stage shape stage ≡ Some (Final shuffle) → shape.members + 3 ≤ stage
 end-least shape stage shuffle e = elim (ends_at shape stage shuffle e) [ inl a ↦ omega (arith, a.1) | inr b ↦ omega (arith, b.1) ]
 
-pub keys-said : (log : Log) (ended : Ended) (shown : List Shown) (member : ℕ) → IsEnd log ended shown → 1 ≤ member → member ≤ log.shape.members
-    → body_kept log (record { stage = 0; sender = member }) ≡ body_in (inquiry_at log ended shown) 0 member
-keys-said log ended shown member is least most =
-    said-there log ended.stage ended.round shown (record { stage = 0; sender = member }) Keys is.complete refl (member-there log.shape.members member least most)
+pub keys-said : (log : Log) (ended : Ended) (parts : List Part) (member : ℕ) → IsEnd log ended parts → 1 ≤ member → member ≤ log.shape.members
+    → body_kept log (record { stage = 0; sender = member }) ≡ body_in (inquiry_at log ended parts) 0 member
+keys-said log ended parts member is least most =
+    said-there log ended.stage ended.round (shown_by parts) (record { stage = 0; sender = member }) Keys is.complete refl (member-there log.shape.members member least most)
     (omega (arith, end-least log.shape ended.stage ended.shuffle is.ends))
 
-pub submission-said : (log : Log) (ended : Ended) (shown : List Shown) (member : ℕ) → kind_of_stage log.shape ended.stage ≡ Some (Final ended.shuffle) → IsSome (before log ended.stage)
+pub submission-said : (log : Log) (ended : Ended) (parts : List Part) (member : ℕ) → kind_of_stage log.shape ended.stage ≡ Some (Final ended.shuffle) → IsSome (before log ended.stage)
     → 1 ≤ member → member ≤ log.shape.members
-    → body_kept log (record { stage = ended.stage - (log.shape.members + 2); sender = member }) ≡ body_in (inquiry_at log ended shown) (submit_stage (inquiry_at log ended shown)) member
-submission-said log ended shown member ends complete least most =
-    said-there log ended.stage ended.round shown (record { stage = ended.stage - (log.shape.members + 2); sender = member }) (Submit ended.shuffle) complete
+    → body_kept log (record { stage = ended.stage - (log.shape.members + 2); sender = member }) ≡ body_in (inquiry_at log ended parts) (submit_stage (inquiry_at log ended parts)) member
+submission-said log ended parts member ends complete least most =
+    said-there log ended.stage ended.round (shown_by parts) (record { stage = ended.stage - (log.shape.members + 2); sender = member }) (Submit ended.shuffle) complete
     (submit_there log.shape ended.stage ended.shuffle ends) (member-there log.shape.members member least most)
     (omega (arith, end-least log.shape ended.stage ended.shuffle ends))
 
-pub turn-said : (log : Log) (ended : Ended) (shown : List Shown) (turn : ℕ) → IsEnd log ended shown → 1 ≤ turn → turn ≤ log.shape.members
+pub turn-said : (log : Log) (ended : Ended) (parts : List Part) (turn : ℕ) → IsEnd log ended parts → 1 ≤ turn → turn ≤ log.shape.members
     → body_kept log (record { stage = ended.stage - (log.shape.members + 2) + turn; sender = turn })
-    ≡ body_in (inquiry_at log ended shown) (submit_stage (inquiry_at log ended shown) + turn) turn
-turn-said log ended shown turn is least most =
-    said-there log ended.stage ended.round shown (record { stage = ended.stage - (log.shape.members + 2) + turn; sender = turn }) (Shuffle ended.shuffle turn) is.complete
+    ≡ body_in (inquiry_at log ended parts) (submit_stage (inquiry_at log ended parts) + turn) turn
+turn-said log ended parts turn is least most =
+    said-there log ended.stage ended.round (shown_by parts) (record { stage = ended.stage - (log.shape.members + 2) + turn; sender = turn }) (Shuffle ended.shuffle turn) is.complete
     (turn_there log.shape ended.stage ended.shuffle turn is.ends least most) (eq-eqb turn turn refl)
     (omega (arith, end-least log.shape ended.stage ended.shuffle is.ends))

@@ -1,5 +1,5 @@
 -- What a replay of a log looks at.
-use Rattle.std.specs.Prelude.{◌≡◌, ℕ, ◌<◌, ◌^◌, List, [], ◌∷◌, length, All, Option, Some, None, IsSome, option_and_then, unwrap_or, if◌then◌else◌, bytes_eq}
+use Rattle.std.specs.Prelude.{◌≡◌, ℕ, ◌<◌, ◌^◌, List, [], ◌∷◌, map, length, All, Option, Some, None, IsSome, option_and_then, unwrap_or, if◌then◌else◌, bytes_eq}
 use Rattle.phase_message.specs.declared.content.Body.{Body}
 use Rattle.phase_message.specs.declared.content.Body.TheVariants.{Submit, Shuffled, Abort}
 use Rattle.phase_message.specs.declared.post.Post.{Post}
@@ -15,6 +15,7 @@ use Rattle.stage_log.specs.Table.{Log, kept_in}
 use Rattle.shuffle_blame.specs.declared.ended.Ended.{Ended}
 use Rattle.shuffle_blame.specs.declared.fault.Fault.{Fault}
 use Rattle.shuffle_blame.specs.declared.fault.Shown.{Shown}
+use Rattle.shuffle_blame.specs.declared.parts.Part.{Part}
 use Rattle.shuffle_blame.specs.Replay.{Inquiry, body_of, is_order_of, seed_fault, submission_fault, turn_fault}
 
 -- the contents before a stage, where all of them are there
@@ -54,15 +55,19 @@ IsShort _ = Unit {0}
 
 -- ---- the end of a shuffle
 
+-- what the members show, by the parts of it that are ready for use
+abbrev pub shown_by : List Part → List Shown
+shown_by parts = map (λ part. part.shown) parts
+
 -- what a replay looks at, where a shuffle ends
-abbrev pub inquiry_at : Log → Ended → List Shown → Inquiry
-inquiry_at log ended shown = inquiry_of log ended.stage ended.round shown
+abbrev pub inquiry_at : Log → Ended → List Part → Inquiry
+inquiry_at log ended parts = inquiry_of log ended.stage ended.round (shown_by parts)
 
 -- the stage ends the shuffle, all stages before it are complete, and each member shows its part
-pub record IsEnd (log : Log) (ended : Ended) (shown : List Shown) : Type 0 where
+pub record IsEnd (log : Log) (ended : Ended) (parts : List Part) : Type 0 where
   pub ends : kind_of_stage log.shape ended.stage ≡ Some (Final ended.shuffle)
   pub complete : IsSome (before log ended.stage)
-  pub each_shows : length shown ≡ log.shape.members
+  pub each_shows : length parts ≡ log.shape.members
 
 -- the body of a layer that carries m
 abbrev pub body_under : List ℕ → Option (List ℕ × List ℕ) → Option (List ℕ)

@@ -9,7 +9,8 @@ ghost use Rattle.shuffle_blame.specs.Replay.{culprit_of, seed_fault, submission_
 
 use crate::ended::Ended;
 use crate::fault::{Cause, Fault, Shown};
-use crate::outer_key::{outer_keys, seed_fault};
+use crate::parts::Part;
+use crate::seeds::{ready_parts, seed_fault};
 use crate::submissions::{submission_fault, submissions};
 use crate::turn::turn_fault;
 use crate::votes::vote_fault;
@@ -77,25 +78,25 @@ fn fault_shown(
                 stage,
                 round,
             };
-            shuffle_fault(alloc, log, ended, shown)
+            let parts = ready_parts(alloc, shown)?;
+            shuffle_fault(alloc, log, ended, &parts)
         }
         _ => Ok(None),
     }
 }
 
 // The first fault of a shuffle's outer seeds, submissions and turns.
-fn shuffle_fault(alloc: Global, log: &StageLog, ended: Ended, shown: &[Shown]) -> Mem<Option<Fault>>
-    requires { IsEnd log.now ended shown.now }
-    ensures { IfOk result (λ fault. let q = inquiry_at log.now ended shown.now in
+fn shuffle_fault(alloc: Global, log: &StageLog, ended: Ended, parts: &[Part]) -> Mem<Option<Fault>>
+    requires { IsEnd log.now ended parts.now }
+    ensures { IfOk result (λ fault. let q = inquiry_at log.now ended parts.now in
         fault ≡ first_some (seed_fault q ended.shuffle ∷ submission_fault q ended.shuffle ∷ turn_fault q ∷ [])) }
 {
-    if let Some(fault) = seed_fault(alloc, log, ended, shown)? {
+    if let Some(fault) = seed_fault(alloc, log, ended, parts)? {
         return Ok(Some(fault));
     }
-    let keys = outer_keys(alloc, shown)?;
     let said = submissions(alloc, log, ended)?;
-    if let Some(fault) = submission_fault(alloc, log, ended, shown, &keys, &said)? {
+    if let Some(fault) = submission_fault(alloc, log, ended, parts, &said)? {
         return Ok(Some(fault));
     }
-    turn_fault(alloc, log, ended, shown, &keys, said)
+    turn_fault(alloc, log, ended, parts, said)
 }

@@ -9,8 +9,9 @@ mod ended;
 mod fault;
 mod laws;
 mod order;
-mod outer_key;
+mod parts;
 mod said;
+mod seeds;
 mod submissions;
 mod turn;
 mod votes;
@@ -22,3 +23,6 @@ pub use laws::{
     stripped_distinct, unlike_votes_blame,
 };
 pub use stage_log::StageLog;
+
+#[cfg(test)]
+mod tests;

@@ -7,7 +7,7 @@ ghost use Rattle.shuffle_blame.specs.Asked.{IsShort, body_kept};
 ghost use Rattle.shuffle_blame.specs.Replay.{ciphertext_of, has_outer_key, is_yes, list_of, outer_place};
 
 use phase_message::{Body, Content, DecodeRefusal, Slot, decode};
-use ring_encrypt::public_of;
+use ring_encrypt::KeySeed;
 use stage_log::StageLog;
 use std::alloc::{AllocError, Global};
 use wire_core::{List, Mem};
@@ -30,18 +30,18 @@ fn body_in(alloc: Global, log: &StageLog, slot: Slot) -> Mem<Body>
     }
 }
 
-// Whether a slot's keys have the outer key of a seed.
+// Whether a slot's keys have the outer key of this seed.
 pub(crate) fn has_outer_key(
     alloc: Global,
     log: &StageLog,
     slot: Slot,
     shuffle: u8,
-    seed: &[u8; 32],
+    key: &KeySeed,
 ) -> Mem<bool>
-    ensures { IfOk result (λ has. has ≡ has_outer_key shuffle seed.now (body_kept log.now slot)) }
+    ensures { IfOk result (λ has. has ≡ has_outer_key shuffle key.now (body_kept log.now slot)) }
 {
     match body_in(alloc, log, slot)? {
-        Body::Keys { keys } => Ok(public_of(seed).bytes() == &keys[outer_place(shuffle)]),
+        Body::Keys { keys } => Ok(key.public().bytes() == &keys[outer_place(shuffle)]),
         _ => Ok(false),
     }
 }

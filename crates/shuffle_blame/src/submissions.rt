@@ -12,8 +12,8 @@ ghost use Rattle.shuffle_blame.specs.Asked.{IsEnd, body_under, inquiry_at, inqui
 ghost use Rattle.shuffle_blame.specs.Replay.{OUTER, fault, layer_fault, submission, submission_fault, submissions};
 
 use crate::ended::Ended;
-use crate::fault::{Cause, Fault, Shown};
-use crate::outer_key::OuterKey;
+use crate::fault::{Cause, Fault};
+use crate::parts::Part;
 use crate::said::ciphertext;
 use layer_cipher::{Peeled, peel_with};
 use phase_message::{Shape, Slot};
@@ -55,20 +55,18 @@ pub(crate) fn submission_fault(
     alloc: Global,
     log: &StageLog,
     ended: Ended,
-    shown: &[Shown],
-    keys: &[OuterKey],
+    parts: &[Part],
     said: &[List<u8>],
 ) -> Mem<Option<Fault>>
-    requires is_end { IsEnd log.now ended shown.now }
-    requires keys { map (λ key. key.seed) keys.now ≡ map (λ s. s.outer_seed) shown.now }
-    requires list { said.now ≡ submissions (inquiry_at log.now ended shown.now) }
+    requires is_end { IsEnd log.now ended parts.now }
+    requires list { said.now ≡ submissions (inquiry_at log.now ended parts.now) }
     requires short { All (λ entry. length entry < 2 ^ 32) said.now }
-    ensures { IfOk result (λ fault. fault ≡ submission_fault (inquiry_at log.now ended shown.now) ended.shuffle) }
+    ensures { IfOk result (λ fault. fault ≡ submission_fault (inquiry_at log.now ended parts.now) ended.shuffle) }
 {
     let shape = log.shape();
     for member in 1..shape.members + 1 {
         let bytes = said[usize::from(member - 1)].items();
-        if let Some(layer) = wrong_layer(alloc, log, ended, shown, keys, member, bytes)? {
+        if let Some(layer) = wrong_layer(alloc, log, ended, parts, member, bytes)? {
             return Ok(Some(Fault {
                 member,
                 cause: Cause::Submission { layer },
@@ -83,27 +81,25 @@ fn wrong_layer(
     alloc: Global,
     log: &StageLog,
     ended: Ended,
-    shown: &[Shown],
-    keys: &[OuterKey],
+    parts: &[Part],
     member: u8,
     bytes: &[u8],
 ) -> Mem<Option<u8>>
-    requires is_end { IsEnd log.now ended shown.now }
-    requires keys { map (λ key. key.seed) keys.now ≡ map (λ s. s.outer_seed) shown.now }
+    requires is_end { IsEnd log.now ended parts.now }
     requires least { 1 ≤ member }
     requires most { member ≤ log.now.shape.members }
-    requires said { bytes.now ≡ submission (inquiry_at log.now ended shown.now) member }
+    requires said { bytes.now ≡ submission (inquiry_at log.now ended parts.now) member }
     requires short { length bytes.now < 2 ^ 32 }
     ensures { IfOk result (λ layer. option_map (λ layer. fault (Submission layer) member) layer
-        ≡ layer_fault (inquiry_at log.now ended shown.now) ended.shuffle member) }
+        ≡ layer_fault (inquiry_at log.now ended parts.now) ended.shuffle member) }
 {
     let shape = log.shape();
-    let own = &shown[usize::from(member - 1)];
+    let own = &parts[usize::from(member - 1)];
     let mut inside: Option<List<u8>> = None;
     for layer in 1..shape.members + 1 {
-        let key = &keys[usize::from(layer - 1)];
-        let m = layer_seed(ended, &own.outer_opening, member, layer);
-        let Some(body) = body_under(alloc, &key.seed, &m, rest_of(&inside, bytes))? else {
+        let part = &parts[usize::from(layer - 1)];
+        let m = layer_seed(ended, &own.shown.outer_opening, member, layer);
+        let Some(body) = body_under(alloc, &part.key, &m, rest_of(&inside, bytes))? else {
             return Ok(Some(layer));
         };
         inside = Some(body);

@@ -7,9 +7,9 @@ ghost use Rattle.shuffle_blame.specs.Asked.{IsEnd, body_kept, inquiry_at, list_i
 ghost use Rattle.shuffle_blame.specs.Replay.{list_of, submissions, turn_fault};
 
 use crate::ended::Ended;
-use crate::fault::{Cause, Fault, Shown};
+use crate::fault::{Cause, Fault};
 use crate::order::is_permutation;
-use crate::outer_key::OuterKey;
+use crate::parts::Part;
 use crate::said::list;
 use crate::submissions::submit_stage;
 use layer_cipher::{Peeled, peel_with};
@@ -24,15 +24,13 @@ pub(crate) fn turn_fault(
     alloc: Global,
     log: &StageLog,
     ended: Ended,
-    shown: &[Shown],
-    keys: &[OuterKey],
+    parts: &[Part],
     said: Vec<List<u8>>,
 ) -> Mem<Option<Fault>>
-    requires is_end { IsEnd log.now ended shown.now }
-    requires keys { map (λ key. key.seed) keys.now ≡ map (λ s. s.outer_seed) shown.now }
-    requires list { said.items ≡ submissions (inquiry_at log.now ended shown.now) }
+    requires is_end { IsEnd log.now ended parts.now }
+    requires list { said.items ≡ submissions (inquiry_at log.now ended parts.now) }
     requires short { All (λ entry. length entry < 2 ^ 32) said.items }
-    ensures { IfOk result (λ fault. fault ≡ turn_fault (inquiry_at log.now ended shown.now)) }
+    ensures { IfOk result (λ fault. fault ≡ turn_fault (inquiry_at log.now ended parts.now)) }
 {
     let shape = log.shape();
     let first = submit_stage(shape, ended.stage);
@@ -42,8 +40,8 @@ pub(crate) fn turn_fault(
             stage: first + turn,
             sender: turn,
         };
-        let key = &keys[usize::from(turn - 1)];
-        let Some(output) = list_in_order(alloc, log, slot, &key.seed, &input)? else {
+        let part = &parts[usize::from(turn - 1)];
+        let Some(output) = list_in_order(alloc, log, slot, &part.key, &input)? else {
             return Ok(Some(Fault {
                 member: turn,
                 cause: Cause::Shuffle,

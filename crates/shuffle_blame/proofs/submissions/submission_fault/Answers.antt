@@ -12,13 +12,13 @@ use Rattle.shuffle_blame.proofs.submissions.submission_fault.Goals as goal
 
 pub bounds-said-from : goal.bounds-said-from
 bounds-said-from c =
-    let q : Inquiry = inquiry_at c.args.log.now c.args.ended c.args.shown.now in
+    let q : Inquiry = inquiry_at c.args.log.now c.args.ended c.args.parts.now in
     let members = ap (λ (shape : Shape). shape.members) c.shape-shape.ensures.shape in
     omega (arith, c.from.ensures, members, ap (λ (list : List (List ℕ)). length list) c.requires.list, length-map-range_with_len (submission q) 1 c.args.log.now.shape.members)
 
 pub wrong_layer-requires-clause-said : goal.wrong_layer-requires-clause-said
 wrong_layer-requires-clause-said c =
-    let q : Inquiry = inquiry_at c.args.log.now c.args.ended c.args.shown.now in
+    let q : Inquiry = inquiry_at c.args.log.now c.args.ended c.args.parts.now in
     let members = ap (λ (shape : Shape). shape.members) c.shape-shape.ensures.shape in
     c.deref.ensures.value
     ∙ c.items-bytes.ensures
@@ -29,7 +29,7 @@ wrong_layer-requires-clause-said c =
 
 pub wrong_layer-requires-clause-short : goal.wrong_layer-requires-clause-short
 wrong_layer-requires-clause-short c =
-    let q : Inquiry = inquiry_at c.args.log.now c.args.ended c.args.shown.now in
+    let q : Inquiry = inquiry_at c.args.log.now c.args.ended c.args.parts.now in
     let members = ap (λ (shape : Shape). shape.members) c.shape-shape.ensures.shape in
     let within : c.from.result < length c.args.said.now
     = omega (arith, c.from.ensures, members, ap (λ (list : List (List ℕ)). length list) c.requires.list, length-map-range_with_len (submission q) 1 c.args.log.now.shape.members) in
@@ -39,7 +39,7 @@ wrong_layer-requires-clause-short c =
 
 pub returns-in-Some : goal.returns-in-Some
 returns-in-Some c =
-    let q : Inquiry = inquiry_at c.args.log.now c.args.ended c.args.shown.now in
+    let q : Inquiry = inquiry_at c.args.log.now c.args.ended c.args.parts.now in
     let members = ap (λ (shape : Shape). shape.members) c.shape-shape.ensures.shape in
     let is : IsMember q c.loop-member.member = record { least = omega arith; most = omega (arith, members) } in
     sym (first_member-some q (layer_fault q c.args.ended.shuffle) c.loop-member.member (fault (Submission c.in-Some.layer) c.loop-member.member) is c.loop-member.invariant
@@ -47,6 +47,6 @@ returns-in-Some c =
 
 pub returns : goal.returns
 returns c =
-    let q : Inquiry = inquiry_at c.args.log.now c.args.ended c.args.shown.now in
+    let q : Inquiry = inquiry_at c.args.log.now c.args.ended c.args.parts.now in
     let members = ap (λ (shape : Shape). shape.members) c.shape-shape.ensures.shape in
     sym (first_member-none q (layer_fault q c.args.ended.shuffle) (λ member least most. c.loop-member.invariant member least (omega (arith, members))))
