@@ -2,3 +2,5 @@ pub mod Courses
 pub mod Embedding
 pub mod Votes
 pub mod Verdicts
+pub mod Reached
+pub mod Stopping

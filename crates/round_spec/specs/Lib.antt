@@ -7,4 +7,5 @@ pub mod Result
 pub mod Runs
 pub mod Premises
 pub mod Cases
+pub mod Reached
 pub mod Laws

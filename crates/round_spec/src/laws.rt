@@ -1,6 +1,7 @@
 //! Laws of rounds. Nobody calls these functions: the contract of each states a law.
 
 ghost use Rattle.round_spec.specs.Cases.{FinalBEnds, OneKind, SparingMeansAgreed, VerdictCases};
+ghost use Rattle.round_spec.specs.Reached.{CourseStops, StandsAreReached};
 ghost use Rattle.round_spec.specs.Laws.{CourseAdds, CourseGrows, CourseEndUnique, NotUnanimousBlames};
 
 /// Some stages of a course and then others are all of them in one. With more posts of others a course comes through
@@ -24,4 +25,15 @@ pub fn verdict_laws()
     ensures one_kind { OneKind }
     ensures agreed { SparingMeansAgreed }
     ensures final_b { FinalBEnds }
+{}
+
+/// A stand that a course reaches has the post of each slot before its stage: the member's own as it says it by the posts
+/// before, and the others'. Its verdict is that of the last stage that was passed, and those before let the round go on.
+pub fn stands_are_reached()
+    ensures { StandsAreReached }
+{}
+
+/// The course of a whole round has ended, or it waits at a stage of the round that is not filled.
+pub fn courses_stop()
+    ensures { CourseStops }
 {}
