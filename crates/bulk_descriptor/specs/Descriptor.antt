@@ -9,9 +9,12 @@ use Rattle.wire_core.specs.declared.tag.Tag.TheVariants.{Message, PadHash}
 use Rattle.wire_core.specs.Hash.{hash_of}
 use Rattle.pad_stream.specs.Stream.{pad_of}
 use Rattle.pad_stream.specs.ExclusiveOr.{exclusive_or}
+use Rattle.ring_encrypt.specs.declared.TheConstants.{CAPSULE_BYTES}
 use Rattle.ring_encrypt.specs.Capsule.{capsule_of}
 use Rattle.ring_encrypt.specs.Opening.{opened}
 use Rattle.ring_encrypt.specs.Reduced.{is_reduced}
+use Rattle.bulk_descriptor.specs.declared.descriptor.TheConstants.{HEAD_BYTES, MEMBER_BYTES}
+use Rattle.bulk_descriptor.specs.declared.making.TheConstants.{MESSAGE_LIMIT}
 
 -- what a descriptor tells
 pub record Description : Type 0 where
@@ -25,13 +28,13 @@ pub record Description : Type 0 where
 -- a descriptor for a group of 2 to 16: a length of at most 65,536, hashes of 32 bytes, and as many capsules as
 -- pad hashes, none of which spells a coefficient of 12289 or more
 pub record IsDescriptor (size : ℕ) (message_hash : List ℕ) (pad_hashes capsules : List (List ℕ)) : Type 0 where
-  pub short : size ≤ 65536
+  pub short : size ≤ MESSAGE_LIMIT
   pub hash : length message_hash ≡ 32
   pub least : 2 ≤ length pad_hashes
   pub most : length pad_hashes ≤ 16
   pub as_many : length capsules ≡ length pad_hashes
   pub hashes : All (λ hash. length hash ≡ 32) pad_hashes
-  pub sizes : All (λ capsule. length capsule ≡ 2240) capsules
+  pub sizes : All (λ capsule. length capsule ≡ CAPSULE_BYTES) capsules
   pub reduced : All (λ capsule. IsTrue (is_reduced capsule)) capsules
 
 -- the same of what one tells, for a group of n members
@@ -54,19 +57,19 @@ length_in bytes = from_be_bytes w32 (take 4 bytes)
 
 -- the capsules in the bytes of a descriptor for n members
 abbrev pub capsules_in : ℕ → List ℕ → List (List ℕ)
-capsules_in n bytes = parts_of 2240 n (drop (36 + 32 * n) bytes)
+capsules_in n bytes = parts_of CAPSULE_BYTES n (drop (HEAD_BYTES + 32 * n) bytes)
 
 -- whether bytes spell a descriptor for a group of n members
 unfoldable pub is_descriptor : ℕ → List ℕ → Bool
 is_descriptor n bytes =
-    nat_le 2 n && nat_le n 16 && (length bytes == 36 + 2272 * n) && nat_le (length_in bytes) 65536 && list_all is_reduced (capsules_in n bytes)
+    nat_le 2 n && nat_le n 16 && (length bytes == HEAD_BYTES + MEMBER_BYTES * n) && nat_le (length_in bytes) MESSAGE_LIMIT && list_all is_reduced (capsules_in n bytes)
 
 -- what the bytes of a descriptor tell
 unfoldable pub description_in : ℕ → List ℕ → Description
 description_in n bytes = record {
   length = length_in bytes;
   message_hash = take 32 (drop 4 bytes);
-  pad_hashes = parts_of 32 n (drop 36 bytes);
+  pad_hashes = parts_of 32 n (drop HEAD_BYTES bytes);
   capsules = capsules_in n bytes;
 }
 

@@ -6,6 +6,7 @@ use Rattle.wire_core.specs.Hash.{hashed, NoCollision}
 use Rattle.ring_encrypt.specs.Capsule.{key_of_seed}
 use Rattle.ring_encrypt.specs.Opening.{IsMessage}
 use Rattle.pad_stream.specs.Stream.{pad_of}
+use Rattle.bulk_descriptor.specs.declared.making.TheConstants.{MESSAGE_LIMIT}
 use Rattle.bulk_descriptor.specs.declared.slot_state.SlotState.TheVariants.{Message}
 use Rattle.bulk_descriptor.specs.Descriptor.{Description, OfGrammar, descriptor_text, descriptor_read, own_pad, made_pads, made_descriptor, fits, pad_row}
 use Rattle.bulk_descriptor.specs.SlotState.{joined_pads, first_unfit, slot_state}
@@ -36,7 +37,7 @@ pub record CanMake (n : ℕ) (keys seeds : List (List ℕ)) (member : ℕ) (mess
   pub as_many_seeds : length seeds ≡ n
   pub first : 1 ≤ member
   pub last : member ≤ n
-  pub short : length message ≤ 65536
+  pub short : length message ≤ MESSAGE_LIMIT
 
 -- what is made is of the grammar
 abbrev pub MadeIsOfGrammar : Type 0

@@ -10,6 +10,12 @@ use ring_encrypt::{Capsule, KeySeed};
 use std::alloc::Global;
 use wire_core::{List, Mem, put_bytes, put_u32};
 
+/// How many bytes of a descriptor stand before its pad hashes: the length and the hash of its message.
+pub const HEAD_BYTES: usize = 36;
+
+/// How many bytes a descriptor has for each member: a pad hash and a capsule.
+pub const MEMBER_BYTES: usize = 2272;
+
 /// A descriptor of a message for a group of 2 to 16 members. Members count from 1.
 #[derive(Drop)]
 pub struct Descriptor {
@@ -41,7 +47,7 @@ impl Descriptor {
         ensures grammar { OfGrammar (length self.now.pad_hashes) (description_of self.now) }
     {
         let members = self.pad_hashes.items().len();
-        let mut bytes = Vec::with_capacity(alloc, 36 + 2272 * members)?;
+        let mut bytes = Vec::with_capacity(alloc, HEAD_BYTES + MEMBER_BYTES * members)?;
         put_u32(&mut bytes, self.length)?;
         put_bytes(&mut bytes, &self.message_hash)?;
         put_hashes(&mut bytes, self.pad_hashes.items())?;

@@ -14,7 +14,7 @@ mod pads;
 mod reading;
 mod slot_state;
 
-pub use descriptor::Descriptor;
+pub use descriptor::{Descriptor, HEAD_BYTES, MEMBER_BYTES};
 pub use laws::{descriptor_laws, fitting_laws, pad_laws};
 pub use making::{MESSAGE_LIMIT, Made, make};
 pub use pads::sent_pad;

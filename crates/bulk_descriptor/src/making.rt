@@ -3,6 +3,7 @@
 ghost use Rattle.std.specs.Prelude.{◌≡◌, ◌≤◌, ◌<◌, ◌^◌, ◌++◌, ◌+◌, ◌∷◌, [], length, map, remove, vec_len, IfOk, OnOk};
 ghost use Rattle.wire_core.specs.declared.tag.Tag.TheVariants.{Message};
 ghost use Rattle.wire_core.specs.Hash.{hash_of};
+ghost use Rattle.bulk_descriptor.specs.declared.making.TheConstants.{MESSAGE_LIMIT};
 ghost use Rattle.bulk_descriptor.specs.Descriptor.{hash_of_pad, pads_of, hidden_under, own_pad, sealed_seeds, made_pads, made_descriptor};
 ghost use Rattle.bulk_descriptor.specs.Fields.{description_of};
 
@@ -40,7 +41,7 @@ pub fn make(
     requires as_many { vec_len keys.now ≡ vec_len seeds.now }
     requires first { 1 ≤ member }
     requires last { member ≤ vec_len seeds.now }
-    requires short { length message.now ≤ 65536 }
+    requires short { length message.now ≤ MESSAGE_LIMIT }
     ensures descriptor { IfOk result (λ made. description_of made.descriptor ≡ made_descriptor keys.now.items seeds.now.items member message.now) }
     ensures pad { IfOk result (λ made. made.own_pad ≡ own_pad seeds.now.items member message.now) }
 {

@@ -3,23 +3,21 @@
 ghost use Rattle.std.specs.Prelude.{◌≡◌, ◌+◌, ◌*◌, ◌≤◌, ◌++◌, length, drop, take, IfOk, OnErr, OnOk, IsSome, IfSome, IsTrue, ◌↔◌, nat_le};
 ghost use Rattle.std.specs.List.{list_all};
 ghost use Rattle.std.specs.Option.{option_map};
+ghost use Rattle.ring_encrypt.specs.declared.TheConstants.{CAPSULE_BYTES};
 ghost use Rattle.ring_encrypt.specs.Reduced.{is_reduced};
+ghost use Rattle.bulk_descriptor.specs.declared.making.TheConstants.{MESSAGE_LIMIT};
+ghost use Rattle.bulk_descriptor.specs.declared.reading.TheConstants.{HASH_BYTES};
 ghost use Rattle.bulk_descriptor.specs.Descriptor.{is_descriptor, descriptor_read, parts_of, length_in};
 ghost use Rattle.bulk_descriptor.specs.Fields.{description_of};
 
-use crate::descriptor::Descriptor;
+use crate::descriptor::{Descriptor, HEAD_BYTES, MEMBER_BYTES};
 use crate::making::MESSAGE_LIMIT;
-use ring_encrypt::{Capsule, read_capsule};
+use ring_encrypt::{CAPSULE_BYTES, Capsule, read_capsule};
 use std::alloc::Global;
 use wire_core::{List, Mem};
 
-// How many bytes stand before the pad hashes.
-const HEAD_BYTES: usize = 36;
-
-// How many bytes a hash has, and a capsule.
+// How many bytes a hash has.
 const HASH_BYTES: usize = 32;
-
-const CAPSULE_BYTES: usize = 2240;
 
 /// The descriptor that bytes spell in a group of `n` members. `None` exactly where `n` is not from 2 to 16, the
 /// bytes are not 36 and 2,272 for each member, the length that they tell is above 65,536, or a capsule spells a
@@ -49,7 +47,7 @@ fn is_descriptor(n: u8, bytes: &[u8]) -> bool
     ensures { result ≡ is_descriptor n bytes.now }
 {
     let count = n as usize;
-    if !is_group(n) || bytes.len() != HEAD_BYTES + 2272 * count {
+    if !is_group(n) || bytes.len() != HEAD_BYTES + MEMBER_BYTES * count {
         return false;
     }
     if !is_short(length_of(bytes)) {
@@ -68,7 +66,7 @@ fn is_group(n: u8) -> bool
 
 // Whether a message may have this length.
 fn is_short(length: u32) -> bool
-    ensures { IsTrue result ↔ (length ≤ 65536) }
+    ensures { IsTrue result ↔ (length ≤ MESSAGE_LIMIT) }
 {
     length <= MESSAGE_LIMIT
 }
@@ -83,8 +81,8 @@ fn length_of(bytes: &[u8]) -> u32
 
 // Whether none of the capsules spells a coefficient that is too large.
 fn are_reduced(count: usize, bytes: &[u8]) -> bool
-    requires { length bytes.now ≡ 2240 * count }
-    ensures { result ≡ list_all is_reduced (parts_of 2240 count bytes.now) }
+    requires { length bytes.now ≡ CAPSULE_BYTES * count }
+    ensures { result ≡ list_all is_reduced (parts_of CAPSULE_BYTES count bytes.now) }
 {
     let mut rest = bytes;
     for _ in 0..count {
@@ -99,7 +97,7 @@ fn are_reduced(count: usize, bytes: &[u8]) -> bool
 
 // The hash that 32 bytes are.
 fn hash_in(bytes: &[u8]) -> [u8; 32]
-    requires { length bytes.now ≡ 32 }
+    requires { length bytes.now ≡ HASH_BYTES }
     ensures { result ≡ bytes.now }
 {
     let mut hash = [0; 32];
@@ -109,8 +107,8 @@ fn hash_in(bytes: &[u8]) -> [u8; 32]
 
 // The hashes that stand one after the other at the front of bytes.
 fn read_hashes(alloc: Global, count: usize, bytes: &[u8]) -> Mem<Vec<[u8; 32]>>
-    requires { 32 * count ≤ length bytes.now }
-    ensures { IfOk result (λ hashes. hashes.items ≡ parts_of 32 count bytes.now) }
+    requires { HASH_BYTES * count ≤ length bytes.now }
+    ensures { IfOk result (λ hashes. hashes.items ≡ parts_of HASH_BYTES count bytes.now) }
 {
     let mut hashes = Vec::with_capacity(alloc, count)?;
     let mut rest = bytes;
@@ -124,8 +122,8 @@ fn read_hashes(alloc: Global, count: usize, bytes: &[u8]) -> Mem<Vec<[u8; 32]>>
 
 // The capsules that stand one after the other at the front of bytes.
 fn read_capsules(alloc: Global, count: usize, bytes: &[u8]) -> Mem<Vec<Capsule>>
-    requires { 2240 * count ≤ length bytes.now }
-    ensures { IfOk result (λ capsules. capsules.items ≡ parts_of 2240 count bytes.now) }
+    requires { CAPSULE_BYTES * count ≤ length bytes.now }
+    ensures { IfOk result (λ capsules. capsules.items ≡ parts_of CAPSULE_BYTES count bytes.now) }
 {
     let mut capsules = Vec::with_capacity(alloc, count)?;
     let mut rest = bytes;
