@@ -1,6 +1,6 @@
 //! Reading the bytes of a roster file.
 
-ghost use Rattle.std.specs.Prelude.{◌≡◌, ◌≤◌, ◌<◌, ◌+◌, length, Some, Ok, Err, IfOk, IsOk};
+ghost use Rattle.std.specs.Prelude.{◌≡◌, ◌≤◌, ◌<◌, ◌+◌, bytes_eq, length, Some, Ok, Err, IfOk, IsOk};
 ghost use Rattle.wire_core.specs.Answers.{Gives, value_unless};
 ghost use Rattle.group_roster.specs.Roster.{Roster as Listed, IsRosterFile, roster_spelling};
 ghost use Rattle.group_roster.specs.Rules.{offence_told};
@@ -133,11 +133,17 @@ fn repeats(bytes: &[u8], k: u8) -> bool
 {
     let key = key_at(bytes, k);
     for j in 0..k {
-        if key_at(bytes, j) == key {
+        if are_equal(&key_at(bytes, j), &key) {
             return true;
         }
     }
     false
+}
+
+fn are_equal(key: &[u8; 56], other: &[u8; 56]) -> bool
+    ensures { result ≡ bytes_eq key.now other.now }
+{
+    key == other
 }
 
 // The bytes of key k.
