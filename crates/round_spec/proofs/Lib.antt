@@ -4,3 +4,5 @@ pub mod Votes
 pub mod Verdicts
 pub mod Reached
 pub mod Stopping
+pub mod Deliveries
+pub mod Wholes

@@ -9,3 +9,4 @@ pub mod Premises
 pub mod Cases
 pub mod Reached
 pub mod Laws
+pub mod Deliveries

@@ -1,6 +1,10 @@
 //! Laws of rounds. Nobody calls these functions: the contract of each states a law.
 
+ghost use Rattle.std.specs.Prelude.{ℕ, List};
+ghost use Rattle.phase_message.specs.declared.stage.Slot.{Slot};
 ghost use Rattle.round_spec.specs.Cases.{FinalBEnds, OneKind, SparingMeansAgreed, VerdictCases};
+ghost use Rattle.round_spec.specs.Deliveries.{FirstPostsContained, FirstPostsGrow, IdleChangesNothing, LeastEndingGrows, WholeCourse};
+ghost use Rattle.round_spec.specs.Say.{Configuration};
 ghost use Rattle.round_spec.specs.Reached.{CourseStops, StandsAreReached};
 ghost use Rattle.round_spec.specs.Laws.{CourseAdds, CourseGrows, CourseEndUnique, NotUnanimousBlames};
 
@@ -36,4 +40,19 @@ pub fn stands_are_reached()
 /// The course of a whole round has ended, or it waits at a stage of the round that is not filled.
 pub fn courses_stop()
     ensures { CourseStops }
+{}
+
+/// With one delivery more the first post of a slot stays the first, and the least number of deliveries that ends stays;
+/// where there is none, the new string may give it. A string of which nothing is heard, or that says what its slot has,
+/// changes nothing.
+pub fn delivery_laws()
+    ensures first_posts { (c : Configuration) (delivered : List (List ℕ)) (bytes : List ℕ) (slot : Slot) → FirstPostsGrow c delivered bytes slot }
+    ensures contained { FirstPostsContained }
+    ensures least_ending { (c : Configuration) (delivered : List (List ℕ)) (bytes : List ℕ) → LeastEndingGrows c delivered bytes }
+    ensures idle { IdleChangesNothing }
+{}
+
+/// Where nobody is at fault, the result and the posts are read off from the course of all first posts as a whole.
+pub fn whole_course()
+    ensures { WholeCourse }
 {}

@@ -3,4 +3,7 @@
 
 mod laws;
 
-pub use laws::{course_laws, courses_stop, not_unanimous_blames, stands_are_reached, verdict_laws};
+pub use laws::{
+    course_laws, courses_stop, delivery_laws, not_unanimous_blames, stands_are_reached,
+    verdict_laws, whole_course,
+};
