@@ -17,7 +17,8 @@ use Rattle.shuffle_blame.specs.declared.fault.Cause.TheVariants.{View}
 use Rattle.shuffle_blame.specs.declared.fault.Fault.{Fault}
 use Rattle.shuffle_blame.specs.declared.fault.Shown.{Shown}
 use Rattle.shuffle_blame.specs.declared.parts.Part.{Part}
-use Rattle.shuffle_blame.specs.Asked.{AreShown, fault_shown, inquiry_of, shown_by}
+use Rattle.shuffle_blame.specs.Asked.{AreShown, inquiry_of}
+use Rattle.shuffle_blame.specs.Rules.{fault_shown, shown_by}
 use Rattle.shuffle_blame.specs.Replay.{Inquiry, culprit_at, fault, seed_fault, submission_fault, turn_fault, view_fault, vote_fault}
 
 in_turn : (v s u t n : Option Fault) → first_some (v ∷ s ∷ u ∷ t ∷ n ∷ []) ≡ first_some (v ∷ first_some (s ∷ u ∷ t ∷ []) ∷ n ∷ [])

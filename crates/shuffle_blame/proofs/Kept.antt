@@ -18,7 +18,8 @@ use Rattle.stage_log.specs.Table.{Log}
 use Rattle.stage_log.proofs.Pasts.{all_some-is}
 use Rattle.stage_log.proofs.Views.{slice_get-take}
 use Rattle.shuffle_blame.specs.declared.fault.Shown.{Shown}
-use Rattle.shuffle_blame.specs.Asked.{body_kept, body_of_post, inquiry_of}
+use Rattle.shuffle_blame.specs.Asked.{inquiry_of}
+use Rattle.shuffle_blame.specs.Rules.{body_kept, body_of_post}
 use Rattle.shuffle_blame.specs.Replay.{body_in, body_of}
 
 nothing_said : (shape : Shape) → Abort ≡ body_of (content_read shape [])

@@ -7,7 +7,7 @@ use Rattle.phase_message.specs.declared.content.Body.{Body}
 use Rattle.stage_log.specs.Table.{Log}
 use Rattle.shuffle_blame.specs.declared.ended.Ended.{Ended}
 use Rattle.shuffle_blame.specs.declared.parts.Part.{Part}
-use Rattle.shuffle_blame.specs.Asked.{IsEnd, body_kept, body_under, inquiry_at, list_in_order}
+use Rattle.shuffle_blame.specs.Rules.{IsEnd, body_kept, body_under, inquiry_at, list_in_order}
 use Rattle.shuffle_blame.specs.Replay.{Inquiry, OUTER, body_in, has_outer_key, list_of, outer_seed, own_layer_seed, shows_its_seed, submit_stage}
 use Rattle.shuffle_blame.proofs.Loops.{part-opening, part-seed}
 use Rattle.shuffle_blame.proofs.Slots.{keys-said, turn-said}

@@ -11,7 +11,7 @@ use Rattle.shuffle_blame.specs.declared.ended.Ended.{Ended}
 use Rattle.shuffle_blame.specs.declared.fault.Fault.{Fault}
 use Rattle.shuffle_blame.specs.declared.fault.Shown.{Shown}
 use Rattle.shuffle_blame.specs.declared.parts.Part.{Part}
-use Rattle.shuffle_blame.specs.Asked.{inquiry_at, shown_by}
+use Rattle.shuffle_blame.specs.Rules.{inquiry_at, shown_by}
 use Rattle.shuffle_blame.specs.Replay.{Inquiry, first_member, outer_opening, outer_seed, outer_seeds, submission, submissions}
 use Rattle.shuffle_blame.specs.Laws.{IsMember}
 

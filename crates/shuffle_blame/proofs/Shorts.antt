@@ -6,7 +6,7 @@ use Rattle.phase_message.specs.declared.content.Body.{Body}
 use Rattle.phase_message.specs.declared.content.Body.TheVariants.{Keys, Submit, Shuffled, Abort, Go, Reveal, Dispute, Pads, Check, Confirm, Differ}
 use Rattle.phase_message.specs.declared.content.Content.{Content}
 use Rattle.phase_message.specs.Grammar.{body_text, content_text, header_text, kind_number}
-use Rattle.shuffle_blame.specs.Asked.{IsShort}
+use Rattle.shuffle_blame.specs.Rules.{IsShort}
 
 entries_short : (list : List (List ℕ)) (n : ℕ) → length (flat_map (λ entry. entry) list) < n → All (λ entry. length entry < n) list
 entries_short [] n lt k d below = absurd (omega arith)

@@ -14,7 +14,8 @@ use Rattle.stage_log.proofs.Pasts.{some_of}
 use Rattle.shuffle_blame.specs.declared.ended.Ended.{Ended}
 use Rattle.shuffle_blame.specs.declared.fault.Shown.{Shown}
 use Rattle.shuffle_blame.specs.declared.parts.Part.{Part}
-use Rattle.shuffle_blame.specs.Asked.{IsClosing, IsEnd, body_kept, inquiry_at, inquiry_of, shown_by}
+use Rattle.shuffle_blame.specs.Asked.{IsClosing, inquiry_of}
+use Rattle.shuffle_blame.specs.Rules.{IsEnd, body_kept, inquiry_at, shown_by}
 use Rattle.shuffle_blame.specs.Replay.{body_in, submit_stage}
 use Rattle.shuffle_blame.proofs.Endings.{ends_at, submit_there, turn_there}
 use Rattle.shuffle_blame.proofs.Kept.{body_kept-past}

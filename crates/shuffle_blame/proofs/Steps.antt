@@ -9,7 +9,7 @@ use Rattle.layer_cipher.specs.Layer.{Opens, opened_through, peeled}
 use Rattle.layer_cipher.specs.Stripping.{stripped}
 use Rattle.layer_cipher.proofs.LayerLemmas.{layer_adds}
 use Rattle.stage_log.proofs.Pasts.{option_map-some}
-use Rattle.shuffle_blame.specs.Asked.{body_under, list_in_order}
+use Rattle.shuffle_blame.specs.Rules.{body_under, list_in_order}
 use Rattle.shuffle_blame.specs.Replay.{Inquiry, body_in, has_layer, inside, is_order_of, is_passed, is_turn, list_after, list_of, outer_seed, outer_seeds, own_layer_seed, submission, submit_stage}
 use Rattle.shuffle_blame.proofs.Layers.{opened-nil, opened-push, seeds-next}
 

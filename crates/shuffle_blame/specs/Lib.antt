@@ -1,3 +1,4 @@
 pub mod Replay
 pub mod Laws
 pub mod Asked
+pub mod Rules

@@ -4,7 +4,8 @@ ghost use Rattle.std.specs.Prelude.{◌≡◌, ◌∷◌, [], Ok, Some, IsSome, 
 ghost use Rattle.wire_core.specs.Answers.{first_some};
 ghost use Rattle.phase_message.specs.Stages.{kind_of_stage};
 ghost use Rattle.stage_log.specs.Log.{before};
-ghost use Rattle.shuffle_blame.specs.Asked.{AreShown, IsClosing, IsEnd, fault_shown, inquiry_at, inquiry_of};
+ghost use Rattle.shuffle_blame.specs.Asked.{AreShown, IsClosing, inquiry_of};
+ghost use Rattle.shuffle_blame.specs.Rules.{IsEnd, fault_shown, inquiry_at};
 ghost use Rattle.shuffle_blame.specs.Replay.{culprit_of, seed_fault, submission_fault, turn_fault, view_fault};
 
 use crate::ended::Ended;

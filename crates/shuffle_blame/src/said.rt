@@ -1,9 +1,7 @@
 //! What stands in the slots of a log.
 
 ghost use Rattle.std.specs.Prelude.{◌≡◌, ◌<◌, ◌^◌, All, length, IfOk, IfSome};
-ghost use Rattle.std.specs.Option.{option_map};
-ghost use Rattle.ring_encrypt.specs.Capsule.{key_of_seed};
-ghost use Rattle.shuffle_blame.specs.Asked.{IsShort, body_kept};
+ghost use Rattle.shuffle_blame.specs.Rules.{IsShort, body_kept};
 ghost use Rattle.shuffle_blame.specs.Replay.{ciphertext_of, has_outer_key, is_yes, list_of, outer_place};
 
 use phase_message::{Body, Content, DecodeRefusal, Slot, decode};

@@ -1,7 +1,7 @@
 //! The rule of outer seeds.
 
 ghost use Rattle.std.specs.Prelude.{◌≡◌, IfOk};
-ghost use Rattle.shuffle_blame.specs.Asked.{IsEnd, inquiry_at, shown_by};
+ghost use Rattle.shuffle_blame.specs.Rules.{IsEnd, inquiry_at, shown_by};
 ghost use Rattle.shuffle_blame.specs.Replay.{seed_fault};
 
 use crate::ended::Ended;

@@ -1,6 +1,6 @@
 //! The rule of submissions.
 
-ghost use Rattle.std.specs.Prelude.{◌≡◌, ◌<◌, ◌≤◌, ◌-◌, ◌+◌, ◌^◌, [], All, Some, IsSome, IfOk, IfSome, length, map, unwrap_or};
+ghost use Rattle.std.specs.Prelude.{◌≡◌, ◌<◌, ◌≤◌, ◌-◌, ◌+◌, ◌^◌, [], All, Some, IsSome, IfOk, IfSome, length, unwrap_or};
 ghost use Rattle.std.specs.Option.{option_map};
 ghost use Rattle.wire_core.specs.Hash.{layer_seed};
 ghost use Rattle.layer_cipher.specs.Layer.{peeled};
@@ -8,8 +8,8 @@ ghost use Rattle.phase_message.specs.declared.stage.StageKind.TheVariants.{Final
 ghost use Rattle.phase_message.specs.Stages.{kind_of_stage};
 ghost use Rattle.stage_log.specs.Log.{before};
 ghost use Rattle.shuffle_blame.specs.declared.fault.Cause.TheVariants.{Submission};
-ghost use Rattle.shuffle_blame.specs.Asked.{IsEnd, body_under, inquiry_at, inquiry_of};
-ghost use Rattle.shuffle_blame.specs.Replay.{OUTER, fault, layer_fault, submission, submission_fault, submissions};
+ghost use Rattle.shuffle_blame.specs.Rules.{IsEnd, body_under, inquiry_at};
+ghost use Rattle.shuffle_blame.specs.Replay.{fault, layer_fault, submission, submission_fault, submissions};
 
 use crate::ended::Ended;
 use crate::fault::{Cause, Fault};

@@ -1,9 +1,9 @@
 //! The rule of turns.
 
-ghost use Rattle.std.specs.Prelude.{◌≡◌, ◌<◌, ◌^◌, All, IfOk, IfSome, length, map};
+ghost use Rattle.std.specs.Prelude.{◌≡◌, ◌<◌, ◌^◌, All, IfOk, IfSome, length};
 ghost use Rattle.std.specs.Option.{option_map};
 ghost use Rattle.layer_cipher.specs.Stripping.{stripped};
-ghost use Rattle.shuffle_blame.specs.Asked.{IsEnd, body_kept, inquiry_at, list_in_order};
+ghost use Rattle.shuffle_blame.specs.Rules.{IsEnd, body_kept, inquiry_at, list_in_order};
 ghost use Rattle.shuffle_blame.specs.Replay.{list_of, submissions, turn_fault};
 
 use crate::ended::Ended;

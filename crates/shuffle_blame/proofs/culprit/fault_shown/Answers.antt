@@ -8,7 +8,7 @@ use Rattle.phase_message.specs.Stages.{kind_of_stage}
 use Rattle.shuffle_blame.specs.declared.fault.Fault.{Fault}
 use Rattle.shuffle_blame.specs.declared.fault.Shown.{Shown}
 use Rattle.shuffle_blame.specs.declared.parts.Part.{Part}
-use Rattle.shuffle_blame.specs.Asked.{shown_by}
+use Rattle.shuffle_blame.specs.Rules.{shown_by}
 use Rattle.shuffle_blame.proofs.Culprits.{shown-length, shown-told}
 use Rattle.shuffle_blame.proofs.culprit.fault_shown.Goals as goal
 

@@ -7,7 +7,8 @@ use Rattle.phase_message.specs.Stages.{kind_of_stage}
 use Rattle.shuffle_blame.specs.declared.fault.Cause.TheVariants.{View}
 use Rattle.shuffle_blame.specs.declared.fault.Fault.{Fault}
 use Rattle.shuffle_blame.specs.declared.fault.Shown.{Shown}
-use Rattle.shuffle_blame.specs.Asked.{fault_shown, inquiry_of}
+use Rattle.shuffle_blame.specs.Asked.{inquiry_of}
+use Rattle.shuffle_blame.specs.Rules.{fault_shown}
 use Rattle.shuffle_blame.specs.Replay.{Inquiry, culprit_of, fault, view_fault, vote_fault}
 use Rattle.shuffle_blame.proofs.Culprits.{culprit-parts, first-is, second-is, third-is, view-told}
 use Rattle.shuffle_blame.proofs.culprit.replay.Goals as goal

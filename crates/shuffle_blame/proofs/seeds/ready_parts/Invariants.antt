@@ -1,5 +1,5 @@
 use Rattle.std.proofs.Common.{◌≡◌, take}
-use Rattle.shuffle_blame.specs.Asked.{shown_by}
+use Rattle.shuffle_blame.specs.Rules.{shown_by}
 use Rattle.shuffle_blame.proofs.seeds.ready_parts.Given as goal
 
 -- the parts so far

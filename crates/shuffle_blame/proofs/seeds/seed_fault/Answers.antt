@@ -1,7 +1,7 @@
 use Rattle.std.proofs.Common.{◌≡◌, ℕ, true, ap, sym, ◌∙◌, arith}
 use Rattle.phase_message.specs.Shape.{Shape}
 use Rattle.shuffle_blame.specs.declared.fault.Cause.TheVariants.{OuterSeed}
-use Rattle.shuffle_blame.specs.Asked.{inquiry_at}
+use Rattle.shuffle_blame.specs.Rules.{inquiry_at}
 use Rattle.shuffle_blame.specs.Laws.{IsMember}
 use Rattle.shuffle_blame.specs.Replay.{Inquiry, fault, shows_its_seed}
 use Rattle.shuffle_blame.proofs.Loops.{all_pass, one_fails, up_to}

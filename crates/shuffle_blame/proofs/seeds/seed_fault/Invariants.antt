@@ -1,5 +1,5 @@
 use Rattle.std.proofs.Common.{◌≡◌, ◌<◌, ◌≤◌, ℕ, true}
-use Rattle.shuffle_blame.specs.Asked.{inquiry_at}
+use Rattle.shuffle_blame.specs.Rules.{inquiry_at}
 use Rattle.shuffle_blame.specs.Replay.{shows_its_seed}
 use Rattle.shuffle_blame.proofs.seeds.seed_fault.Given as goal
 

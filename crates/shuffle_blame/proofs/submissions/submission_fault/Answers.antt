@@ -4,7 +4,7 @@ use Rattle.std.proofs.lemmas.List.Elements.{All-get_or}
 use Rattle.std.proofs.lemmas.List.FromFn.{length-map-range_with_len}
 use Rattle.phase_message.specs.Shape.{Shape}
 use Rattle.shuffle_blame.specs.declared.fault.Cause.TheVariants.{Submission}
-use Rattle.shuffle_blame.specs.Asked.{inquiry_at}
+use Rattle.shuffle_blame.specs.Rules.{inquiry_at}
 use Rattle.shuffle_blame.specs.Laws.{IsMember}
 use Rattle.shuffle_blame.specs.Replay.{Inquiry, fault, layer_fault, submission, submissions}
 use Rattle.shuffle_blame.proofs.Loops.{first_member-none, first_member-some, submission-at}

@@ -1,5 +1,5 @@
 use Rattle.std.proofs.Common.{◌≡◌, ◌<◌, ◌≤◌, ℕ, None}
-use Rattle.shuffle_blame.specs.Asked.{inquiry_at}
+use Rattle.shuffle_blame.specs.Rules.{inquiry_at}
 use Rattle.shuffle_blame.specs.Replay.{layer_fault}
 use Rattle.shuffle_blame.proofs.submissions.submission_fault.Given as goal
 

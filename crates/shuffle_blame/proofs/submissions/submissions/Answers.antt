@@ -1,7 +1,7 @@
 use Rattle.std.proofs.Common.{◌≡◌, ℕ, ◌+◌, ◌-◌, List, [], ◌∷◌, ◌++◌, ap, sym, ◌∙◌, arith, subst, length, ◌<◌, ◌^◌, All}
 use Rattle.std.proofs.lemmas.List.Elements.{All-push}
 use Rattle.phase_message.specs.Shape.{Shape}
-use Rattle.shuffle_blame.specs.Asked.{body_kept, inquiry_at}
+use Rattle.shuffle_blame.specs.Rules.{body_kept, inquiry_at}
 use Rattle.shuffle_blame.specs.Replay.{Inquiry, ciphertext_of, submission}
 use Rattle.shuffle_blame.proofs.Loops.{submissions-next}
 use Rattle.shuffle_blame.proofs.Slots.{submission-said}

@@ -1,6 +1,6 @@
 use Rattle.std.proofs.Common.{◌≡◌, ◌<◌, ◌-◌, ◌^◌, [], All, length, map}
 use Rattle.std.specs.List.{range_with_len}
-use Rattle.shuffle_blame.specs.Asked.{inquiry_at}
+use Rattle.shuffle_blame.specs.Rules.{inquiry_at}
 use Rattle.shuffle_blame.specs.Replay.{submission}
 use Rattle.shuffle_blame.proofs.submissions.submissions.Given as goal
 

@@ -4,7 +4,7 @@ use Rattle.std.proofs.lemmas.List.{length-map}
 use Rattle.phase_message.specs.Shape.{Shape}
 use Rattle.shuffle_blame.specs.declared.fault.Cause.TheVariants.{Submission}
 use Rattle.shuffle_blame.specs.declared.parts.Part.{Part}
-use Rattle.shuffle_blame.specs.Asked.{inquiry_at}
+use Rattle.shuffle_blame.specs.Rules.{inquiry_at}
 use Rattle.shuffle_blame.specs.Laws.{IsMember}
 use Rattle.shuffle_blame.specs.Replay.{Inquiry, fault, has_layer, inside, submission}
 use Rattle.shuffle_blame.proofs.Looks.{layer-told}

@@ -1,6 +1,6 @@
 use Rattle.std.proofs.Common.{◌≡◌, ◌<◌, ◌≤◌, ◌-◌, ◌^◌, ℕ, Some, length, true}
 use Rattle.std.specs.Prelude.{unwrap_or}
-use Rattle.shuffle_blame.specs.Asked.{inquiry_at}
+use Rattle.shuffle_blame.specs.Rules.{inquiry_at}
 use Rattle.shuffle_blame.specs.Replay.{has_layer, inside, submission}
 use Rattle.shuffle_blame.proofs.submissions.wrong_layer.Given as goal
 

@@ -1,7 +1,7 @@
 use Rattle.std.proofs.Common.{◌≡◌, ℕ, ◌+◌, ◌-◌, ◌≤◌, true, Some, None, ap, sym, ◌∙◌, arith}
 use Rattle.phase_message.specs.Shape.{Shape}
 use Rattle.shuffle_blame.specs.declared.fault.Cause.TheVariants.{Shuffle}
-use Rattle.shuffle_blame.specs.Asked.{inquiry_at}
+use Rattle.shuffle_blame.specs.Rules.{inquiry_at}
 use Rattle.shuffle_blame.specs.Laws.{IsMember}
 use Rattle.shuffle_blame.specs.Replay.{Inquiry, fault, is_turn, list_after}
 use Rattle.shuffle_blame.proofs.Looks.{turn-told}

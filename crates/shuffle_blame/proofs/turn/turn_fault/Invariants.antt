@@ -1,5 +1,5 @@
 use Rattle.std.proofs.Common.{◌≡◌, ◌<◌, ◌≤◌, ◌-◌, ◌^◌, ℕ, Some, All, length, true}
-use Rattle.shuffle_blame.specs.Asked.{inquiry_at}
+use Rattle.shuffle_blame.specs.Rules.{inquiry_at}
 use Rattle.shuffle_blame.specs.Replay.{is_turn, list_after}
 use Rattle.shuffle_blame.proofs.turn.turn_fault.Given as goal
 
