@@ -6,3 +6,5 @@ pub mod Reached
 pub mod Stopping
 pub mod Deliveries
 pub mod Wholes
+pub mod Contained
+pub mod Rows

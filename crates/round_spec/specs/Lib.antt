@@ -8,5 +8,6 @@ pub mod Runs
 pub mod Premises
 pub mod Cases
 pub mod Reached
+pub mod Rows
 pub mod Laws
 pub mod Deliveries

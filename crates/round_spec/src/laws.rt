@@ -4,6 +4,7 @@ ghost use Rattle.std.specs.Prelude.{ℕ, List};
 ghost use Rattle.phase_message.specs.declared.stage.Slot.{Slot};
 ghost use Rattle.round_spec.specs.Cases.{FinalBEnds, OneKind, SparingMeansAgreed, VerdictCases};
 ghost use Rattle.round_spec.specs.Deliveries.{FirstPostsContained, FirstPostsGrow, IdleChangesNothing, LeastEndingGrows, WholeCourse};
+ghost use Rattle.round_spec.specs.Rows.{OnePerSlot, OwnRow, RowPast, RunOfContent, RunUnique};
 ghost use Rattle.round_spec.specs.Say.{Configuration};
 ghost use Rattle.round_spec.specs.Reached.{CourseStops, StandsAreReached};
 ghost use Rattle.round_spec.specs.Laws.{CourseAdds, CourseGrows, CourseEndUnique, NotUnanimousBlames};
@@ -55,4 +56,15 @@ pub fn delivery_laws()
 /// Where nobody is at fault, the result and the posts are read off from the course of all first posts as a whole.
 pub fn whole_course()
     ensures { WholeCourse }
+{}
+
+/// What an honest run sent is what the member had to say by the posts before, of the grammar and under its header. The
+/// past at a stage is the front of each later one. A member has at most one run in a round, which sent all contents of it
+/// that its runs sent, and of these no two stand in one slot.
+pub fn row_laws()
+    ensures own { OwnRow }
+    ensures past { RowPast }
+    ensures run { RunOfContent }
+    ensures one_run { RunUnique }
+    ensures one_per_slot { OnePerSlot }
 {}
