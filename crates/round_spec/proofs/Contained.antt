@@ -50,9 +50,9 @@ pub contains-filter : {A : Type 0} (p : A → Bool) (xs : List A) (x : A) → Co
 contains-filter p [] x c = absurd (contains-nothing x c)
 contains-filter {A} p (y ∷ xs) x c = elim (cases_Bool (p y)) [
   | inl passes ↦ elim (contains-cases y (filter p xs) x (subst (λ (ys : List A). Contains ys x) (cond-true (p y) (y ∷ filter p xs) (filter p xs) passes) c)) [
-      | inl here ↦ ((0, omega arith, here), sym (ap p here) ∙ passes)
-      | inr later ↦ (let found = contains-filter p xs x later in (contains-later y xs x found.0, found.1))
-    ]
+    | inl here ↦ ((0, omega arith, here), sym (ap p here) ∙ passes)
+    | inr later ↦ (let found = contains-filter p xs x later in (contains-later y xs x found.0, found.1))
+  ]
   | inr fails ↦ (let found = contains-filter p xs x (subst (λ (ys : List A). Contains ys x) (cond-false (p y) (y ∷ filter p xs) (filter p xs) fails) c) in (contains-later y xs x found.0, found.1))
 ]
 
@@ -61,9 +61,9 @@ contains-filter-from p [] x c e = absurd (contains-nothing x c)
 contains-filter-from {A} p (y ∷ xs) x c e = elim (contains-cases y xs x c) [
   | inl here ↦ subst (λ (ys : List A). Contains ys x) (sym (cond-true (p y) (y ∷ filter p xs) (filter p xs) (ap p here ∙ e))) (0, omega arith, here)
   | inr later ↦ elim (cases_Bool (p y)) [
-      | inl passes ↦ subst (λ (ys : List A). Contains ys x) (sym (cond-true (p y) (y ∷ filter p xs) (filter p xs) passes)) (contains-later y (filter p xs) x (contains-filter-from p xs x later e))
-      | inr fails ↦ subst (λ (ys : List A). Contains ys x) (sym (cond-false (p y) (y ∷ filter p xs) (filter p xs) fails)) (contains-filter-from p xs x later e)
-    ]
+    | inl passes ↦ subst (λ (ys : List A). Contains ys x) (sym (cond-true (p y) (y ∷ filter p xs) (filter p xs) passes)) (contains-later y (filter p xs) x (contains-filter-from p xs x later e))
+    | inr fails ↦ subst (λ (ys : List A). Contains ys x) (sym (cond-false (p y) (y ∷ filter p xs) (filter p xs) fails)) (contains-filter-from p xs x later e)
+  ]
 ]
 
 pub contains-filter_map : {A B : Type 0} (h : A → Option B) (xs : List A) (y : B) → Contains (filter_map h xs) y → (x : A) × Contains xs x × (h x ≡ Some y)

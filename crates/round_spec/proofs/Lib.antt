@@ -8,3 +8,5 @@ pub mod Deliveries
 pub mod Wholes
 pub mod Contained
 pub mod Rows
+pub mod OwnBytes
+pub mod Beginnings

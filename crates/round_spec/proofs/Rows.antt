@@ -106,13 +106,14 @@ run_unique roster runs number round run other honest is is_other = by_place is.l
         let far = honest.apart k l a lt within in
         let both : AreApart a b = subst (λ (x : Run). AreApart x b) at (subst (λ (y : Run). AreApart (slice_index_or runs k a) y) (at-place runs l b a within there) far) in
         both numbers rounds
+
     by_place : Contains runs run → Contains runs other → run ≡ other
     by_place (k, lt, at) (l, lt', there) = elim (cases_lt k l) [
       | inl earlier ↦ absurd (apart k l run other earlier lt' at there (is.number ∙ sym is_other.number) (is.round ∙ sym is_other.round))
       | inr later ↦ elim (cases_lt l k) [
-          | inl before ↦ absurd (apart l k other run before lt there at (is_other.number ∙ sym is.number) (is_other.round ∙ sym is.round))
-          | inr same ↦ (let e : l ≡ k = omega arith in sym at ∙ sym (ap (λ (m : ℕ). slice_index_or runs m run) e) ∙ at-place runs l other run lt' there)
-        ]
+        | inl before ↦ absurd (apart l k other run before lt there at (is_other.number ∙ sym is.number) (is_other.round ∙ sym is.round))
+        | inr same ↦ (let e : l ≡ k = omega arith in sym at ∙ sym (ap (λ (m : ℕ). slice_index_or runs m run) e) ∙ at-place runs l other run lt' there)
+      ]
     ]
 
 some-post : (x y : Post) → (let told : Post → Option Post = λ z. Some z in told x ≡ told y) → x ≡ y

@@ -9,5 +9,6 @@ pub mod Premises
 pub mod Cases
 pub mod Reached
 pub mod Rows
+pub mod Beginnings
 pub mod Laws
 pub mod Deliveries
