@@ -270,6 +270,18 @@ keys-kept c slot post is kept = by_slot (cases_Bool (is_slot (shape_in c) slot.s
               (sym (get_or-set_other (replicate (slot_count (shape_in c)) nothing) own_number number (Some (keys_post c)) None other ∙ get_or-replicate (slot_count (shape_in c)) number nothing None most))) ∙ kept))
         ]
 
+pub keys-there : (c : Configuration) → IsConfiguration c → kept_in (keys_run c).log (own_slot (keys_run c) 0) ≡ Some (keys_post c)
+unfolding nothing
+keys-there c is =
+    let own : Slot = record { stage = 0; sender = c.number } in
+    let number : ℕ = slot_number (shape_in c) 0 c.number in
+    let most = slot_number-most (shape_in c) 0 c.number (own-speaks c is) in
+    let long = length-replicate (slot_count (shape_in c)) nothing in
+    kept_in-at (keys_run c).log own number (Some (keys_post c))
+    (filled-is_log (empty_log (shape_in c)) own (keys_post c) (empty-is_log c is) (record { least = (keys-sized c is).0; most = (keys-sized c is).1 }))
+    (own-speaks c is) refl
+    (sym (get_or-set_same (replicate (slot_count (shape_in c)) nothing) number (Some (keys_post c)) (Some (keys_post c)) (omega (arith, most, long))))
+
 keys-honest : (c : Configuration) → IsConfiguration c → HonestRun (keys_run c)
 keys-honest c is = record {
   config = is;

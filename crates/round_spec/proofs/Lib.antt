@@ -10,3 +10,4 @@ pub mod Contained
 pub mod Rows
 pub mod OwnBytes
 pub mod Beginnings
+pub mod Unforged

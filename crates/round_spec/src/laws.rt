@@ -4,7 +4,7 @@ ghost use Rattle.std.specs.Prelude.{ℕ, List};
 ghost use Rattle.phase_message.specs.declared.stage.Slot.{Slot};
 ghost use Rattle.round_spec.specs.Cases.{FinalBEnds, OneKind, SparingMeansAgreed, VerdictCases};
 ghost use Rattle.round_spec.specs.Deliveries.{FirstPostsContained, FirstPostsGrow, IdleChangesNothing, LeastEndingGrows, WholeCourse};
-ghost use Rattle.round_spec.specs.Beginnings.{BeginningsAreHonest, ListsAreHonest, NothingIsForged};
+ghost use Rattle.round_spec.specs.Beginnings.{BeginningsAreHonest, KeysAreNotForged, ListsAreHonest, NothingIsForged};
 ghost use Rattle.round_spec.specs.Rows.{OnePerSlot, OwnRow, RowPast, RunOfContent, RunUnique};
 ghost use Rattle.round_spec.specs.Say.{Configuration};
 ghost use Rattle.round_spec.specs.Reached.{CourseStops, StandsAreReached};
@@ -72,9 +72,10 @@ pub fn row_laws()
 
 /// The definitions are not empty. The run of a member that has said nothing is honest, and so is that of one that has
 /// said its keys, for every configuration whose key is the roster's; lists of such runs are honest; and nothing is forged
-/// where nothing is delivered.
+/// where nothing is delivered, or the keys alone that such runs said.
 pub fn beginning_laws()
     ensures runs { BeginningsAreHonest }
     ensures lists { ListsAreHonest }
     ensures nothing { NothingIsForged }
+    ensures keys { KeysAreNotForged }
 {}
