@@ -11,3 +11,4 @@ pub mod Rows
 pub mod OwnBytes
 pub mod Beginnings
 pub mod Unforged
+pub mod Settling

@@ -108,7 +108,7 @@ pub behind-at : (c : Configuration) (stand : Stand) (posts : List Post) → (sta
 unfolding stand_behind
 behind-at c stand posts = refl
 
-open-goes : (verdict : Verdict) → is_open verdict ≡ true → verdict ≡ Goes
+pub open-goes : (verdict : Verdict) → is_open verdict ≡ true → verdict ≡ Goes
 open-goes Goes e = refl
 open-goes Done e = absurd cc
 open-goes (Convicts t) e = absurd cc

@@ -10,5 +10,6 @@ pub mod Cases
 pub mod Reached
 pub mod Rows
 pub mod Beginnings
+pub mod Settled
 pub mod Laws
 pub mod Deliveries

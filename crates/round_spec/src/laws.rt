@@ -4,6 +4,7 @@ ghost use Rattle.std.specs.Prelude.{ℕ, List};
 ghost use Rattle.phase_message.specs.declared.stage.Slot.{Slot};
 ghost use Rattle.round_spec.specs.Cases.{FinalBEnds, OneKind, SparingMeansAgreed, VerdictCases};
 ghost use Rattle.round_spec.specs.Deliveries.{FirstPostsContained, FirstPostsGrow, IdleChangesNothing, LeastEndingGrows, WholeCourse};
+ghost use Rattle.round_spec.specs.Settled.{OwnPostsSettled};
 ghost use Rattle.round_spec.specs.Beginnings.{BeginningsAreHonest, KeysAreNotForged, ListsAreHonest, NothingIsForged};
 ghost use Rattle.round_spec.specs.Rows.{OnePerSlot, OwnRow, RowPast, RunOfContent, RunUnique};
 ghost use Rattle.round_spec.specs.Say.{Configuration};
@@ -78,4 +79,10 @@ pub fn beginning_laws()
     ensures lists { ListsAreHonest }
     ensures nothing { NothingIsForged }
     ensures keys { KeysAreNotForged }
+{}
+
+/// In the log that a member keeps its own post at a stage is there exactly where all stages before are complete and no
+/// closing stage before has a verdict that ends the round, and it is what the member has to say by the posts before.
+pub fn own_posts_settled()
+    ensures { OwnPostsSettled }
 {}

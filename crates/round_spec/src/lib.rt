@@ -4,6 +4,6 @@
 mod laws;
 
 pub use laws::{
-    beginning_laws, course_laws, courses_stop, delivery_laws, not_unanimous_blames, row_laws,
-    stands_are_reached, verdict_laws, whole_course,
+    beginning_laws, course_laws, courses_stop, delivery_laws, not_unanimous_blames,
+    own_posts_settled, row_laws, stands_are_reached, verdict_laws, whole_course,
 };
