@@ -18,7 +18,7 @@ use Rattle.phase_message.specs.declared.stage.StageKind.{StageKind}
 use Rattle.phase_message.specs.declared.stage.StageKind.TheVariants.{Keys as AtKeys, Submit as AtSubmit, Shuffle as AtShuffle, Go as AtGo, Final as AtFinal, Pad as AtPad, Check as AtCheck, Confirm as AtConfirm}
 use Rattle.phase_message.specs.Body.{body_form, form_of}
 use Rattle.phase_message.specs.Slots.{slots_before}
-use Rattle.phase_message.specs.Stages.{kind_of_stage}
+use Rattle.phase_message.specs.Stages.{kind_of_stage, vote_of}
 use Rattle.phase_message.specs.declared.header.Header.{Header}
 use Rattle.phase_message.specs.declared.post.Post.{Post}
 use Rattle.phase_message.specs.Grammar.{IsBody, OfGrammar, content_text, kind_number}
@@ -45,16 +45,18 @@ use Rattle.transcript_form.specs.Claim.{claim_posts}
 use Rattle.transcript_form.specs.Form.{claim_read, transcript_read}
 use Rattle.transcript_form.proofs.Transcripts.{transcript_read-found, transcript_read-again, claim_read-transcript, transcript-bytes}
 use Rattle.judge_core.specs.declared.failed_check.FailedCheck.{FailedCheck}
-use Rattle.judge_core.specs.declared.failed_check.FailedCheck.TheVariants.{Form, Post as RefusedPost, Slot, Body as FailedBody, Kind, Same, WellFormed, SeedFits}
+use Rattle.judge_core.specs.declared.failed_check.FailedCheck.TheVariants.{Form, Post as RefusedPost, Slot, Body as FailedBody, Kind, Same, WellFormed, SeedFits, Justified}
 use Rattle.judge_core.specs.declared.judging.Accepted.{Accepted}
-use Rattle.judge_core.specs.Accepts.{Equivocates, SaysMalformed, RevealsWrongSeed, Convicts, Accepts}
-use Rattle.judge_core.specs.Checks.{content_of, is_decided, undecided, is_asked, is_final_stage, is_keys_stage, is_kind_asked, is_of_bodies, is_seed_right, is_slot_asked, heard_of, taken_of, own_failure, conviction_of, judgement_of, printed_judgement_of, AcceptsExactly}
+use Rattle.judge_core.specs.Accepts.{Equivocates, SaysMalformed, RevealsWrongSeed, ShowsBadLog, Convicts, Accepts}
+use Rattle.judge_core.specs.Checks.{content_of, is_decided, undecided, is_asked, is_closing_stage, is_final_stage, is_keys_stage, is_kind_asked, is_of_bodies, is_seed_right, is_slot_asked, heard_of, taken_of, own_failure, conviction_of, judgement_of, printed_judgement_of, AcceptsExactly}
 use Rattle.judge_core.specs.Case.{Case, Said, case_of_transcript}
 use Rattle.judge_core.specs.Pad.{is_reveal}
+use Rattle.std.specs.Prelude.{IsSome, is_some, option_and_then}
+use Rattle.judge_core.specs.Closing.{is_justified_in, is_read_justified}
 use Rattle.judge_core.specs.WrongSeed.{inner_key, is_seed_in, is_seed_of_key}
 use Rattle.judge_core.specs.Failures.{failure_of_check}
 use Rattle.judge_core.specs.Framing.{EachOfGrammar, GivesNoGround, OnePerSlot, SaidBy, NobodyIsFramed}
-use Rattle.judge_core.proofs.Hearings.{BothHeard, both_heard, two-both, other_contents, other_seed, OneHeard, one_heard, one-heard, unformed, taken-plain, taken-heard, taken-read, taken-again}
+use Rattle.judge_core.proofs.Hearings.{BothHeard, both_heard, two-both, other_contents, other_seed, unborne, is-closing, OneHeard, one_heard, one-heard, unformed, taken-plain, taken-heard, taken-read, taken-again}
 
 -- ---- a listed post
 
@@ -402,6 +404,50 @@ one-again roster t is fits m =
     front_bytes : (post : List ℕ) → AllByRecursion IsBytes (post ∷ []) → IsBytes post
     front_bytes post fits = fits.0
 
+-- ---- BadLog
+
+closing-is : (o : Option StageKind) → IsSome (option_and_then vote_of o) → is_closing_stage o ≡ true
+closing-is o e = some_of (option_and_then vote_of o) e
+  where
+    some_of : (o : Option StageKind) → IsSome o → is_some o ≡ true
+    some_of (Some kind) e = refl
+    some_of None e = absurd cc
+
+log-found : (roster : Roster) (t : Transcript) (only : List ℕ) → t.claim ≡ BadLog → t.posts ≡ only ∷ [] → IsBytes only → OneHeard (case_of_transcript roster t) only → ShowsBadLog roster t
+log-found roster t only is posts fits one =
+    let case = case_of_transcript roster t in
+    let shape = shape_of_roster roster in
+    let taken = taken-found case None 1 only one.a (ap is_of_bodies is) fits one.heard in
+    let parts = and_parts (one.a.header.sender == t.accused) (is_closing_stage (kind_of_stage shape one.a.header.stage)) (asked-found case BadLog None 1 one.a.header is taken.asked) in
+    let wrong = not-true (is_justified_in case one.a) (fault_unless-holds (not (is_justified_in case one.a)) Justified (subst (λ (c : Claim). own_failure c case (one.a ∷ []) ≡ None) is one.passes)) in
+    record {
+      post = only;
+      listed = posts;
+      content = taken.content;
+      file = taken.file;
+      sender = ap (λ (h : Header). h.sender) taken.header_is ∙ eqb-true _ _ parts.0;
+      closing = subst (λ (h : Header). IsSome (option_and_then vote_of (kind_of_stage shape h.stage))) (sym taken.header_is) (is-closing (kind_of_stage shape one.a.header.stage) parts.1);
+      unjustified = sym (ap (is_read_justified roster t.round) taken.reads) ∙ wrong;
+    }
+
+log-again : (roster : Roster) (t : Transcript) → t.claim ≡ BadLog → ShowsBadLog roster t → conviction_of (case_of_transcript roster t) t.posts ≡ Ok tt
+log-again roster t is m =
+    let case = case_of_transcript roster t in
+    let shape = shape_of_roster roster in
+    let a : Said = record { header = m.content.header; content = m.file.text } in
+    let sender : (m.content.header.sender == t.accused) ≡ true = eq-eqb _ _ m.sender in
+    let closing : is_closing_stage (kind_of_stage shape m.content.header.stage) ≡ true = closing-is (kind_of_stage shape m.content.header.stage) m.closing in
+    let asked : is_asked case None 1 m.content.header ≡ true = asked-again case BadLog None 1 m.content.header is (both _ _ sender closing) in
+    let kind : is_kind_asked case.claim None m.content.body ≡ true = subst (λ (c : Claim). is_kind_asked c None m.content.body ≡ true) (sym is) refl in
+    ap (conviction_of case) m.listed
+    ∙ one-heard case m.post a (file-taken case None 1 m.post m.content m.file asked kind)
+    ∙ unborne case a is (ap (is_read_justified roster t.round) m.file.reads ∙ m.unjustified)
+  where
+    both : (x y : Bool) → x ≡ true → y ≡ true → (x && y) ≡ true
+    both true true e f = refl
+    both true false e f = absurd cc
+    both false y e f = absurd cc
+
 -- ---- by claim
 
 convicts-found : (roster : Roster) (t : Transcript) (claim : Claim) → t.claim ≡ claim → is_decided claim ≡ true → length t.posts ≡ claim_posts (shape_of_roster roster) claim → AllByRecursion IsBytes t.posts
@@ -427,7 +473,13 @@ convicts-found roster t WrongSeed is decided count fits e =
   where
     two_bytes : (a b : List ℕ) → AllByRecursion IsBytes (a ∷ b ∷ []) → IsBytes a × IsBytes b
     two_bytes a b fits = (fits.0, fits.1.0)
-convicts-found roster t BadLog is decided count fits e = absurd cc
+convicts-found roster t BadLog is decided count fits e =
+    let one = one_listed t.posts count in
+    let bytes : IsBytes one.0 = only_bytes one.0 (subst (λ (x : List (List ℕ)). AllByRecursion IsBytes x) one.1 fits) in
+    log-found roster t one.0 is one.1 bytes (one_heard (case_of_transcript roster t) one.0 (sym (ap (conviction_of (case_of_transcript roster t)) one.1) ∙ e))
+  where
+    only_bytes : (a : List ℕ) → AllByRecursion IsBytes (a ∷ []) → IsBytes a
+    only_bytes a fits = fits.0
 convicts-found roster t Replay is decided count fits e = absurd cc
 convicts-found roster t Pad is decided count fits e = absurd cc
 
@@ -435,7 +487,7 @@ convicts-again : (roster : Roster) (t : Transcript) (claim : Claim) → t.claim 
 convicts-again roster t Equivocation is fits convicts = (refl, two-again roster t is convicts)
 convicts-again roster t Malformed is fits convicts = (refl, one-again roster t is fits convicts)
 convicts-again roster t WrongSeed is fits convicts = (refl, seed-again roster t is convicts)
-convicts-again roster t BadLog is fits convicts = absurd convicts
+convicts-again roster t BadLog is fits convicts = (refl, log-again roster t is convicts)
 convicts-again roster t Replay is fits convicts = absurd convicts
 convicts-again roster t Pad is fits convicts = absurd convicts
 

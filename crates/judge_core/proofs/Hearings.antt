@@ -13,11 +13,24 @@ use Rattle.phase_message.specs.Offence.{content_read}
 use Rattle.phase_message.specs.declared.content.Content.{Content}
 use Rattle.group_roster.specs.Roster.{shape_of_roster}
 use Rattle.transcript_form.specs.declared.claim.Claim.{Claim}
-use Rattle.transcript_form.specs.declared.claim.Claim.TheVariants.{Equivocation, Malformed, WrongSeed}
+use Rattle.transcript_form.specs.declared.claim.Claim.TheVariants.{Equivocation, Malformed, WrongSeed, BadLog}
 use Rattle.judge_core.specs.declared.failed_check.FailedCheck.{FailedCheck}
-use Rattle.judge_core.specs.declared.failed_check.FailedCheck.TheVariants.{Body as FailedBody, Same, WellFormed, SeedFits}
-use Rattle.judge_core.specs.Checks.{WantsMemory, content_of, heard_of, taken_of, hearing_of, is_of_bodies, is_seed_right, own_failure, conviction_of}
-use Rattle.judge_core.specs.Case.{Case, Said}
+use Rattle.judge_core.specs.declared.failed_check.FailedCheck.TheVariants.{Body as FailedBody, Same, WellFormed, SeedFits, Justified, Post as RefusedPost, Slot}
+use Rattle.judge_core.specs.Checks.{WantsMemory, content_of, conviction_of, heard_of, hearing_of, is_asked, is_closing_stage, is_of_bodies, is_seed_right, is_slot_asked, own_failure, taken_of}
+use Rattle.std.proofs.Common.{subst}
+use Rattle.std.specs.Prelude.{IsSome, is_some, option_and_then}
+use Rattle.std.proofs.lemmas.Bool.{not-false}
+use Rattle.wire_core.specs.declared.cursor.Short.{Short}
+use Rattle.wire_core.proofs.Readings.{guard_ok}
+use Rattle.phase_message.specs.declared.stage.StageKind.{StageKind}
+use Rattle.phase_message.specs.Header.{header_of}
+use Rattle.phase_message.specs.Stages.{kind_of_stage, vote_of}
+use Rattle.signed_post.specs.declared.post.PostRefusal.{PostRefusal}
+use Rattle.signed_post.specs.declared.post.PostRefusal.TheVariants.{Frame}
+use Rattle.signed_post.specs.Admission.{admission_of_bytes, framed_admission_of, header_refusal}
+use Rattle.signed_post.specs.Frame.{frame_of}
+use Rattle.judge_core.specs.Closing.{IsClosingPost, is_justified_in}
+use Rattle.judge_core.specs.Case.{Case, Said, shape_in}
 
 -- two posts are all
 pub two_posts : (posts rest others : List (List ℕ)) (first second : List ℕ) → posts ≡ first ∷ rest → rest ≡ second ∷ others → length posts ≡ 2 → posts ≡ first ∷ second ∷ []
@@ -210,3 +223,64 @@ taken-grammar case first number bytes said bodies e =
 pub two-wants : (case : Case) (first second : List ℕ) (a b : Said) → is_of_bodies case.claim ≡ true → taken_of case None 1 first ≡ Ok a → taken_of case (Some a.header) 2 second ≡ Ok b → WantsMemory case (first ∷ second ∷ [])
 unfolding hearing_of
 two-wants case first second a b bodies e1 e2 = (bodies, rw (e1, e2) refl)
+
+pub one-wants : (case : Case) (only : List ℕ) (a : Said) → is_of_bodies case.claim ≡ true → taken_of case None 1 only ≡ Ok a → WantsMemory case (only ∷ [])
+unfolding hearing_of
+one-wants case only a bodies e = (bodies, rw e refl)
+
+-- what BadLog asks of what it says
+pub borne_out : (case : Case) (a : Said) → case.claim ≡ BadLog → is_justified_in case a ≡ true → verdict (own_failure case.claim case (a ∷ [])) ≡ Err Justified
+borne_out case a is justified =
+    ap (λ (c : Claim). verdict (own_failure c case (a ∷ []))) is ∙ ap (λ (b : Bool). verdict (fault_unless (not b) Justified)) justified
+
+pub unborne : (case : Case) (a : Said) → case.claim ≡ BadLog → is_justified_in case a ≡ false → verdict (own_failure case.claim case (a ∷ [])) ≡ Ok tt
+unborne case a is other =
+    ap (λ (c : Claim). verdict (own_failure c case (a ∷ []))) is ∙ ap (λ (b : Bool). verdict (fault_unless (not b) Justified)) other
+
+-- ---- the header of what is heard
+
+is-closing-some : (o : Option StageKind) → is_some o ≡ true → IsSome o
+is-closing-some (Some kind) e = refl
+is-closing-some None e = absurd cc
+
+pub is-closing : (o : Option StageKind) → is_closing_stage o ≡ true → IsSome (option_and_then vote_of o)
+is-closing o e = is-closing-some (option_and_then vote_of o) e
+
+abbrev header_ok : Header → Result Header Short
+header_ok header = Ok header
+
+abbrev admitted_ok : Header × List ℕ → Result (Header × List ℕ) PostRefusal
+admitted_ok x = Ok x
+
+-- its content begins with its header, and the claim asks for it
+pub heard-parts : (case : Case) (first : Option Header) (number : ℕ) (bytes : List ℕ) (x : Said) → heard_of case first number bytes ≡ Ok x → (header_of x.content ≡ Ok x.header) × (is_asked case first number x.header ≡ true)
+unfolding heard_of framed_admission_of
+heard-parts case first number bytes x e =
+    let a = bind_ok (fault_as (λ refusal. RefusedPost number refusal) (admission_of_bytes case.roster case.round bytes)) _ x e in
+    let said : Said = record { header = a.0.0; content = a.0.1 } in
+    let asked = guard_ok (not (is_asked case first number a.0.0)) (Slot number a.0.0.stage) said x a.2 in
+    let found = fault_as_ok (λ refusal. RefusedPost number refusal) (admission_of_bytes case.roster case.round bytes) a.0 a.1 in
+    let framed = bind_ok (fault_as (λ at. Frame at) (frame_of bytes)) _ a.0 found in
+    let header = bind_ok (framed_admission_of case.roster case.round framed.0) _ a.0 framed.2 in
+    let reads = bind_ok (fault_as (λ (short : Short). Frame 0) (header_of framed.0.content)) (λ header. value_unless (header_refusal case.roster case.round framed.0 header) header) header.0 header.1 in
+    let kept = value_unless-ok (header_refusal case.roster case.round framed.0 reads.0) reads.0 header.0 reads.2 in
+    let same : (header.0, framed.0.content) ≡ a.0 = (let e : admitted_ok (header.0, framed.0.content) ≡ admitted_ok a.0 = header.2 in cc) in
+    let is : header_of framed.0.content ≡ Ok header.0 = fault_as_ok (λ (short : Short). Frame 0) (header_of framed.0.content) reads.0 reads.1 ∙ ap header_ok kept.1 in
+    let there : header_of a.0.1 ≡ Ok a.0.0 = subst (λ (y : Header × List ℕ). header_of y.1 ≡ Ok y.0) same is in
+    subst (λ (x : Said). (header_of x.content ≡ Ok x.header) × (is_asked case first number x.header ≡ true)) asked.1 (there, not-false (is_asked case first number a.0.0) asked.0)
+
+-- a closing post that is taken
+pub closing-post : (case : Case) (first : Option Header) (number : ℕ) (bytes : List ℕ) (said : Said) → is_of_bodies case.claim ≡ true → taken_of case first number bytes ≡ Ok said
+    → is_closing_stage (kind_of_stage (shape_in case) said.header.stage) ≡ true → IsClosingPost case said
+closing-post case first number bytes said bodies e closing =
+    record {
+      grammar = taken-grammar case first number bytes said bodies e;
+      header = (heard-parts case first number bytes said (taken-heard case first number bytes said e)).0;
+      closing = is-closing (kind_of_stage (shape_in case) said.header.stage) closing;
+    }
+
+-- of a claim's slot what it asks for
+pub asked-as : (case : Case) (claim : Claim) (first : Option Header) (number : ℕ) (bytes : List ℕ) (said : Said) → case.claim ≡ claim → taken_of case first number bytes ≡ Ok said
+    → is_slot_asked claim case (kind_of_stage (shape_in case) said.header.stage) first number said.header ≡ true
+asked-as case claim first number bytes said is e =
+    subst (λ (c : Claim). is_slot_asked c case (kind_of_stage (shape_in case) said.header.stage) first number said.header ≡ true) is (heard-parts case first number bytes said (taken-heard case first number bytes said e)).1

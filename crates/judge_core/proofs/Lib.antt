@@ -1,3 +1,6 @@
 pub mod Hearings
 pub mod BodyKinds
+pub mod EmbeddedLogs
+pub mod EmbeddedPosts
+pub mod Justified
 pub mod Convictions

@@ -1,5 +1,5 @@
 -- What convicts a member.
-use Rattle.std.specs.Prelude.{◌≡◌, ◌≢◌, ℕ, List, [], ◌∷◌, Some}
+use Rattle.std.specs.Prelude.{◌≡◌, ◌≢◌, ℕ, List, [], ◌∷◌, Some, false}
 use Rattle.phase_message.specs.declared.content.Body.TheVariants.{Keys, Reveal}
 use Rattle.phase_message.specs.declared.content.Content.{Content}
 use Rattle.phase_message.specs.declared.header.Header.{Header}
@@ -9,8 +9,10 @@ use Rattle.phase_message.specs.Stages.{kind_of_stage}
 use Rattle.ring_encrypt.specs.Capsule.{key_of_seed}
 use Rattle.group_roster.specs.Roster.{Roster, shape_of_roster}
 use Rattle.signed_post.specs.Admission.{IsPostFile, Says}
+use Rattle.go_nogo.specs.Closing.{IsClosing}
+use Rattle.round_spec.specs.Embedded.{is_content_justified}
 use Rattle.transcript_form.specs.declared.claim.Claim.{Claim}
-use Rattle.transcript_form.specs.declared.claim.Claim.TheVariants.{Equivocation, Malformed, WrongSeed}
+use Rattle.transcript_form.specs.declared.claim.Claim.TheVariants.{Equivocation, Malformed, WrongSeed, BadLog}
 use Rattle.transcript_form.specs.declared.transcript.Transcript.{Transcript}
 use Rattle.transcript_form.specs.Transcript.{IsTranscript, transcript_spelling}
 use Rattle.judge_core.specs.WrongSeed.{inner_key}
@@ -61,11 +63,22 @@ pub record RevealsWrongSeed (roster : Roster) (t : Transcript) : Type 0 where
   pub final_stage : kind_of_stage (shape_of_roster roster) final_header.stage ≡ Some (Final shuffle)
   pub other : key_of_seed seed ≢ inner_key shuffle keys
 
+-- BadLog: the transcript lists a closing post of the accused, whose content is not justified.
+pub record ShowsBadLog (roster : Roster) (t : Transcript) : Type 0 where
+  pub post : List ℕ
+  pub listed : t.posts ≡ post ∷ []
+  pub content : Content
+  pub file : IsPostFile roster t.round post content
+  pub sender : content.header.sender ≡ t.accused
+  pub closing : IsClosing (shape_of_roster roster) content
+  pub unjustified : is_content_justified roster t.round content ≡ false
+
 -- what a claim asks of the listed posts; no other claim is decided yet
 abbrev pub Convicts : Roster → Transcript → Claim → Type 0
 Convicts roster t Equivocation = Equivocates roster t
 Convicts roster t Malformed = SaysMalformed roster t
 Convicts roster t WrongSeed = RevealsWrongSeed roster t
+Convicts roster t BadLog = ShowsBadLog roster t
 Convicts roster t claim = ⊥
 
 -- bytes convict a member under a roster: they spell a transcript with that accused and claim, and its

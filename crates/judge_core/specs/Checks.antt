@@ -38,11 +38,12 @@ use Rattle.judge_core.specs.WrongSeed.{is_seed_of_key}
 
 -- ---- the claims that are decided
 
--- whether a claim is decided: BadLog, Replay and Pad are not so far
+-- whether a claim is decided: Replay and Pad are not so far
 abbrev pub is_decided : Claim → Bool
 is_decided Equivocation = true
 is_decided Malformed = true
 is_decided WrongSeed = true
+is_decided BadLog = true
 is_decided claim = false
 
 -- any other claim fails the form, at its byte

@@ -2,6 +2,7 @@ pub mod Accepts
 pub mod Case
 pub mod Checks
 pub mod Closing
+pub mod Embedding
 pub mod Failures
 pub mod Framing
 pub mod Pad

@@ -13,6 +13,7 @@ ghost use Rattle.judge_core.specs.Checks.{JudgingWantsMemory, WantsMemory, convi
 ghost use Rattle.judge_core.specs.Case.{case_of};
 ghost use Rattle.judge_core.specs.Framing.{GivesNoGround, ListsSaid};
 
+use crate::bad_log::bad_log;
 use crate::failed_check::{FailedCheck, Unjudged};
 use crate::hearing::{Case, hear};
 use crate::wrong_seed::wrong_seed;
@@ -87,7 +88,7 @@ fn is_decided(claim: Claim) -> bool
 {
     matches!(
         claim,
-        Claim::Equivocation | Claim::Malformed | Claim::WrongSeed
+        Claim::Equivocation | Claim::Malformed | Claim::WrongSeed | Claim::BadLog
     )
 }
 
@@ -102,6 +103,7 @@ fn convict(alloc: Global, case: Case<'_>, posts: ListedPosts<'_>) -> Result<(), 
         Claim::Equivocation => Ok(equivocation(case, posts)?),
         Claim::Malformed => Ok(malformed(case, posts)?),
         Claim::WrongSeed => wrong_seed(alloc, case, posts),
+        Claim::BadLog => bad_log(alloc, case, posts),
         _ => unreachable!(),
     }
 }

@@ -1,6 +1,8 @@
 //! The judge of transcripts: what convicts a member, and the first check that a transcript fails.
 #![tactic(auto)]
 
+mod bad_log;
+mod embedding;
 #[cfg(test)]
 mod evidence;
 mod failed_check;
@@ -12,6 +14,7 @@ mod reading;
 mod stored_evidence;
 mod wrong_seed;
 
+pub use embedding::{EmbeddedRefusal, embedded};
 pub use failed_check::FailedCheck;
 pub use judging::{Accepted, judge};
 pub use laws::{checks_are_exact, nobody_is_framed};

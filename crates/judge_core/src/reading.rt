@@ -2,6 +2,7 @@
 
 ghost use Rattle.group_roster.specs.Given.{roster_of};
 ghost use Rattle.std.specs.Prelude.{◌≡◌, ◌<◌, ◌^◌, length, IfOk, IsOk, Ok};
+ghost use Rattle.phase_message.specs.Grammar.{OfGrammar};
 ghost use Rattle.phase_message.specs.Offence.{content_read};
 ghost use Rattle.phase_message.specs.Stages.{shape_of};
 
@@ -13,7 +14,8 @@ use wire_core::Mem;
 pub(crate) fn read_content(alloc: Global, shape: Shape, bytes: &[u8]) -> Mem<Content>
     requires short { length bytes.now < 2 ^ 32 }
     requires grammar { IsOk (content_read (shape_of shape) bytes.now) }
-    ensures { IfOk result (λ content. content_read (shape_of shape) bytes.now ≡ Ok content) }
+    ensures value { IfOk result (λ content. content_read (shape_of shape) bytes.now ≡ Ok content) }
+    ensures grammar { IfOk result (OfGrammar (shape_of shape)) }
 {
     match decode(alloc, shape, bytes) {
         Ok(content) => Ok(content),
