@@ -12,3 +12,4 @@ pub mod OwnBytes
 pub mod Beginnings
 pub mod Unforged
 pub mod Settling
+pub mod Strings

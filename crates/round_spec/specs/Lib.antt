@@ -11,5 +11,7 @@ pub mod Reached
 pub mod Rows
 pub mod Beginnings
 pub mod Settled
+pub mod Strings
+pub mod Waiting
 pub mod Laws
 pub mod Deliveries

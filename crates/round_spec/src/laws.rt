@@ -4,6 +4,10 @@ ghost use Rattle.std.specs.Prelude.{ℕ, List};
 ghost use Rattle.phase_message.specs.declared.stage.Slot.{Slot};
 ghost use Rattle.round_spec.specs.Cases.{FinalBEnds, OneKind, SparingMeansAgreed, VerdictCases};
 ghost use Rattle.round_spec.specs.Deliveries.{FirstPostsContained, FirstPostsGrow, IdleChangesNothing, LeastEndingGrows, WholeCourse};
+ghost use Rattle.group_roster.specs.Roster.{Roster};
+ghost use Rattle.transcript_form.specs.declared.transcript.Transcript.{Transcript};
+ghost use Rattle.round_spec.specs.Runs.{Run};
+ghost use Rattle.round_spec.specs.Strings.{KeptIsRead, RunHasStrings, TranscriptHasStrings};
 ghost use Rattle.round_spec.specs.Settled.{OwnPostsSettled};
 ghost use Rattle.round_spec.specs.Beginnings.{BeginningsAreHonest, KeysAreNotForged, ListsAreHonest, NothingIsForged};
 ghost use Rattle.round_spec.specs.Rows.{OnePerSlot, OwnRow, RowPast, RunOfContent, RunUnique};
@@ -85,4 +89,12 @@ pub fn beginning_laws()
 /// closing stage before has a verdict that ends the round, and it is what the member has to say by the posts before.
 pub fn own_posts_settled()
     ensures { OwnPostsSettled }
+{}
+
+/// Which strings are among those of a run and of a transcript: of the views up to each stage, of the seeds of layers that
+/// are its own or shown, and of pads that are its own or sent.
+pub fn string_laws()
+    ensures run { (run : Run) → RunHasStrings run }
+    ensures transcript { (roster : Roster) (t : Transcript) → TranscriptHasStrings roster t }
+    ensures kept { KeptIsRead }
 {}

@@ -5,5 +5,5 @@ mod laws;
 
 pub use laws::{
     beginning_laws, course_laws, courses_stop, delivery_laws, not_unanimous_blames,
-    own_posts_settled, row_laws, stands_are_reached, verdict_laws, whole_course,
+    own_posts_settled, row_laws, stands_are_reached, string_laws, verdict_laws, whole_course,
 };
