@@ -13,3 +13,4 @@ pub mod Beginnings
 pub mod Unforged
 pub mod Settling
 pub mod Strings
+pub mod Waiting

@@ -29,7 +29,7 @@ use Rattle.round_spec.proofs.Stopping.{course_stops}
 
 -- ---- what is kept in a slot
 
-settled-kept : (c : Configuration) (others : Others) (slot : Slot) → is_slot (shape_in c) slot.stage slot.sender ≡ true → kept_in (settled_log c others) slot ≡ post_settled c others (course_of c others) slot
+pub settled-kept : (c : Configuration) (others : Others) (slot : Slot) → is_slot (shape_in c) slot.stage slot.sender ≡ true → kept_in (settled_log c others) slot ≡ post_settled c others (course_of c others) slot
 unfolding settled_log
 settled-kept c others slot speaks =
     let shape = shape_in c in
@@ -69,7 +69,7 @@ settled-passed c others stand stage sender is speaks lt = by_sender (cases_Bool 
         ∙ sym (cond-false (sender == c.number) (Some (own_post c (take (slots_before (shape_in c) stage) stand.past) stage)) (others slot) other)
 
 -- in the stage that is being filled it is what would fill it
-settled-now : (c : Configuration) (others : Others) (stand : Stand) (sender : ℕ) → IsReached c others stand → is_open stand.verdict ≡ true → is_slot (shape_in c) stand.at sender ≡ true
+pub settled-now : (c : Configuration) (others : Others) (stand : Stand) (sender : ℕ) → IsReached c others stand → is_open stand.verdict ≡ true → is_slot (shape_in c) stand.at sender ≡ true
     → post_settled c others stand (record { stage = stand.at; sender = sender }) ≡ post_of c others stand sender
 unfolding post_settled
 settled-now c others stand sender is still speaks = by_sender (cases_Bool (sender == c.number))
@@ -117,7 +117,7 @@ place-settled c others stand i is lt = by_slot (slice_get (slots_of (shape_in c)
         (slice_get-map (post_settled c others stand) (slots_of (shape_in c)) i ∙ ap (option_map (post_settled c others stand)) e)
         ∙ settled-passed c others stand slot.stage slot.sender is at.0 earlier ∙ ap (slice_get stand.past) number
 
-before-settled : (c : Configuration) (others : Others) (stage : ℕ) → IsReached c others (course_of c others) → stage ≤ (course_of c others).at
+pub before-settled : (c : Configuration) (others : Others) (stage : ℕ) → IsReached c others (course_of c others) → stage ≤ (course_of c others).at
     → before (settled_log c others) stage ≡ Some (take (slots_before (shape_in c) stage) (course_of c others).past)
 unfolding settled_log
 before-settled c others stage is le =
@@ -148,7 +148,7 @@ post-there kept n i posts e lt long =
     ∙ get_or_from_slice_get (map (λ post. Some post) posts) i (Some (get_or posts i no_post)) None
     (slice_get-map (λ (post : Post). Some post) posts i ∙ ap (option_map (λ (post : Post). Some post)) (slice_get-get_or posts i no_post (omega (arith, count))))
 
-filled-if : (c : Configuration) (others : Others) (kind : StageKind) (posts : List Post) → IsReached c others (course_of c others) → is_open (course_of c others).verdict ≡ true
+pub filled-if : (c : Configuration) (others : Others) (kind : StageKind) (posts : List Post) → IsReached c others (course_of c others) → is_open (course_of c others).verdict ≡ true
     → kind_of_stage (shape_in c) (course_of c others).at ≡ Some kind → before (settled_log c others) ((course_of c others).at + 1) ≡ Some posts
     → stage_filled c others (course_of c others) ≡ Some (drop (slots_before (shape_in c) (course_of c others).at) posts)
 unfolding settled_log stage_filled
@@ -286,7 +286,7 @@ own-kept c others stage speaks =
     settled-kept c others (own_slot (settled_run c others) stage) speaks
     ∙ cond-true (c.number == c.number) (own_post_at c (course_of c others) stage) _ (eq-eqb c.number c.number refl)
 
-reached-end : (c : Configuration) (others : Others) → IsReached c others (course_of c others)
+pub reached-end : (c : Configuration) (others : Others) → IsReached c others (course_of c others)
 unfolding course_of
 reached-end c others = stands_are_reached c others (stage_count (shape_in c))
 

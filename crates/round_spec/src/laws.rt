@@ -8,6 +8,7 @@ ghost use Rattle.group_roster.specs.Roster.{Roster};
 ghost use Rattle.transcript_form.specs.declared.transcript.Transcript.{Transcript};
 ghost use Rattle.round_spec.specs.Runs.{Run};
 ghost use Rattle.round_spec.specs.Strings.{KeptIsRead, RunHasStrings, TranscriptHasStrings};
+ghost use Rattle.round_spec.specs.Waiting.{InquiryIsOfLog, OpenRoundsWait};
 ghost use Rattle.round_spec.specs.Settled.{OwnPostsSettled};
 ghost use Rattle.round_spec.specs.Beginnings.{BeginningsAreHonest, KeysAreNotForged, ListsAreHonest, NothingIsForged};
 ghost use Rattle.round_spec.specs.Rows.{OnePerSlot, OwnRow, RowPast, RunOfContent, RunUnique};
@@ -97,4 +98,15 @@ pub fn string_laws()
     ensures run { (run : Run) → RunHasStrings run }
     ensures transcript { (roster : Roster) (t : Transcript) → TranscriptHasStrings roster t }
     ensures kept { KeptIsRead }
+{}
+
+/// Where a round is open, the member waits at the first stage of its log that is not complete, and for just those whose
+/// posts are missing there.
+pub fn open_rounds_wait()
+    ensures { OpenRoundsWait }
+{}
+
+/// What a verdict replays is what a replay looks at of a log that has the posts before the closing stage.
+pub fn inquiries_are_of_logs()
+    ensures { InquiryIsOfLog }
 {}
