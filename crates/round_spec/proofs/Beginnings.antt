@@ -181,7 +181,7 @@ keys-sized c is = (let long = keys-length c is in (omega (arith, long), omega (a
 
 -- ---- the post of the keys
 
-checks-from : (roster : Roster) (round : ℕ) (post : Post) (header : Header) (content : Content) → admission_of roster round post ≡ Ok header
+pub checks-from : (roster : Roster) (round : ℕ) (post : Post) (header : Header) (content : Content) → admission_of roster round post ≡ Ok header
     → content_read (shape_of_roster roster) post.content ≡ Ok content → check_of roster round post ≡ Ok content
 unfolding check_of
 checks-from roster round post header content admitted reads =

@@ -106,7 +106,7 @@ least-ending-grows c delivered bytes = record { stays = stays; comes = comes }
 
 -- ---- idle strings
 
-names-is : (slot : Slot) (header : Header) → names_slot slot header ≡ true → slot ≡ slot_named header
+pub names-is : (slot : Slot) (header : Header) → names_slot slot header ≡ true → slot ≡ slot_named header
 names-is slot header e =
     let parts = and_parts (header.stage == slot.stage) (header.sender == slot.sender) e in
     let stage : header.stage ≡ slot.stage = eqb-true header.stage slot.stage parts.0 in

@@ -14,3 +14,4 @@ pub mod Unforged
 pub mod Settling
 pub mod Strings
 pub mod Waiting
+pub mod Given

@@ -13,5 +13,6 @@ pub mod Beginnings
 pub mod Settled
 pub mod Strings
 pub mod Waiting
+pub mod Given
 pub mod Laws
 pub mod Deliveries

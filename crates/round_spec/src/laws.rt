@@ -8,6 +8,7 @@ ghost use Rattle.group_roster.specs.Roster.{Roster};
 ghost use Rattle.transcript_form.specs.declared.transcript.Transcript.{Transcript};
 ghost use Rattle.round_spec.specs.Runs.{Run};
 ghost use Rattle.round_spec.specs.Strings.{KeptIsRead, RunHasStrings, TranscriptHasStrings};
+ghost use Rattle.round_spec.specs.Given.{FirstPostsDelivered, FirstPostsName, ListsAgree};
 ghost use Rattle.round_spec.specs.Waiting.{InquiryIsOfLog, OpenRoundsWait};
 ghost use Rattle.round_spec.specs.Settled.{OwnPostsSettled};
 ghost use Rattle.round_spec.specs.Beginnings.{BeginningsAreHonest, KeysAreNotForged, ListsAreHonest, NothingIsForged};
@@ -109,4 +110,16 @@ pub fn open_rounds_wait()
 /// What a verdict replays is what a replay looks at of a log that has the posts before the closing stage.
 pub fn inquiries_are_of_logs()
     ensures { InquiryIsOfLog }
+{}
+
+/// The first post of a slot was delivered, checks, and stands in the slot of another member; so first posts name their
+/// slots.
+pub fn first_posts_are_delivered()
+    ensures delivered { FirstPostsDelivered }
+    ensures name { FirstPostsName }
+{}
+
+/// The list after a turn is that which a replay at the end of its shuffle looks at.
+pub fn lists_agree()
+    ensures { ListsAgree }
 {}

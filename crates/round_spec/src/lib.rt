@@ -4,7 +4,7 @@
 mod laws;
 
 pub use laws::{
-    beginning_laws, course_laws, courses_stop, delivery_laws, inquiries_are_of_logs,
-    not_unanimous_blames, open_rounds_wait, own_posts_settled, row_laws, stands_are_reached,
-    string_laws, verdict_laws, whole_course,
+    beginning_laws, course_laws, courses_stop, delivery_laws, first_posts_are_delivered,
+    inquiries_are_of_logs, lists_agree, not_unanimous_blames, open_rounds_wait, own_posts_settled,
+    row_laws, stands_are_reached, string_laws, verdict_laws, whole_course,
 };

@@ -1,0 +1,8 @@
+use Rattle.round_spec.proofs.Given.{first_posts_delivered, first_posts_name}
+use Rattle.round_spec.proofs.laws.first_posts_are_delivered.Goals as goal
+
+pub returns-clause-delivered : goal.returns-clause-delivered
+returns-clause-delivered c = first_posts_delivered
+
+pub returns-clause-name : goal.returns-clause-name
+returns-clause-name c = first_posts_name
