@@ -1,12 +1,10 @@
 -- The first runs are honest.
-use Rattle.std.proofs.Common.{◌≡◌, ◌≢◌, ◌⊎◌, ℕ, zero, suc, ◌+◌, ◌*◌, ◌^◌, ◌<◌, ◌≤◌, Bool, true, false, List, [], ◌∷◌, ◌++◌, length, get_or, map, replicate, take, Option, Some, None, Result, Ok, Err, ap, sym, ◌∙◌, refl, subst, arith, rules, inl, inr, length-append}
-use Rattle.std.specs.Prelude.{All, AllPairs, Contains, IfSome, ◌==◌, is_some, option_and_then, slice_index_or, nat_le}
+use Rattle.std.proofs.Common.{◌≡◌, ◌⊎◌, ℕ, zero, suc, ◌+◌, ◌^◌, ◌<◌, ◌≤◌, true, false, List, [], ◌∷◌, ◌++◌, length, map, replicate, Option, Some, None, Result, Ok, ap, sym, ◌∙◌, refl, subst, arith, rules, inl, inr}
+use Rattle.std.specs.Prelude.{IfSome, slice_index_or}
 use Rattle.std.specs.List.{AllByRecursion, slice_get, range_with_len, flat_map}
 use Rattle.std.specs.Int.{to_be_bytes, w64}
-use Rattle.std.specs.Option.{option_flatten}
-use Rattle.std.proofs.lemmas.Bool.{cases_Bool, cases_eq, cond-false, cond-true, and_from, eq-eqb}
-use Rattle.std.proofs.lemmas.List.{get_or-replicate, get_or-set_other, get_or-set_same, length-replicate, length-set}
-use Rattle.std.proofs.lemmas.List.Elements.{All-contains}
+use Rattle.std.proofs.lemmas.Bool.{cases_Bool, cases_eq, cond-false}
+use Rattle.std.proofs.lemmas.List.{get_or-replicate, get_or-set_other, get_or-set_same, length-replicate}
 use Rattle.std.proofs.lemmas.Option.{none-some, option_and_then_some, slice_get_within}
 use Rattle.wire_core.specs.Answers.{◌>>=◌, fault_as}
 use Rattle.wire_core.specs.declared.tag.Tag.TheVariants.{View}
@@ -16,49 +14,44 @@ use Rattle.wire_core.proofs.ByteLists.{IsBytes-append, IsBytes-cons, IsBytes-nil
 use Rattle.ring_encrypt.specs.Capsule.{key_of_seed}
 use Rattle.ring_encrypt.specs.PublicKey.{IsPublicKey}
 use Rattle.ring_encrypt.proofs.KeyLemmas.{key_is_public_key}
-use Rattle.lms_tree.specs.Secret.{SecretParts, leaves, lms_signature, own_public}
-use Rattle.phase_message.specs.declared.content.Body.{Body}
+use Rattle.lms_tree.specs.Secret.{leaves, lms_signature, own_public}
 use Rattle.phase_message.specs.declared.content.Body.TheVariants.{Keys}
 use Rattle.phase_message.specs.declared.content.Content.{Content}
 use Rattle.phase_message.specs.declared.header.Header.{Header}
 use Rattle.phase_message.specs.declared.offence.Offence.{Offence}
 use Rattle.phase_message.specs.declared.post.Post.{Post}
-use Rattle.phase_message.specs.declared.post.TheConstants.{LEAST_CONTENT, POST_LIMIT}
+use Rattle.phase_message.specs.declared.post.TheConstants.{LEAST_CONTENT}
 use Rattle.phase_message.specs.declared.stage.Slot.{Slot}
-use Rattle.phase_message.specs.declared.stage.StageKind.{StageKind}
 use Rattle.phase_message.specs.declared.stage.StageKind.TheVariants.{Keys as AtKeys}
 use Rattle.phase_message.specs.Body.{body_form}
-use Rattle.phase_message.specs.Grammar.{IsBody, IsHeader, OfGrammar, body_text, content_text, header_text}
-use Rattle.phase_message.specs.Header.{header_of}
+use Rattle.phase_message.specs.Grammar.{IsBody, OfGrammar, content_text, header_text}
 use Rattle.phase_message.specs.Offence.{content_read}
-use Rattle.phase_message.specs.Shape.{IsShape, Shape}
-use Rattle.phase_message.specs.Slots.{slot_at, slot_count, slot_number, slots_before, stage_count}
-use Rattle.phase_message.specs.Stages.{is_member, is_slot, kind_of_stage, vote_of}
+use Rattle.phase_message.specs.Shape.{IsShape}
+use Rattle.phase_message.specs.Slots.{slot_at, slot_count, slot_number}
+use Rattle.phase_message.specs.Stages.{is_member, is_slot}
 use Rattle.phase_message.proofs.Lengths.{fixed-length}
 use Rattle.phase_message.proofs.SlotLists.{slot_at-number, slot_number-most}
 use Rattle.phase_message.proofs.SlotBounds.{slot-bounds}
 use Rattle.phase_message.proofs.Whole.{content-is_read}
-use Rattle.group_roster.specs.Roster.{IsRosterForm, Roster, key_of, roster_id, shape_of_roster}
+use Rattle.group_roster.specs.Roster.{Roster, key_of, roster_id, shape_of_roster}
 use Rattle.signed_post.specs.declared.post.PostRefusal.{PostRefusal}
 use Rattle.signed_post.specs.declared.post.PostRefusal.TheVariants.{Body as BodyRefusal}
 use Rattle.signed_post.specs.Own.{IsSendable}
 use Rattle.signed_post.specs.Admission.{Admitted, admission_of, check_of}
 use Rattle.signed_post.proofs.Admits.{admits_exactly}
 use Rattle.signed_post.proofs.Lengths.{own_posts_are_admitted}
-use Rattle.stage_log.specs.Log.{before, contents_of}
-use Rattle.stage_log.specs.Table.{AreKept, IsKept, IsLog, Log, empty_log, filled, kept_in}
+use Rattle.stage_log.specs.Table.{IsKept, IsLog, empty_log, kept_in}
 use Rattle.stage_log.proofs.Entries.{filled-is_log, kept_in-at}
-use Rattle.round_spec.specs.Embedded.{slot_named}
-use Rattle.round_spec.specs.Say.{Configuration, content_with, keys_row, number_said_before, own_content, own_descriptor, own_header, own_key_seed, own_post, shape_in, signed_at}
-use Rattle.round_spec.specs.Runs.{AllGo, AreHonest, ChecksIn, HonestRun, IsConfiguration, IsOwnPost, Run, own_slot}
-use Rattle.round_spec.specs.Beginnings.{BeginningsAreHonest, IsBeginning, ListsAreHonest, NothingIsForged, keys_post, keys_run, silent_run}
+use Rattle.round_spec.specs.Say.{Configuration, content_with, keys_row, number_said_before, own_content, own_header, own_key_seed, own_post, shape_in}
+use Rattle.round_spec.specs.Runs.{ChecksIn, HonestRun, IsConfiguration, IsOwnPost, own_slot}
+use Rattle.round_spec.specs.Beginnings.{BeginningsAreHonest, ListsAreHonest, NothingIsForged, keys_post, keys_run, silent_run}
 use Rattle.round_spec.proofs.Contained.{contains-nothing}
 use Rattle.round_spec.proofs.OwnBytes.{key-bytes, signature-bytes}
 use Rattle.round_spec.proofs.Stopping.{own-header}
 
 -- ---- shapes and members
 
-shape-is : (c : Configuration) → IsConfiguration c → IsShape (shape_in c).version (shape_in c).members
+pub shape-is : (c : Configuration) → IsConfiguration c → IsShape (shape_in c).version (shape_in c).members
 shape-is c is = record { first = is.roster.version; least = is.roster.least; most = is.roster.most }
 
 -- a member's number is one of the roster

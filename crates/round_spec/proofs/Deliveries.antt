@@ -1,9 +1,9 @@
 -- What is heard of deliveries, one after the other and as a whole.
-use Rattle.std.proofs.Common.{◌≡◌, ◌⊎◌, ℕ, zero, suc, ◌+◌, ◌-◌, ◌<◌, ◌≤◌, Bool, true, false, List, [], ◌∷◌, ◌++◌, length, get_or, map, take, Option, Some, None, Result, Ok, Err, ap, sym, ◌∙◌, refl, subst, arith, inl, inr, length-append}
-use Rattle.std.specs.Prelude.{◌&&◌, ◌==◌, is_ok, IsTrue, Contains, bytes_eq, option_map, option_and_then, if◌then◌else◌}
+use Rattle.std.proofs.Common.{◌≡◌, ◌⊎◌, ℕ, zero, suc, ◌+◌, ◌-◌, ◌<◌, ◌≤◌, Bool, true, false, List, [], ◌∷◌, ◌++◌, length, map, take, Option, Some, None, ap, sym, ◌∙◌, refl, arith, inl, inr, length-append}
+use Rattle.std.specs.Prelude.{◌&&◌, ◌==◌, is_ok, bytes_eq, option_map, option_and_then, if◌then◌else◌}
 use Rattle.std.specs.List.{slice_get}
-use Rattle.std.proofs.lemmas.Bool.{cases_Bool, cond-true, cond-false, and_parts, eqb-true, cases_lt}
-use Rattle.std.proofs.lemmas.List.{length-take, map-append, take-append-le, take_all}
+use Rattle.std.proofs.lemmas.Bool.{cases_Bool, cond-true, and_parts, eqb-true, cases_lt}
+use Rattle.std.proofs.lemmas.List.{map-append, take-append-le, take_all}
 use Rattle.std.proofs.lemmas.Option.{none-some}
 use Rattle.std.proofs.lemmas.Slice.Eq.{bytes_eq-Decides}
 use Rattle.wire_core.specs.Answers.{first_below, first_some}
@@ -12,15 +12,12 @@ use Rattle.phase_message.specs.declared.header.Header.{Header}
 use Rattle.phase_message.specs.declared.post.Post.{Post}
 use Rattle.phase_message.specs.declared.stage.Slot.{Slot}
 use Rattle.phase_message.proofs.Table.{slice_get_right}
-use Rattle.stage_log.proofs.Pasts.{option_map-some}
 use Rattle.round_spec.specs.Embedded.{names_slot, slot_named}
-use Rattle.round_spec.specs.Say.{Configuration, shape_in}
-use Rattle.round_spec.specs.Verdict.{Convicts, Done, Goes, Verdict, conviction}
-use Rattle.round_spec.specs.Course.{Others, Stand, course_from, course_of, is_open, own_posts}
-use Rattle.round_spec.specs.Result.{Heard, Outcome, contradiction, contradiction_with, counted_part, delivered_counted, ending_at, ending_of, ending_verdict, fault_shown, first_posts, heard_in, heard_of, last_of, least_ending, malformed_conviction, outcome_by, outcome_ended, post_given, posts_of, result_of, stand_after, waiting_outcome}
-use Rattle.round_spec.specs.Laws.{IsContained}
-use Rattle.round_spec.specs.Deliveries.{AreConsistent, ChangesNothing, FirstPostsContained, FirstPostsGrow, IdleChangesNothing, IsIdle, IsSame, IsWholeCourse, LeastEndingGrows, WholeCourse, outcome_of_stand, with_last}
-use Rattle.round_spec.proofs.Courses.{cases_Some, course-end-unique}
+use Rattle.round_spec.specs.Say.{Configuration}
+use Rattle.round_spec.specs.Verdict.{Verdict}
+use Rattle.round_spec.specs.Course.{Others, Stand, course_of}
+use Rattle.round_spec.specs.Result.{Heard, contradiction, contradiction_with, ending_at, ending_of, ending_verdict, fault_shown, first_posts, heard_in, heard_of, last_of, least_ending, malformed_conviction, post_given, stand_after}
+use Rattle.round_spec.specs.Deliveries.{FirstPostsContained, FirstPostsGrow, IdleChangesNothing, IsIdle, LeastEndingGrows, with_last}
 
 -- ---- first posts
 

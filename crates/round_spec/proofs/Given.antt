@@ -1,6 +1,6 @@
 -- Where the first posts of slots come from.
-use Rattle.std.proofs.Common.{◌≡◌, ◌≢◌, ◌⊎◌, ℕ, zero, suc, ◌+◌, ◌-◌, ◌<◌, Bool, true, false, List, [], ◌∷◌, ◌++◌, length, map, Option, Some, None, Result, Ok, Err, ap, sym, ◌∙◌, refl, subst, arith, inl, inr}
-use Rattle.std.specs.Prelude.{◌&&◌, ◌==◌, All, Contains, is_ok, option_and_then, option_map, if◌then◌else◌}
+use Rattle.std.proofs.Common.{◌≡◌, ◌≢◌, ℕ, zero, suc, ◌+◌, true, List, [], ◌∷◌, ◌++◌, length, map, Option, Some, None, Result, Ok, Err, ap, sym, ◌∙◌, refl, subst, arith, inl, inr}
+use Rattle.std.specs.Prelude.{◌&&◌, ◌==◌, Contains, is_ok, option_and_then}
 use Rattle.std.specs.List.{range_with_len}
 use Rattle.std.specs.Int.{to_be_bytes, w32}
 use Rattle.std.specs.Result.{result_ok}
@@ -19,26 +19,19 @@ use Rattle.phase_message.specs.declared.post.Post.{Post}
 use Rattle.phase_message.specs.declared.stage.Slot.{Slot}
 use Rattle.phase_message.specs.Header.{header_of}
 use Rattle.phase_message.specs.Offence.{content_read}
-use Rattle.phase_message.specs.Post.{post_spelling}
-use Rattle.phase_message.specs.Shape.{Shape}
 use Rattle.phase_message.proofs.Whole.{content-header}
-use Rattle.group_roster.specs.Roster.{shape_of_roster}
-use Rattle.signed_post.specs.declared.post.PostRefusal.{PostRefusal}
-use Rattle.signed_post.specs.Admission.{Admitted, framed_admission_of}
+use Rattle.signed_post.specs.Admission.{framed_admission_of}
 use Rattle.signed_post.specs.Frame.{frame_of}
 use Rattle.signed_post.proofs.Admits.{admit-found, admits_exactly}
 use Rattle.signed_post.proofs.Frames.{framed-bytes, framed-fits, framed-found}
-use Rattle.shuffle_blame.specs.Replay.{Inquiry, body_in, body_of, ciphertext_of, list_after, list_of, submission, submissions, submit_stage as replay_stage}
-use Rattle.round_spec.specs.Slots.{final_stage, list_said, said_in, submissions_said, submit_stage}
+use Rattle.shuffle_blame.specs.Replay.{body_in, ciphertext_of, list_of, submit_stage as replay_stage}
+use Rattle.round_spec.specs.Slots.{said_in, submit_stage}
 use Rattle.round_spec.specs.Embedded.{names_slot, slot_named}
 use Rattle.round_spec.specs.Say.{Configuration, shape_in}
-use Rattle.round_spec.specs.Reached.{NameSlots}
 use Rattle.round_spec.specs.Result.{Heard, first_posts, heard_in, heard_of, heard_of_post, heard_with, post_given}
-use Rattle.round_spec.specs.Runs.{ChecksIn}
 use Rattle.round_spec.specs.Given.{FirstPostsDelivered, FirstPostsName, IsDelivered, ListsAgree}
 use Rattle.round_spec.proofs.Beginnings.{checks-from}
 use Rattle.round_spec.proofs.Contained.{contains-here, contains-later}
-use Rattle.round_spec.proofs.Courses.{cases_Some}
 use Rattle.round_spec.proofs.Deliveries.{names-is}
 use Rattle.round_spec.proofs.Rows.{checks-parts}
 

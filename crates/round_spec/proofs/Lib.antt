@@ -15,3 +15,4 @@ pub mod Settling
 pub mod Strings
 pub mod Waiting
 pub mod Given
+pub mod Honesty

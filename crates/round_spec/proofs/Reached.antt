@@ -1,31 +1,24 @@
 -- What the stands of a course have in common.
-use Rattle.std.proofs.Common.{◌≡◌, ◌≢◌, ◌⊎◌, ℕ, zero, suc, ◌+◌, ◌-◌, ◌<◌, ◌≤◌, Bool, true, false, List, [], ◌∷◌, ◌++◌, length, get_or, map, take, drop, Option, Some, None, Result, Ok, Err, ap, sym, ◌∙◌, refl, subst, arith, inl, inr, length-append}
-use Rattle.std.specs.Prelude.{◌==◌, ◌^◌, IsTrue, option_map, option_and_then, slice_index_or, if◌then◌else◌}
+use Rattle.std.proofs.Common.{◌≡◌, ◌⊎◌, ℕ, zero, suc, ◌+◌, ◌-◌, ◌<◌, ◌≤◌, true, List, ◌++◌, length, get_or, map, take, Option, Some, None, ap, sym, ◌∙◌, refl, subst, arith, inl, inr, length-append}
+use Rattle.std.specs.Prelude.{◌==◌, option_map, option_and_then, if◌then◌else◌}
 use Rattle.std.specs.List.{slice_get}
-use Rattle.std.proofs.lemmas.Bool.{cases_Bool, cond-true, cond-false, eqb-true, cases_lt}
+use Rattle.std.proofs.lemmas.Bool.{cases_Bool, cond-true, cond-false, cases_lt}
 use Rattle.std.proofs.lemmas.List.{length-map, take-append-le, take_all}
-use Rattle.std.proofs.lemmas.Option.{none-some, slice_get-map, slice_get-get_or, get_or_from_slice_get, option_and_then_some}
-use Rattle.phase_message.specs.declared.content.Content.{Content}
-use Rattle.phase_message.specs.declared.header.Header.{Header}
+use Rattle.std.proofs.lemmas.Option.{none-some, slice_get-map, slice_get-get_or}
 use Rattle.phase_message.specs.declared.post.Post.{Post}
 use Rattle.phase_message.specs.declared.stage.Slot.{Slot}
 use Rattle.phase_message.specs.declared.stage.StageKind.{StageKind}
-use Rattle.phase_message.specs.Grammar.{BeginsWith, body_text, content_text, header_text, kind_number}
-use Rattle.phase_message.specs.Header.{header_of}
-use Rattle.phase_message.specs.Offence.{content_read}
 use Rattle.phase_message.specs.Slots.{senders_in, senders_of, slot_at, slot_number, slots_before, stage_count}
 use Rattle.phase_message.specs.Stages.{is_slot, kind_of_stage}
 use Rattle.phase_message.proofs.Counts.{slots_next}
-use Rattle.phase_message.proofs.SlotLists.{length-senders_in, past-stage, slot_at-number, slot_at-place, slot_number-within, slots_before-rises, stage-past}
+use Rattle.phase_message.proofs.SlotLists.{length-senders_in, slot_at-number, slot_at-place, slot_number-within, slots_before-rises, stage-past}
 use Rattle.phase_message.proofs.Table.{slice_get_left, slice_get_right}
-use Rattle.phase_message.proofs.Whole.{begins-header_of, content-header}
-use Rattle.stage_log.specs.Log.{all_some, contents_of, view_of}
 use Rattle.stage_log.proofs.Pasts.{all_some-is, option_map-some}
 use Rattle.round_spec.specs.Say.{Configuration, own_post, shape_in}
 use Rattle.round_spec.specs.Verdict.{Goes, Done, Convicts, Verdict, verdict_of}
 use Rattle.round_spec.specs.Course.{Others, Stand, closing_of, course_from, first_stand, is_open, next_stand, post_of, posts_of_kind, stage_filled, stand_behind}
 use Rattle.round_spec.specs.Reached.{IsReached, StandsAreReached, post_due}
-use Rattle.round_spec.proofs.Courses.{cases_Some, course-next, course-stays, course-adds}
+use Rattle.round_spec.proofs.Courses.{cases_Some, course-next, course-stays}
 
 -- ---- a stage that is filled
 

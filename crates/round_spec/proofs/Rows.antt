@@ -1,31 +1,28 @@
 -- What the runs of honest members sent.
-use Rattle.std.proofs.Common.{◌≡◌, ◌≢◌, ◌⊎◌, ℕ, ◌+◌, ◌<◌, ◌≤◌, Bool, true, false, List, length, get_or, take, Option, Some, None, Result, Ok, Err, ap, sym, ◌∙◌, refl, subst, arith, inl, inr}
-use Rattle.std.specs.Prelude.{Contains, ◌==◌, option_map, slice_index_or}
-use Rattle.std.specs.List.{slice_get, range_with_len}
-use Rattle.std.proofs.lemmas.Bool.{cases_lt, eqb-true, eq-eqb}
+use Rattle.std.proofs.Common.{◌≡◌, ℕ, ◌<◌, List, length, Option, Some, Result, Ok, ap, sym, ◌∙◌, refl, subst, arith, inl, inr}
+use Rattle.std.specs.Prelude.{Contains, ◌==◌, slice_index_or}
+use Rattle.std.specs.List.{range_with_len}
+use Rattle.std.proofs.lemmas.Bool.{cases_lt, eqb-true}
 use Rattle.std.proofs.lemmas.List.Elements.{All-contains}
 use Rattle.std.proofs.lemmas.Option.{slice_get-get_or}
 use Rattle.wire_core.specs.declared.cursor.Short.{Short}
-use Rattle.wire_core.specs.Answers.{◌>>=◌, fault_as}
+use Rattle.wire_core.specs.Answers.{fault_as}
 use Rattle.wire_core.proofs.Readings.{bind_ok, fault_as_ok}
 use Rattle.phase_message.specs.declared.content.Content.{Content}
 use Rattle.phase_message.specs.declared.header.Header.{Header}
-use Rattle.phase_message.specs.declared.offence.Offence.{Offence}
 use Rattle.phase_message.specs.declared.post.Post.{Post}
-use Rattle.phase_message.specs.declared.stage.Slot.{Slot}
 use Rattle.phase_message.specs.Header.{header_of}
 use Rattle.phase_message.specs.Offence.{content_read}
-use Rattle.phase_message.specs.Slots.{slots_before, stage_count}
-use Rattle.phase_message.proofs.Whole.{content-header, content-is_spelled}
+use Rattle.phase_message.specs.Slots.{stage_count}
+use Rattle.phase_message.proofs.Whole.{content-is_spelled}
 use Rattle.group_roster.specs.Roster.{Roster, shape_of_roster}
-use Rattle.signed_post.specs.declared.post.PostRefusal.{PostRefusal}
 use Rattle.signed_post.specs.declared.post.PostRefusal.TheVariants.{Body}
 use Rattle.signed_post.specs.Admission.{admission_of, check_of}
 use Rattle.stage_log.specs.Log.{before}
 use Rattle.stage_log.specs.Table.{kept_in}
 use Rattle.stage_log.proofs.Fronts.{before-front}
 use Rattle.round_spec.specs.Say.{Configuration, own_content, own_header, own_post, shape_in}
-use Rattle.round_spec.specs.Runs.{AreApart, AreHonest, ChecksIn, HonestRun, IsOwnPost, Run, contents_sent, own_slot, posts_said, runs_of, sent}
+use Rattle.round_spec.specs.Runs.{AreApart, ChecksIn, HonestRun, IsOwnPost, Run, contents_sent, own_slot, posts_said, runs_of, sent}
 use Rattle.round_spec.specs.Rows.{IsOwnRow, IsRunOf, OnePerSlot, OwnRow, RowPast, RunOfContent, RunUnique}
 use Rattle.round_spec.proofs.Contained.{contains-filter, contains-filter_map, contains-flat, contains-map}
 use Rattle.round_spec.proofs.Stopping.{own-header}

@@ -1,6 +1,6 @@
 -- The log that a member keeps.
-use Rattle.std.proofs.Common.{◌≡◌, ◌⊎◌, ℕ, zero, suc, ◌+◌, ◌-◌, ◌<◌, ◌≤◌, Bool, true, false, List, [], ◌∷◌, length, get_or, map, take, drop, Option, Some, None, ap, sym, ◌∙◌, refl, subst, arith, rules, inl, inr}
-use Rattle.std.specs.Prelude.{◌&&◌, ◌||◌, ◌==◌, ◌^◌, nat_lt, option_map, option_and_then, if◌then◌else◌}
+use Rattle.std.proofs.Common.{◌≡◌, ◌⊎◌, ℕ, zero, suc, ◌+◌, ◌-◌, ◌<◌, ◌≤◌, true, false, List, length, get_or, map, take, drop, Option, Some, None, ap, sym, ◌∙◌, refl, arith, inl, inr}
+use Rattle.std.specs.Prelude.{◌&&◌, ◌==◌, nat_lt, option_map, option_and_then, if◌then◌else◌}
 use Rattle.std.specs.List.{slice_get}
 use Rattle.std.specs.Option.{option_flatten}
 use Rattle.std.proofs.lemmas.Bool.{and_from, and_parts, cases_Bool, cases_lt, cond-false, cond-true, eq-eqb, eqb-true, ltb-true, lt-ltb, or_cases, or_left, or_right}
@@ -9,7 +9,7 @@ use Rattle.std.proofs.lemmas.Option.{get_or_from_slice_get, none-some, slice_get
 use Rattle.phase_message.specs.declared.post.Post.{Post}
 use Rattle.phase_message.specs.declared.stage.Slot.{Slot}
 use Rattle.phase_message.specs.declared.stage.StageKind.{StageKind}
-use Rattle.phase_message.specs.Slots.{senders_in, senders_of, slot_at, slot_count, slot_number, slots_before, slots_of, stage_count}
+use Rattle.phase_message.specs.Slots.{senders_in, senders_of, slot_number, slots_before, slots_of, stage_count}
 use Rattle.phase_message.specs.Stages.{is_slot, kind_of_stage}
 use Rattle.phase_message.proofs.Counts.{slots_next}
 use Rattle.phase_message.proofs.SlotLists.{length-senders_in, length-slots_of, slot_at-is, slot_at-number, slot_at-place, slot_number-within, slots_before-most, slots_before-rises}
@@ -19,9 +19,9 @@ use Rattle.stage_log.proofs.Fronts.{before-front}
 use Rattle.stage_log.proofs.Pasts.{all_some-is, all_some-map}
 use Rattle.stage_log.proofs.Views.{slice_get-take}
 use Rattle.round_spec.specs.Say.{Configuration, own_post, shape_in}
-use Rattle.round_spec.specs.Verdict.{Goes, Verdict, no_post, verdict_of}
+use Rattle.round_spec.specs.Verdict.{Goes, no_post, verdict_of}
 use Rattle.round_spec.specs.Course.{Others, Stand, closing_of, course_of, has_spoken, is_open, own_post_at, post_of, post_settled, posts_before_stage, posts_of_kind, settled_log, stage_filled}
-use Rattle.round_spec.specs.Reached.{IsReached, IsStopped, NameSlots, post_due}
+use Rattle.round_spec.specs.Reached.{IsReached, IsStopped, post_due}
 use Rattle.round_spec.specs.Runs.{AllGo, IsOwnPost, own_slot}
 use Rattle.round_spec.specs.Settled.{OwnPostsSettled, settled_run}
 use Rattle.round_spec.proofs.Reached.{open-goes, stands_are_reached}

@@ -1,12 +1,11 @@
 -- Where the course of a whole round stops.
-use Rattle.std.proofs.Common.{◌≡◌, ◌≢◌, ◌⊎◌, ℕ, zero, suc, ◌+◌, ◌-◌, ◌*◌, ◌<◌, ◌≤◌, Bool, true, false, List, [], ◌∷◌, ◌++◌, length, take, Option, Some, None, Result, Ok, Err, ap, sym, ◌∙◌, refl, subst, arith, rules, inl, inr}
-use Rattle.std.specs.Prelude.{◌==◌, ◌^◌, IsTrue, is_some, option_map, option_and_then, slice_index_or, if◌then◌else◌}
+use Rattle.std.proofs.Common.{◌≡◌, ◌⊎◌, ℕ, zero, suc, ◌+◌, ◌<◌, ◌≤◌, true, false, List, [], ◌∷◌, ◌++◌, length, take, Option, Some, None, Result, Ok, ap, sym, ◌∙◌, refl, arith, rules, inl, inr}
+use Rattle.std.specs.Prelude.{◌==◌, ◌^◌, is_some, option_map, option_and_then, slice_index_or}
 use Rattle.std.specs.List.{slice_get}
-use Rattle.std.proofs.lemmas.Bool.{cases_Bool, cond-true, cond-false, eqb-true, cases_lt}
-use Rattle.std.proofs.lemmas.Option.{none-some, slice_get-get_or}
+use Rattle.std.proofs.lemmas.Bool.{cases_Bool, cond-true, cond-false}
+use Rattle.std.proofs.lemmas.Option.{slice_get-get_or}
 use Rattle.wire_core.specs.declared.cursor.Short.{Short}
 use Rattle.wire_core.specs.declared.tag.Tag.TheVariants.{View}
-use Rattle.wire_core.specs.Hash.{hash_of}
 use Rattle.wire_core.proofs.AnswerLemmas.{nothing_mapped}
 use Rattle.wire_core.proofs.ByteLists.{hash_bytes}
 use Rattle.phase_message.specs.declared.content.Content.{Content}
@@ -15,7 +14,7 @@ use Rattle.phase_message.specs.declared.post.Post.{Post}
 use Rattle.phase_message.specs.declared.stage.Slot.{Slot}
 use Rattle.phase_message.specs.declared.stage.StageKind.{StageKind}
 use Rattle.phase_message.specs.declared.stage.StageKind.TheVariants.{Final}
-use Rattle.phase_message.specs.Grammar.{BeginsWith, body_text, content_text, header_text, kind_number}
+use Rattle.phase_message.specs.Grammar.{body_text, content_text, kind_number}
 use Rattle.phase_message.specs.Header.{header_of}
 use Rattle.phase_message.specs.Offence.{content_read}
 use Rattle.phase_message.specs.Shape.{Shape}
@@ -25,12 +24,11 @@ use Rattle.phase_message.proofs.SlotLists.{past-stage, slot_number-within}
 use Rattle.phase_message.proofs.Table.{final_b_is}
 use Rattle.phase_message.proofs.Whole.{begins-header_of, content-header}
 use Rattle.stage_log.specs.Log.{contents_of, view_of}
-use Rattle.round_spec.specs.Embedded.{slot_named}
 use Rattle.round_spec.specs.Say.{Configuration, content_with, own_content, own_descriptor, own_header, own_post, shape_in}
-use Rattle.round_spec.specs.Verdict.{ClosedStage, Convicts, Done, Goes, Verdict, closing_content, is_closing, no_post, post_in, verdict_of}
+use Rattle.round_spec.specs.Verdict.{ClosedStage, Convicts, Done, Goes, Verdict, closing_content, no_post}
 use Rattle.round_spec.specs.Course.{Others, Stand, closing_of, course_from, course_of, first_stand, is_open, next_stand, stage_filled, stand_behind}
 use Rattle.round_spec.specs.Cases.{IsMemberOf, IsWhole}
-use Rattle.round_spec.specs.Reached.{CourseStops, IsReached, IsStopped, NameSlots, post_due}
+use Rattle.round_spec.specs.Reached.{CourseStops, IsReached, NameSlots, post_due}
 use Rattle.round_spec.proofs.Courses.{cases_Some, course-next, course-stays, next-ended}
 use Rattle.round_spec.proofs.Reached.{behind-at, next-parts, stands_are_reached}
 use Rattle.round_spec.proofs.Verdicts.{final_b_ends}

@@ -1,28 +1,23 @@
 -- Nothing is forged among the keys that were said.
-use Rattle.std.proofs.Common.{◌≡◌, ◌⊎◌, ℕ, zero, suc, ◌+◌, ◌*◌, ◌<◌, Bool, true, false, List, [], ◌∷◌, length, map, Option, Some, None, Result, Ok, Err, ap, sym, ◌∙◌, refl, subst, arith, inl, inr}
+use Rattle.std.proofs.Common.{◌≡◌, ℕ, suc, ◌+◌, ◌*◌, List, [], length, map, Result, Ok, ap, sym, ◌∙◌, subst, arith, inl, inr}
 use Rattle.std.specs.Prelude.{All, Contains, IsSome, ◌==◌, option_and_then}
 use Rattle.std.specs.List.{range_with_len}
 use Rattle.std.proofs.lemmas.Bool.{eq-eqb}
-use Rattle.std.proofs.lemmas.List.{get_or-replicate, get_or-set_same, length-replicate}
 use Rattle.std.proofs.lemmas.List.Elements.{All-contains}
 use Rattle.wire_core.specs.declared.cursor.Short.{Short}
-use Rattle.phase_message.specs.declared.content.Content.{Content}
 use Rattle.phase_message.specs.declared.header.Header.{Header}
 use Rattle.phase_message.specs.declared.post.Post.{Post}
-use Rattle.phase_message.specs.declared.stage.Slot.{Slot}
 use Rattle.phase_message.specs.Header.{header_of}
-use Rattle.phase_message.specs.Offence.{content_read}
 use Rattle.phase_message.specs.Post.{post_spelling}
-use Rattle.phase_message.specs.Slots.{slot_number, stage_count}
+use Rattle.phase_message.specs.Slots.{stage_count}
 use Rattle.phase_message.specs.Stages.{kind_of_stage, vote_of}
 use Rattle.phase_message.proofs.Whole.{content-header}
 use Rattle.group_roster.specs.Roster.{Roster, shape_of_roster}
-use Rattle.signed_post.specs.Admission.{Admitted}
 use Rattle.signed_post.specs.Frame.{frame_of}
 use Rattle.signed_post.proofs.Frames.{framed-again}
 use Rattle.stage_log.specs.Table.{kept_in}
-use Rattle.round_spec.specs.Say.{Configuration, own_content, own_header, own_post, shape_in}
-use Rattle.round_spec.specs.Runs.{HasNumber, IsConfiguration, IsEmbedded, IsGiven, Run, Sent, contents_sent, own_slot, posts_said, runs_of, sent}
+use Rattle.round_spec.specs.Say.{Configuration, own_header, shape_in}
+use Rattle.round_spec.specs.Runs.{IsConfiguration, Run, Sent, contents_sent, own_slot, posts_said, runs_of, sent}
 use Rattle.round_spec.specs.Beginnings.{KeysAreNotForged, keys_post, keys_run}
 use Rattle.round_spec.proofs.Beginnings.{keys-admitted, keys-there}
 use Rattle.round_spec.proofs.Contained.{contains-filter-from, contains-filter_map-from, contains-flat-from, contains-here, contains-map, contains-map-from}

@@ -1,6 +1,6 @@
 -- For whom a member waits, and what a replay looks at.
-use Rattle.std.proofs.Common.{◌≡◌, ◌⊎◌, ℕ, zero, suc, ◌+◌, ◌-◌, ◌<◌, ◌≤◌, Bool, true, false, List, [], ◌∷◌, length, map, take, Option, Some, None, ap, sym, ◌∙◌, refl, subst, arith, inl, inr}
-use Rattle.std.specs.Prelude.{◌&&◌, ◌==◌, not, is_none, unwrap_or, IsSome}
+use Rattle.std.proofs.Common.{◌≡◌, ◌⊎◌, ℕ, ◌+◌, ◌<◌, ◌≤◌, Bool, true, false, List, [], take, Option, Some, ap, sym, ◌∙◌, arith, inl, inr}
+use Rattle.std.specs.Prelude.{◌&&◌, ◌==◌, not, is_none, unwrap_or}
 use Rattle.std.proofs.lemmas.Bool.{cases_Bool, cases_lt, cond-false, cond-true, false_from_ne_true}
 use Rattle.std.proofs.lemmas.List.{take-map}
 use Rattle.std.proofs.lemmas.Option.{none-some}
@@ -13,17 +13,16 @@ use Rattle.phase_message.specs.Slots.{slots_before, stage_count}
 use Rattle.phase_message.specs.Stages.{is_slot, kind_of_stage}
 use Rattle.phase_message.proofs.SlotLists.{stage-past}
 use Rattle.stage_log.specs.Log.{before, contents_of}
-use Rattle.stage_log.specs.Table.{Log, first_incomplete_of, incomplete_stage, is_complete, is_missing, kept_in}
+use Rattle.stage_log.specs.Table.{first_incomplete_of, incomplete_stage, is_complete, is_missing, kept_in}
 use Rattle.stage_log.proofs.Fronts.{before-complete, complete-before, some_is}
 use Rattle.stage_log.proofs.Missing.{complete-none, incomplete-some}
-use Rattle.shuffle_blame.specs.Asked.{inquiry_of}
 use Rattle.shuffle_blame.specs.Replay.{Inquiry}
 use Rattle.round_spec.specs.Say.{Configuration, own_post, shape_in}
-use Rattle.round_spec.specs.Verdict.{ClosedStage, inquiry_into, past_at, shape_at, shown_at}
-use Rattle.round_spec.specs.Course.{Others, Stand, course_of, is_open, post_of, settled_log}
+use Rattle.round_spec.specs.Verdict.{ClosedStage, past_at, shape_at, shown_at}
+use Rattle.round_spec.specs.Course.{Others, course_of, is_open, post_of, settled_log}
 use Rattle.round_spec.specs.Reached.{IsReached, IsStopped}
 use Rattle.round_spec.specs.Result.{is_awaited}
-use Rattle.round_spec.specs.Waiting.{InquiryIsOfLog, OpenRoundsWait, WaitsAtFirst}
+use Rattle.round_spec.specs.Waiting.{InquiryIsOfLog, OpenRoundsWait}
 use Rattle.round_spec.proofs.Settling.{before-settled, filled-if, reached-end, settled-kept, settled-now}
 use Rattle.round_spec.proofs.Stopping.{course_stops}
 

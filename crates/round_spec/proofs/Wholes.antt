@@ -1,8 +1,8 @@
 -- Deliveries that may be taken whole.
-use Rattle.std.proofs.Common.{◌≡◌, ◌⊎◌, ℕ, zero, suc, ◌+◌, ◌-◌, ◌<◌, ◌≤◌, Bool, true, false, List, [], ◌∷◌, length, get_or, take, min, Option, Some, None, Result, Ok, Err, ap, sym, ◌∙◌, refl, subst, arith, inl, inr}
-use Rattle.std.specs.Prelude.{is_ok, Contains, bytes_eq, option_map, option_and_then, slice_index_or, if◌then◌else◌}
+use Rattle.std.proofs.Common.{◌≡◌, ℕ, suc, ◌-◌, true, false, List, [], ◌∷◌, length, take, Option, Some, None, ap, sym, ◌∙◌, refl, subst, arith}
+use Rattle.std.specs.Prelude.{is_ok, Contains, bytes_eq, option_and_then}
 use Rattle.std.specs.List.{slice_get}
-use Rattle.std.proofs.lemmas.Bool.{cases_Bool, cond-true, cond-false}
+use Rattle.std.proofs.lemmas.Bool.{cond-true, cond-false}
 use Rattle.std.proofs.lemmas.List.{get_or-take, length-take}
 use Rattle.std.proofs.lemmas.Option.{get_or_from_slice_get, none-some, slice_get_within}
 use Rattle.std.proofs.lemmas.Slice.Eq.{bytes_eq-Decides}
@@ -14,8 +14,8 @@ use Rattle.stage_log.proofs.Pasts.{option_map-some}
 use Rattle.round_spec.specs.Embedded.{slot_named}
 use Rattle.round_spec.specs.Say.{Configuration, shape_in}
 use Rattle.round_spec.specs.Verdict.{Convicts, Done, Goes, Verdict}
-use Rattle.round_spec.specs.Course.{Others, Stand, course_from, course_of, first_stand, is_open, own_posts}
-use Rattle.round_spec.specs.Result.{Heard, Outcome, contradiction, contradiction_with, counted_part, delivered_counted, ending_at, ending_of, ending_verdict, fault_shown, first_posts, heard_of, last_of, least_ending, malformed_conviction, outcome_by, outcome_ended, posts_of, result_of, stand_after, waiting_outcome}
+use Rattle.round_spec.specs.Course.{Others, Stand, course_of, first_stand, is_open, own_posts}
+use Rattle.round_spec.specs.Result.{Heard, contradiction, contradiction_with, counted_part, ending_at, ending_of, ending_verdict, fault_shown, first_posts, heard_of, last_of, least_ending, malformed_conviction, outcome_by, outcome_ended, posts_of, result_of, stand_after, waiting_outcome}
 use Rattle.round_spec.specs.Deliveries.{AreConsistent, IsWholeCourse, WholeCourse, outcome_of_stand}
 use Rattle.round_spec.proofs.Courses.{course-end-unique}
 use Rattle.round_spec.proofs.Deliveries.{ending-all, ending-none, ending-parts, first_posts_contained}

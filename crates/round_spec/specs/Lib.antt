@@ -14,5 +14,6 @@ pub mod Settled
 pub mod Strings
 pub mod Waiting
 pub mod Given
+pub mod Honesty
 pub mod Laws
 pub mod Deliveries

@@ -1,17 +1,15 @@
 -- For whom a member waits, and what a replay looks at, in the words of its log.
-use Rattle.std.specs.Prelude.{◌≡◌, ◌↔◌, ◌≢◌, ◌⊎◌, ℕ, ◌<◌, ◌≤◌, ◌^◌, List, take, true, false, IsTrue, Contains, Some, None}
-use Rattle.phase_message.specs.declared.post.Post.{Post}
-use Rattle.phase_message.specs.declared.stage.Slot.{Slot}
+use Rattle.std.specs.Prelude.{◌≡◌, ℕ, ◌<◌, ◌≤◌, ◌^◌, take, true, IsTrue, Some}
 use Rattle.phase_message.specs.Slots.{slots_before}
 use Rattle.phase_message.specs.Stages.{is_slot, kind_of_stage}
 use Rattle.stage_log.specs.Log.{before}
-use Rattle.stage_log.specs.Table.{Log, first_incomplete_of, is_complete, is_missing, kept_in}
+use Rattle.stage_log.specs.Table.{Log, first_incomplete_of, is_missing}
 use Rattle.shuffle_blame.specs.Asked.{inquiry_of}
 use Rattle.round_spec.specs.Say.{Configuration, shape_in}
 use Rattle.round_spec.specs.Verdict.{ClosedStage, inquiry_into, shape_at, shown_at}
-use Rattle.round_spec.specs.Course.{Others, Stand, course_of, is_open, settled_log}
+use Rattle.round_spec.specs.Course.{Others, course_of, is_open, settled_log}
 use Rattle.round_spec.specs.Reached.{NameSlots}
-use Rattle.round_spec.specs.Result.{is_awaited, senders_at}
+use Rattle.round_spec.specs.Result.{is_awaited}
 
 -- where a round is open, the stage at which the member waits is the first of its log that is not complete, and those for
 -- whom it waits are just the members whose posts are missing there

@@ -8,6 +8,7 @@ ghost use Rattle.group_roster.specs.Roster.{Roster};
 ghost use Rattle.transcript_form.specs.declared.transcript.Transcript.{Transcript};
 ghost use Rattle.round_spec.specs.Runs.{Run};
 ghost use Rattle.round_spec.specs.Strings.{KeptIsRead, RunHasStrings, TranscriptHasStrings};
+ghost use Rattle.round_spec.specs.Honesty.{RunAfterIsHonest, SettledRunIsHonest, UnforgedIsSaid};
 ghost use Rattle.round_spec.specs.Given.{FirstPostsDelivered, FirstPostsName, ListsAgree};
 ghost use Rattle.round_spec.specs.Waiting.{InquiryIsOfLog, OpenRoundsWait};
 ghost use Rattle.round_spec.specs.Settled.{OwnPostsSettled};
@@ -122,4 +123,12 @@ pub fn first_posts_are_delivered()
 /// The list after a turn is that which a replay at the end of its shuffle looks at.
 pub fn lists_agree()
     ensures { ListsAgree }
+{}
+
+/// The run that deliveries make is honest, if what the member has to say checks; and where nothing was forged, what is
+/// listed of a member with a run was said by it.
+pub fn honesty_laws()
+    ensures settled { SettledRunIsHonest }
+    ensures after { RunAfterIsHonest }
+    ensures said { UnforgedIsSaid }
 {}

@@ -1,0 +1,11 @@
+use Rattle.round_spec.proofs.Honesty.{run_after_is_honest, settled_run_is_honest, unforged_is_said}
+use Rattle.round_spec.proofs.laws.honesty_laws.Goals as goal
+
+pub returns-clause-settled : goal.returns-clause-settled
+returns-clause-settled c = settled_run_is_honest
+
+pub returns-clause-after : goal.returns-clause-after
+returns-clause-after c = run_after_is_honest
+
+pub returns-clause-said : goal.returns-clause-said
+returns-clause-said c = unforged_is_said
