@@ -31,13 +31,13 @@ pub struct Accepted {
 }
 
 /// Whom the bytes of a transcript convict under a roster, and of what. `Check` names the first check
-/// that they fail, as `FailedCheck` has them. Equivocation, Malformed and WrongSeed are decided so far: any other claim
-/// fails check 2 at 5, before what follows it is looked at. Nothing of the bytes is copied before all listed posts
+/// that they fail, as `FailedCheck` has them. Replay and Pad are not decided yet: either fails check 2
+/// at 5, before what follows it is looked at. Nothing of the bytes is copied before all listed posts
 /// pass their checks, and out of memory hides none of these.
 ///
 /// It stands on no premise: what convicts is accepted, whoever wrote it down, and nothing else is. A
 /// member whose contents give no ground for a claim is not convicted of it, unless its signature was forged; of
-/// WrongSeed that is not promised yet.
+/// WrongSeed and BadLog that is not promised yet.
 pub fn judge(alloc: Global, roster: &Roster, bytes: &[u8]) -> Result<Accepted, Refused>
     requires few { length bytes.now < 2 ^ 32 }
     ensures exact { Gives failure_of_refusal (λ a. a) result (printed_judgement_of (roster_of roster.now) bytes.now) }
