@@ -10,7 +10,7 @@ use Rattle.key_store.specs.declared.disk.DiskAnswer.TheVariants.{Done, Failed}
 use Rattle.key_store.specs.declared.steps_taken.Step.{Step}
 use Rattle.key_store.specs.declared.steps_taken.Step.TheVariants.{Wrote, Synced, Emptied}
 use Rattle.key_store.specs.Disk.{Elapses, ImagesTear, IsTorn, Only, Tears, Writes, overwritten}
-use Rattle.key_store.specs.Memory.{Contents, DiskState, IsImage, LeftSince, MayLeave, after_call, after_doing, after_fault, after_look, after_step, after_steps, answer_of, contents_of, fails_any, fails_step, file_after, file_of, fits, looks, moment_of, synced, write_step}
+use Rattle.key_store.specs.Memory.{Contents, DiskState, IsImage, LeftSince, MayLeave, after_call, after_doing, after_fault, after_look, after_step, after_steps, answer_of, contents_of, fails_look, fails_step, file_after, file_of, fits, looks, moment_of, synced, write_step}
 use Rattle.key_store.proofs.Files.{overwritten_torn}
 use Rattle.key_store.proofs.Moments.{torn_nowhere}
 
@@ -32,8 +32,8 @@ file-push first steps step =
 pub fits_place : (size at n : ℕ) (b : Bool) → b ≡ fits size at n → b ≡ true → at ≤ size
 fits_place size at n b is told = grind (arith, nat_tests)
 
-pub no_step_fails : (disk : DiskState) → fails_any disk ≡ false → length disk.steps < disk.room → fails_step disk ≡ false
-no_step_fails disk any room = by_case (fails_any disk) any
+pub no_step_fails : (disk : DiskState) (ready : Bool) → fails_look disk ready ≡ false → length disk.steps < disk.room → fails_step disk ready ≡ false
+no_step_fails disk ready any room = by_case (fails_look disk ready) any
   where
     by_case : (b : Bool) → b ≡ false → (b || nat_le disk.room (length disk.steps)) ≡ false
     by_case true any = absurd (cc)
@@ -41,10 +41,10 @@ no_step_fails disk any room = by_case (fails_any disk) any
 
 -- a disk that did a step
 pub stepped : (fails : Bool) (old mid new : DiskState) (step : Step) → fails ≡ false → mid ≡ after_look old
-    → new ≡ record { first = mid.first; steps = mid.steps ++ step ∷ []; room = mid.room; plan = mid.plan; passing = mid.passing } → new ≡ after_call fails old step
+    → new ≡ record { first = mid.first; steps = mid.steps ++ step ∷ []; room = mid.room; plan = mid.plan; passing = mid.passing; naming = mid.naming } → new ≡ after_call fails old step
 stepped fails old mid new step passes counted pushed =
     let done : new ≡ after_doing old step =
-    pushed ∙ ap (λ (d : DiskState). let e : DiskState = record { first = d.first; steps = d.steps ++ step ∷ []; room = d.room; plan = d.plan; passing = d.passing } in e) counted in
+    pushed ∙ ap (λ (d : DiskState). let e : DiskState = record { first = d.first; steps = d.steps ++ step ∷ []; room = d.room; plan = d.plan; passing = d.passing; naming = d.naming } in e) counted in
     subst (λ (b : Bool). new ≡ after_call b old step) (sym passes) done
 
 -- ---- time
@@ -107,9 +107,9 @@ unfolding file_of LeftSince MayLeave moment_of
 passes_call true old new step is = subst (Passes old) (sym is) record { time = elapses_still old }
 passes_call false old new step is = subst (Passes old) (sym is) record { time = elapses_push old.first old.steps step }
 
-pub passes_look : (old new : DiskState) → new ≡ looks old → Passes old new
+pub passes_look : (fails : Bool) (old new : DiskState) → new ≡ looks fails old → Passes old new
 unfolding file_of LeftSince MayLeave moment_of
-passes_look old new is = by_case (fails_any old) is
+passes_look fails old new is = by_case fails is
   where
     by_case : (fails : Bool) → new ≡ (if fails then after_fault old else after_look old) → Passes old new
     by_case true is = subst (Passes old) (sym is) record { time = elapses_still old }
@@ -120,18 +120,13 @@ pub record IsStill (old new : DiskState) : Type 0 where
   pub kept : file_of new ≡ file_of old
   pub images : (image : List ℕ) → MayLeave new image → MayLeave old image
 
-pub still : (old new : DiskState) → new ≡ looks old → IsStill old new
+pub still : (fails : Bool) (old new : DiskState) → new ≡ looks fails old → IsStill old new
 unfolding file_of MayLeave
-still old new is = by_case (fails_any old) is
+still fails old new is = by_case fails is
   where
     by_case : (fails : Bool) → new ≡ (if fails then after_fault old else after_look old) → IsStill old new
     by_case true is = subst (IsStill old) (sym is) record { kept = refl; images = λ image left. left }
     by_case false is = subst (IsStill old) (sym is) record { kept = refl; images = λ image left. left }
-
-pub emptied : (fails : Bool) (answer : DiskAnswer) (old new : DiskState) → answer ≡ answer_of fails → new ≡ after_call fails old Emptied → answer ≡ Done → file_of new ≡ []
-unfolding file_of LeftSince MayLeave moment_of
-emptied true answer old new told is done = absurd (cc)
-emptied false answer old new told is done = ap file_of is ∙ file-push old.first old.steps Emptied
 
 -- ---- images
 

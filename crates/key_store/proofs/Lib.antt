@@ -1,7 +1,9 @@
 mod Disks
 mod Picked
+mod Named
 pub mod Histories
 pub mod Calls
+pub mod Beside
 pub mod Torn
 pub mod Kept
 pub mod Midway

@@ -1,4 +1,6 @@
 pub mod Disk
+pub mod Names
+pub mod Naming
 pub mod Memory
 pub mod Picks
 pub mod KeyFiles

@@ -1,7 +1,8 @@
 //! A disk with one file, as a key file is written on it. What a clause says of the file's bytes it says of disks that
 //! tell them; an adapter over a real file tells nothing.
-ghost use Rattle.std.specs.Prelude.{◌≡◌, ◌⊎◌, ℕ, ◌<◌, ◌≤◌, List, [], length, Option, None, IsSome, IfSome, option_map, IsTrue, Bool, false};
+ghost use Rattle.std.specs.Prelude.{◌≡◌, ◌⊎◌, ℕ, ◌<◌, ◌≤◌, List, [], length, Option, None, IsSome, IfSome, option_map, IsTrue, Bool, false, string_bytes};
 ghost use Rattle.outside.specs.Faults.{Rose};
+ghost use Rattle.key_store.specs.Names.{Chooses, IsOfChosen, IsUnchosen, Names, StaysBeside};
 ghost use Rattle.key_store.specs.Disk.{Elapses, IfRead, ImagesTear, IsFilled, Only, Tears, Writes};
 
 /// What a call answers.
@@ -21,13 +22,17 @@ pub enum DiskRead {
     Failed,
 }
 
-/// One file, which a crash may leave in one of several images. No call takes memory.
+/// One file, which a crash may leave in one of several images. Where none is chosen, a read, a write and a sync fail.
+/// What stands under other names than the chosen one, no call touches. No call takes memory.
 pub trait Disk {
     /// How often a call has failed. The count stays at 2^64 - 1.
     ghost faults: { Self → ℕ };
 
     /// The bytes of the file, as a read gives them, where the disk tells them.
     ghost file: { Self → Option (List ℕ) };
+
+    /// Which name is chosen, and what stands under each, where the disk tells it.
+    ghost names: { Self → Option Names };
 
     /// The images of the file that a crash at this moment may leave. A missing file is one without bytes.
     ghost may_leave: { Self → List ℕ → Type 0 };
@@ -38,12 +43,15 @@ pub trait Disk {
     /// The images that a crash at some moment from that one on might have left, during a call or between two.
     ghost left_since: { Self → ℕ → List ℕ → Type 0 };
 
-    /// Chooses the file of this name for all further calls. A fresh one is empty, in the place of whatever had
-    /// the name; else the file stays.
+    /// Chooses the file of this name for all further calls. A fresh one is empty, and fails where the name stands; else
+    /// it fails where the name is missing, and the file stays. What stands under other names stays. Where the choice
+    /// fails, no file is chosen, and what stood under the name stays.
     fn choose(&mut self, name: &String, fresh: bool) -> DiskAnswer
+        ensures names { Chooses (names self.old) (names self.new) (string_bytes name.now) fresh result }
         ensures emptied { result ≡ DiskAnswer.Done → IsTrue fresh
             → file self.new ≡ option_map (λ _. []) (file self.old) }
         ensures untold { file self.old ≡ None → file self.new ≡ None }
+        ensures told { IsSome (file self.old) → IsSome (file self.new) }
         ensures kept { fresh ≡ false → file self.new ≡ file self.old }
         ensures images { fresh ≡ false → (image : List ℕ) → may_leave self.new image → may_leave self.old image }
         ensures time { Elapses (moment self.old) (moment self.new) (left_since self.old) (left_since self.new) (may_leave self.new) }
@@ -59,6 +67,8 @@ pub trait Disk {
             → (length into.old ≡ 0) ⊎ IfSome (file self.old) (λ bytes. length bytes ≤ at) }
         ensures kept { file self.new ≡ file self.old }
         ensures images { (image : List ℕ) → may_leave self.new image → may_leave self.old image }
+        ensures beside { StaysBeside (names self.old) (names self.new) }
+        ensures unchosen { IsUnchosen (names self.old) → result ≡ DiskRead.Failed }
         ensures time { Elapses (moment self.old) (moment self.new) (left_since self.old) (left_since self.new) (may_leave self.new) }
         ensures failed { result ≡ DiskRead.Failed → Rose (faults self.old) (faults self.new) }
         ensures no_fall { faults self.old ≤ faults self.new };
@@ -70,6 +80,8 @@ pub trait Disk {
         ensures written { result ≡ DiskAnswer.Done → Writes (file self.old) (file self.new) at bytes.now }
         ensures torn { result ≡ DiskAnswer.Failed → Tears (file self.old) (file self.new) at (length bytes.now) }
         ensures images { ImagesTear (may_leave self.old) (may_leave self.new) at (length bytes.now) }
+        ensures beside { StaysBeside (names self.old) (names self.new) }
+        ensures unchosen { IsUnchosen (names self.old) → result ≡ DiskAnswer.Failed }
         ensures time { Elapses (moment self.old) (moment self.new) (left_since self.old) (left_since self.new) (may_leave self.new) }
         ensures failed { result ≡ DiskAnswer.Failed → Rose (faults self.old) (faults self.new) }
         ensures no_fall { faults self.old ≤ faults self.new };
@@ -79,9 +91,14 @@ pub trait Disk {
         ensures durable { result ≡ DiskAnswer.Done → IfSome (file self.old) (λ bytes. Only bytes (may_leave self.new)) }
         ensures kept { file self.new ≡ file self.old }
         ensures images { (image : List ℕ) → may_leave self.new image → may_leave self.old image }
+        ensures beside { StaysBeside (names self.old) (names self.new) }
+        ensures unchosen { IsUnchosen (names self.old) → result ≡ DiskAnswer.Failed }
         ensures time { Elapses (moment self.old) (moment self.new) (left_since self.old) (left_since self.new) (may_leave self.new) }
         ensures failed { result ≡ DiskAnswer.Failed → Rose (faults self.old) (faults self.new) }
         ensures no_fall { faults self.old ≤ faults self.new };
+
+    /// The file is what stands under the chosen name.
+    ghost names_show_file: { (disk : Self) → IsOfChosen (names disk) (file disk) };
 
     /// What a read gives is one of the images.
     ghost read_is_image: { (disk : Self) → IfSome (file disk) (may_leave disk) };

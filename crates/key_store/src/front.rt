@@ -3,6 +3,7 @@ ghost use Rattle.std.specs.Prelude.{◌≡◌, ◌⊎◌, ℕ, List, ◌+◌, �
 ghost use Rattle.key_store.specs.declared.refusals.StoreRefusal.TheVariants.{DiskFault};
 ghost use Rattle.outside.specs.Faults.{Rose};
 ghost use Rattle.key_store.specs.Disk.{Elapses, IfRead, LeavesOnly};
+ghost use Rattle.key_store.specs.Names.{StaysBeside};
 ghost use Rattle.key_store.specs.Store.{IsFault};
 
 use crate::disk::{Disk, DiskRead};
@@ -16,6 +17,7 @@ pub fn read_front<D: Disk>(disk: &mut D, image: &mut [u8; 128]) -> Result<u32, S
     ensures kept { D.file disk.new ≡ D.file disk.old }
     ensures images { (image : List ℕ) → D.may_leave disk.new image → D.may_leave disk.old image }
     ensures moments { LeavesOnly D.moment D.left_since disk.old disk.new (D.may_leave disk.old) }
+    ensures beside { StaysBeside (D.names disk.old) (D.names disk.new) }
     ensures no_fall { D.faults disk.old ≤ D.faults disk.new }
 {
     let mut size = 0;
@@ -45,6 +47,7 @@ fn read_more<D: Disk>(disk: &mut D, image: &mut [u8; 128], size: u32) -> DiskRea
     ensures kept { D.file disk.new ≡ D.file disk.old }
     ensures images { (image : List ℕ) → D.may_leave disk.new image → D.may_leave disk.old image }
     ensures time { Elapses (D.moment disk.old) (D.moment disk.new) (D.left_since disk.old) (D.left_since disk.new) (D.may_leave disk.new) }
+    ensures beside { StaysBeside (D.names disk.old) (D.names disk.new) }
     ensures no_fall { D.faults disk.old ≤ D.faults disk.new }
 {
     disk.read_at(size, &mut image[size as usize..])

@@ -7,6 +7,7 @@ mod images;
 mod laws;
 mod layout;
 mod memory_disk;
+mod naming;
 mod refusals;
 mod room;
 mod steps;

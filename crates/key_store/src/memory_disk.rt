@@ -1,19 +1,23 @@
 //! A disk in memory, with one file of at most 128 bytes, of which calls fail by a plan, and which may crash.
-ghost use Rattle.std.specs.Prelude.{◌≡◌, ◌⊎◌, ◌≤◌, ◌↔◌, ℕ, List, [], length, Some, None, option_map, IfOk, IsTrue, if◌then◌else◌};
+ghost use Rattle.std.specs.Prelude.{◌≡◌, ◌⊎◌, ◌≤◌, ◌↔◌, ℕ, List, [], length, Some, None, option_map, IfOk, IsSome, IsTrue, if◌then◌else◌, string_bytes, true};
 ghost use Rattle.outside.specs.Plans.{plan_of};
-ghost use Rattle.key_store.specs.Memory.{after_call, after_fault, after_look, answer_of, fails_any, fails_step, file_of, image_of, looks, MayLeave, new_disk, StepFits, write_step};
+ghost use Rattle.key_store.specs.Naming.{chosen_as, no_file};
+ghost use Rattle.key_store.specs.Memory.{after_call, after_change, after_choice, after_fault, after_look, answer_of, fails_change, fails_choice, fails_look, fails_read, fails_step, fails_sync, fails_write, file_of, image_of, looks, MayLeave, new_disk, StepFits, unchosen, write_step};
 
 use crate::disk::{Disk, DiskAnswer, DiskRead};
 use crate::images::Images;
+use crate::naming::Naming;
 use crate::room::{Room, overwrite};
 use crate::steps_taken::{Pick, Step};
 use outside::FaultPlan;
 use std::alloc::{AllocError, Global};
 use std::marker::Model;
 
-/// A disk in memory. A call that fails changes nothing: one that the plan names, one after those that pass where the
-/// disk stops, a write that begins past the end or has no room in 128 bytes, and a write, a sync or a choice of a fresh
-/// file where the room for these is used up. All others are Done.
+/// A disk in memory, with room for one file under a name of at most 128 bytes. A call that fails changes nothing, but that
+/// no file is chosen where a choice fails: one that the plan names, one after those that pass where the disk stops, one
+/// where no file is chosen, a write that begins past the end or has no room in 128 bytes, the choice of a fresh file where
+/// one stands and of another where none stands under the name, and a write, a sync or the choice of a fresh file where
+/// the room for these is used up. All others are Done.
 #[derive(Debug, Drop)]
 pub struct MemoryDisk {
     first: Room,
@@ -22,6 +26,7 @@ pub struct MemoryDisk {
     room: usize,
     plan: FaultPlan,
     passing: Option<u32>,
+    naming: Naming,
 }
 
 impl Model for MemoryDisk {
@@ -37,6 +42,7 @@ impl Model for MemoryDisk {
       room = disk.room;
       plan = disk.plan;
       passing = disk.passing;
+      naming = disk.naming;
     } };
 
     ghost invariant = { λ disk. record {
@@ -46,23 +52,39 @@ impl Model for MemoryDisk {
 }
 
 impl MemoryDisk {
-    /// With an empty file, and room for this number of writes, syncs and choices of a fresh file; the calls with these
+    /// With no file yet, and room for this number of writes, syncs and choices of a fresh file; the calls with these
     /// numbers, from 1, fail.
     pub fn new(alloc: Global, room: usize, failing: Vec<u64>) -> Result<MemoryDisk, AllocError>
-        ensures { IfOk result (λ disk. disk ≡ new_disk [] room (plan_of failing.items)) }
+        ensures { IfOk result (λ disk. disk ≡ new_disk [] no_file room (plan_of failing.items)) }
     {
-        MemoryDisk::holding(alloc, &[], room, failing)
+        MemoryDisk::with(alloc, &[], Naming::none(alloc)?, room, failing)
     }
 
-    /// With these bytes in the file.
+    /// With a file of these bytes under a name, which is chosen.
     pub fn holding(
         alloc: Global,
+        name: &[u8],
         bytes: &[u8],
         room: usize,
         failing: Vec<u64>,
     ) -> Result<MemoryDisk, AllocError>
+        requires name { length name.now ≤ 128 }
+        requires bytes { length bytes.now ≤ 128 }
+        ensures { IfOk result (λ disk. disk ≡ new_disk bytes.now (chosen_as name.now) room (plan_of failing.items)) }
+    {
+        MemoryDisk::with(alloc, bytes, Naming::of(alloc, name)?, room, failing)
+    }
+
+    // With a file of these bytes, and a name.
+    fn with(
+        alloc: Global,
+        bytes: &[u8],
+        naming: Naming,
+        room: usize,
+        failing: Vec<u64>,
+    ) -> Result<MemoryDisk, AllocError>
         requires { length bytes.now ≤ 128 }
-        ensures { IfOk result (λ disk. disk ≡ new_disk bytes.now room (plan_of failing.items)) }
+        ensures { IfOk result (λ disk. disk ≡ new_disk bytes.now naming room (plan_of failing.items)) }
     {
         Ok(MemoryDisk {
             first: Room::new(alloc, bytes)?,
@@ -71,6 +93,7 @@ impl MemoryDisk {
             room,
             plan: FaultPlan::new(failing),
             passing: None,
+            naming,
         })
     }
 
@@ -89,18 +112,24 @@ impl MemoryDisk {
         self.passing = Some(calls);
     }
 
-    /// The disk as a crash leaves it, where it leaves the picked image: with this file, the same room and no failing
-    /// calls.
+    /// The disk as a crash leaves it, where it leaves the picked image: with this file, the same name and room, and no
+    /// failing calls.
     pub fn crash(&self, alloc: Global, pick: Pick) -> Result<MemoryDisk, AllocError>
-        ensures left { IfOk result (λ disk. disk ≡ new_disk (image_of self.now pick) self.now.room (plan_of [])) }
+        ensures left { IfOk result (λ disk. disk ≡ new_disk (image_of self.now pick) self.now.naming self.now.room (plan_of [])) }
         ensures image { MayLeave self.now (image_of self.now pick) }
     {
-        MemoryDisk::holding(alloc, self.images.picked(pick), self.room, Vec::new(alloc))
+        MemoryDisk::with(
+            alloc,
+            self.images.picked(pick),
+            self.naming.copy(alloc)?,
+            self.room,
+            Vec::new(alloc),
+        )
     }
 
     // Counts a call, and says whether it fails.
     fn counts(&mut self) -> bool
-        ensures answer { result ≡ fails_any self.old }
+        ensures answer { result ≡ fails_look self.old true }
         ensures counted { self.new ≡ after_look self.old }
         ensures no_fall { self.old.plan.faults ≤ self.new.plan.faults }
     {
@@ -114,13 +143,13 @@ impl MemoryDisk {
         }
     }
 
-    // A call that does nothing to the file.
-    fn look(&mut self) -> DiskAnswer
-        ensures answer { result ≡ answer_of (fails_any self.old) }
-        ensures after { self.new ≡ looks self.old }
+    // A call that does nothing to the file. It fails where it may not be made.
+    fn look(&mut self, ready: bool) -> DiskAnswer
+        ensures answer { result ≡ answer_of (fails_look self.old ready) }
+        ensures after { self.new ≡ looks (fails_look self.old ready) self.old }
         ensures no_fall { self.old.plan.faults ≤ self.new.plan.faults }
     {
-        if self.counts() {
+        if self.counts() || !ready {
             self.plan.fault();
             return DiskAnswer::Failed;
         }
@@ -136,16 +165,16 @@ impl MemoryDisk {
         self.plan.fault();
     }
 
-    // Counts a call, and does its step to the file where it does not fail.
+    // Counts a call, and does its step to the file where it does not fail. It fails where it may not be made.
     #[tactic(auto, unfolding(crate::specs::Memory::file_of))]
-    fn step(&mut self, step: Step) -> DiskAnswer
+    fn step(&mut self, ready: bool, step: Step) -> DiskAnswer
         requires { StepFits (file_of self.old) step }
-        ensures answer { result ≡ answer_of (fails_step self.old) }
-        ensures after { self.new ≡ after_call (fails_step self.old) self.old step }
+        ensures answer { result ≡ answer_of (fails_step self.old ready) }
+        ensures after { self.new ≡ after_call (fails_step self.old ready) self.old step }
         ensures no_fall { self.old.plan.faults ≤ self.new.plan.faults }
     {
         let full = self.steps.len() >= self.room;
-        if self.counts() || full {
+        if self.counts() || !ready || full {
             self.plan.fault();
             return DiskAnswer::Failed;
         }
@@ -154,6 +183,39 @@ impl MemoryDisk {
             Ok(()) => DiskAnswer::Done,
             Err(_) => unreachable!(),
         }
+    }
+
+    // Chooses a file, as the plan has it.
+    fn choose_file(&mut self, name: &String, fresh: bool) -> DiskAnswer
+        ensures answer { result ≡ answer_of (fails_choice self.old (string_bytes name.now) fresh) }
+        ensures after { self.new ≡ after_choice (fails_choice self.old (string_bytes name.now) fresh) self.old (string_bytes name.now) fresh }
+        ensures no_fall { self.old.plan.faults ≤ self.new.plan.faults }
+    {
+        let ready = self.naming.allows(name, fresh);
+        self.naming.chosen = false;
+        if !ready {
+            self.fails();
+            return DiskAnswer::Failed;
+        }
+        match self.change(fresh) {
+            DiskAnswer::Done => {
+                self.naming.choose(name);
+                DiskAnswer::Done
+            }
+            DiskAnswer::Failed => DiskAnswer::Failed,
+        }
+    }
+
+    // Empties the file where it is to be fresh.
+    fn change(&mut self, fresh: bool) -> DiskAnswer
+        ensures answer { result ≡ answer_of (fails_change self.old fresh) }
+        ensures after { self.new ≡ after_change (fails_change self.old fresh) self.old fresh }
+        ensures no_fall { self.old.plan.faults ≤ self.new.plan.faults }
+    {
+        if fresh {
+            return self.step(true, Step::Emptied);
+        }
+        self.look(true)
     }
 }
 
@@ -175,11 +237,14 @@ impl Disk for MemoryDisk {
     ghost use Rattle.std.specs.Prelude.{false};
     ghost use Rattle.outside.specs.Faults.{Rose};
     ghost use Rattle.key_store.specs.Disk.{Elapses, IfRead, ImagesTear, IsFilled, Only, Tears, Writes};
-    ghost use Rattle.key_store.specs.Memory.{fails_write, LeftSince, MayLeave, counts_now, moment_of, only_now, read_is_image};
+    ghost use Rattle.key_store.specs.Memory.{LeftSince, counts_now, moment_of, names_of, names_show_file, only_now, read_is_image};
+    ghost use Rattle.key_store.specs.Names.{Chooses, IsUnchosen, StaysBeside};
 
     ghost faults = { λ disk. disk.plan.faults };
 
     ghost file = { λ disk. Some (file_of disk) };
+
+    ghost names = { λ disk. Some (names_of disk) };
 
     ghost may_leave = { MayLeave };
 
@@ -187,45 +252,49 @@ impl Disk for MemoryDisk {
 
     ghost left_since = { LeftSince };
 
+    ghost names_show_file = { names_show_file };
+
     ghost read_is_image = { read_is_image };
 
     ghost counts_now = { counts_now };
 
     ghost only_now = { only_now };
 
-    fn choose(&mut self, _name: &String, fresh: bool) -> DiskAnswer
-        ensures answer { result ≡ answer_of (if fresh then fails_step self.old else fails_any self.old) }
-        ensures after { self.new ≡ (if fresh then after_call (fails_step self.old) self.old Step.Emptied else looks self.old) }
+    fn choose(&mut self, name: &String, fresh: bool) -> DiskAnswer
+        ensures answer { result ≡ answer_of (fails_choice self.old (string_bytes name.now) fresh) }
+        ensures after { self.new ≡ after_choice (fails_choice self.old (string_bytes name.now) fresh) self.old (string_bytes name.now) fresh }
 
+        ensures names { Chooses (Some (names_of self.old)) (Some (names_of self.new)) (string_bytes name.now) fresh result }
         ensures emptied { result ≡ DiskAnswer.Done → IsTrue fresh → Some (file_of self.new) ≡ option_map (λ _. []) (Some (file_of self.old)) }
         ensures untold { Some (file_of self.old) ≡ None → Some (file_of self.new) ≡ None }
+        ensures told { IsSome (Some (file_of self.old)) → IsSome (Some (file_of self.new)) }
         ensures kept { fresh ≡ false → Some (file_of self.new) ≡ Some (file_of self.old) }
         ensures images { fresh ≡ false → (image : List ℕ) → MayLeave self.new image → MayLeave self.old image }
         ensures time { Elapses (moment_of self.old) (moment_of self.new) (LeftSince self.old) (LeftSince self.new) (MayLeave self.new) }
         ensures failed { result ≡ DiskAnswer.Failed → Rose self.old.plan.faults self.new.plan.faults }
         ensures no_fall { self.old.plan.faults ≤ self.new.plan.faults }
     {
-        if fresh {
-            return self.step(Step::Emptied);
-        }
-        self.look()
+        self.choose_file(name, fresh)
     }
 
     #[tactic(auto, unfolding(crate::specs::Memory::file_of))]
     fn read_at(&mut self, at: u32, into: &mut [u8]) -> DiskRead
-        ensures planned { (result ≡ DiskRead.Failed) ↔ IsTrue (fails_any self.old) }
-        ensures after { self.new ≡ looks self.old }
+        ensures planned { (result ≡ DiskRead.Failed) ↔ IsTrue (fails_read self.old) }
+        ensures after { self.new ≡ looks (fails_read self.old) self.old }
 
         ensures bounded { IfRead result (λ taken. taken ≤ length into.old) }
         ensures filled { IfRead result (λ taken. IsFilled (file_of self.old) at taken into.old into.new) }
         ensures ended { result ≡ DiskRead.Read 0 → (length into.old ≡ 0) ⊎ (length (file_of self.old) ≤ at) }
         ensures kept { Some (file_of self.new) ≡ Some (file_of self.old) }
         ensures images { (image : List ℕ) → MayLeave self.new image → MayLeave self.old image }
+        ensures beside { StaysBeside (Some (names_of self.old)) (Some (names_of self.new)) }
+        ensures unchosen { IsUnchosen (Some (names_of self.old)) → result ≡ DiskRead.Failed }
         ensures time { Elapses (moment_of self.old) (moment_of self.new) (LeftSince self.old) (LeftSince self.new) (MayLeave self.new) }
         ensures failed { result ≡ DiskRead.Failed → Rose self.old.plan.faults self.new.plan.faults }
         ensures no_fall { self.old.plan.faults ≤ self.new.plan.faults }
     {
-        match self.look() {
+        let ready = self.naming.is_chosen();
+        match self.look(ready) {
             DiskAnswer::Done => DiskRead::Read {
                 taken: self.images.file.read(at, into),
             },
@@ -241,6 +310,8 @@ impl Disk for MemoryDisk {
         ensures written { result ≡ DiskAnswer.Done → Writes (Some (file_of self.old)) (Some (file_of self.new)) at bytes.now }
         ensures torn { result ≡ DiskAnswer.Failed → Tears (Some (file_of self.old)) (Some (file_of self.new)) at (length bytes.now) }
         ensures images { ImagesTear (MayLeave self.old) (MayLeave self.new) at (length bytes.now) }
+        ensures beside { StaysBeside (Some (names_of self.old)) (Some (names_of self.new)) }
+        ensures unchosen { IsUnchosen (Some (names_of self.old)) → result ≡ DiskAnswer.Failed }
         ensures time { Elapses (moment_of self.old) (moment_of self.new) (LeftSince self.old) (LeftSince self.new) (MayLeave self.new) }
         ensures failed { result ≡ DiskAnswer.Failed → Rose self.old.plan.faults self.new.plan.faults }
         ensures no_fall { self.old.plan.faults ≤ self.new.plan.faults }
@@ -249,20 +320,24 @@ impl Disk for MemoryDisk {
             self.fails();
             return DiskAnswer::Failed;
         }
-        self.step(write_step(at, bytes))
+        let ready = self.naming.is_chosen();
+        self.step(ready, write_step(at, bytes))
     }
 
     fn sync(&mut self) -> DiskAnswer
-        ensures answer { result ≡ answer_of (fails_step self.old) }
-        ensures after { self.new ≡ after_call (fails_step self.old) self.old Step.Synced }
+        ensures answer { result ≡ answer_of (fails_sync self.old) }
+        ensures after { self.new ≡ after_call (fails_sync self.old) self.old Step.Synced }
 
         ensures durable { result ≡ DiskAnswer.Done → Only (file_of self.old) (MayLeave self.new) }
         ensures kept { Some (file_of self.new) ≡ Some (file_of self.old) }
         ensures images { (image : List ℕ) → MayLeave self.new image → MayLeave self.old image }
+        ensures beside { StaysBeside (Some (names_of self.old)) (Some (names_of self.new)) }
+        ensures unchosen { IsUnchosen (Some (names_of self.old)) → result ≡ DiskAnswer.Failed }
         ensures time { Elapses (moment_of self.old) (moment_of self.new) (LeftSince self.old) (LeftSince self.new) (MayLeave self.new) }
         ensures failed { result ≡ DiskAnswer.Failed → Rose self.old.plan.faults self.new.plan.faults }
         ensures no_fall { self.old.plan.faults ≤ self.new.plan.faults }
     {
-        self.step(Step::Synced)
+        let ready = self.naming.is_chosen();
+        self.step(ready, Step::Synced)
     }
 }

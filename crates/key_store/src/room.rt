@@ -52,6 +52,15 @@ impl Room {
         self.size = 0;
     }
 
+    /// These bytes and no others.
+    pub fn set(&mut self, bytes: &[u8])
+        requires { length bytes.now ≤ 128 }
+        ensures { self.new ≡ bytes.now }
+    {
+        overwrite(&mut self.buffer, 0, bytes);
+        self.size = bytes.len() as u32;
+    }
+
     /// The same bytes as another.
     pub fn copy(&mut self, other: &Room)
         ensures { self.new ≡ other.now }

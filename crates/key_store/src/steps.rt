@@ -3,6 +3,7 @@ ghost use Rattle.std.specs.Prelude.{◌≡◌, ℕ, List, IsSome, IfSome, ◌+�
 ghost use Rattle.outside.specs.Faults.{Rose};
 ghost use Rattle.key_store.specs.Disk.{Elapses, IsTorn, LeavesOf, Only, Tears, overwritten};
 ghost use Rattle.key_store.specs.Crashes.{IsMidway, IsRise};
+ghost use Rattle.key_store.specs.Names.{StaysBeside};
 ghost use Rattle.key_store.specs.declared.layout.KeyContent.{KeyContent};
 ghost use Rattle.key_store.specs.KeyFiles.{IsAtRest, IsClosing, IsSlot, closed, numbers, opened, raised, written};
 
@@ -21,6 +22,7 @@ pub fn put<D: Disk>(disk: &mut D, image: &mut [u8; 128], at: u32, bytes: &[u8]) 
     ensures moments { LeavesOf D.moment D.left_since (D.file disk.old) disk.old disk.new
         (λ file. IsTorn file at (length bytes.now)) }
     ensures failed { result ≡ DiskAnswer.Failed → Rose (D.faults disk.old) (D.faults disk.new) }
+    ensures beside { StaysBeside (D.names disk.old) (D.names disk.new) }
     ensures no_fall { D.faults disk.old ≤ D.faults disk.new }
 {
     overwrite(image, at as usize, bytes);
@@ -37,6 +39,7 @@ fn settle<D: Disk>(disk: &mut D) -> DiskAnswer
     ensures images { (image : List ℕ) → D.may_leave disk.new image → D.may_leave disk.old image }
     ensures time { Elapses (D.moment disk.old) (D.moment disk.new) (D.left_since disk.old) (D.left_since disk.new) (D.may_leave disk.new) }
     ensures failed { result ≡ DiskAnswer.Failed → Rose (D.faults disk.old) (D.faults disk.new) }
+    ensures beside { StaysBeside (D.names disk.old) (D.names disk.new) }
     ensures no_fall { D.faults disk.old ≤ D.faults disk.new }
 {
     disk.sync()
@@ -53,6 +56,7 @@ pub fn close_gate<D: Disk>(disk: &mut D, image: &mut [u8; 128], at: u32) -> Disk
     ensures torn { Tears (D.file disk.old) (D.file disk.new) at 1 }
     ensures moments { LeavesOf D.moment D.left_since (D.file disk.old) disk.old disk.new (IsClosing at) }
     ensures failed { result ≡ DiskAnswer.Failed → Rose (D.faults disk.old) (D.faults disk.new) }
+    ensures beside { StaysBeside (D.names disk.old) (D.names disk.new) }
     ensures no_fall { D.faults disk.old ≤ D.faults disk.new }
 {
     if image[at as usize] == 0 {
@@ -78,6 +82,7 @@ pub fn write_slot<D: Disk>(
     ensures torn { Tears (D.file disk.old) (D.file disk.new) (at + 1) 12 }
     ensures moments { LeavesOf D.moment D.left_since (D.file disk.old) disk.old disk.new (λ file. IsTorn file (at + 1) 12) }
     ensures failed { result ≡ DiskAnswer.Failed → Rose (D.faults disk.old) (D.faults disk.new) }
+    ensures beside { StaysBeside (D.names disk.old) (D.names disk.new) }
     ensures no_fall { D.faults disk.old ≤ D.faults disk.new }
 {
     put(disk, image, at + 1, &numbers(round, next))
@@ -94,6 +99,7 @@ pub fn open_gate<D: Disk>(disk: &mut D, image: &mut [u8; 128], at: u32) -> DiskA
     ensures torn { Tears (D.file disk.old) (D.file disk.new) at 1 }
     ensures moments { LeavesOf D.moment D.left_since (D.file disk.old) disk.old disk.new (λ file. IsTorn file at 1) }
     ensures failed { result ≡ DiskAnswer.Failed → Rose (D.faults disk.old) (D.faults disk.new) }
+    ensures beside { StaysBeside (D.names disk.old) (D.names disk.new) }
     ensures no_fall { D.faults disk.old ≤ D.faults disk.new }
 {
     put(disk, image, at, &[1])
@@ -116,6 +122,7 @@ pub fn raise<D: Disk>(
     ensures told { IsSome (D.file disk.old) → IsSome (D.file disk.new) }
     ensures current { result ≡ DiskAnswer.Done → IsAtRest (D.file disk.new) (D.may_leave disk.new) image.new }
     ensures failed { result ≡ DiskAnswer.Failed → Rose (D.faults disk.old) (D.faults disk.new) }
+    ensures beside { StaysBeside (D.names disk.old) (D.names disk.new) }
     ensures no_fall { D.faults disk.old ≤ D.faults disk.new }
 {
     match close_gate(disk, image, at) {

@@ -7,6 +7,7 @@ ghost use Rattle.outside.specs.Faults.{Rose};
 ghost use Rattle.key_store.specs.Crashes.{Keeps, KeepsFront};
 ghost use Rattle.key_store.specs.Disk.{Every, Only};
 ghost use Rattle.key_store.specs.KeyFiles.{IsAtRest, Mirrors, key_read, made, new_content, opened, parts_in};
+ghost use Rattle.key_store.specs.Names.{StaysBeside};
 ghost use Rattle.key_store.specs.Store.{FrontRefused, IsLoaded};
 
 use crate::disk::{Disk, DiskAnswer};
@@ -36,6 +37,7 @@ pub fn create<D: Disk>(
     ensures keeps { IfOk result (λ _. IfSome (D.file disk.new) (λ _. Every (D.may_leave disk.new) (KeepsFront (new_content height width master.now)))) }
     ensures refused { IfErr result (λ e. ((e ≡ DiskFault) × Rose (D.faults disk.old) (D.faults disk.new))
         ⊎ ((e ≡ Memory) × (disk.new ≡ disk.old))) }
+    ensures beside { StaysBeside (D.names disk.old) (D.names disk.new) }
     ensures no_fall { D.faults disk.old ≤ D.faults disk.new }
 {
     let content = first_content(height, width, master);
@@ -106,6 +108,7 @@ fn write_made<D: Disk>(disk: &mut D, content: &KeyContent) -> DiskAnswer
     ensures reads { result ≡ DiskAnswer.Done → IfSome (D.file disk.new) (λ file.
         key_read (take 128 file) ≡ Ok record content.now { kept = record { round = 0; next = 0 } }) }
     ensures failed { result ≡ DiskAnswer.Failed → Rose (D.faults disk.old) (D.faults disk.new) }
+    ensures beside { StaysBeside (D.names disk.old) (D.names disk.new) }
     ensures no_fall { D.faults disk.old ≤ D.faults disk.new }
 {
     let mut image = layout::made(content);
@@ -148,6 +151,7 @@ impl KeyFile {
     ghost use Rattle.key_store.specs.Disk.{Every, LeavesOf, LeavesOnly};
     ghost use Rattle.key_store.specs.History.{IsCall};
     ghost use Rattle.key_store.specs.KeyFiles.{chosen, key_read, raised};
+    ghost use Rattle.key_store.specs.Names.{StaysBeside};
     ghost use Rattle.key_store.specs.Store.{IsCurrent, IsFault, IsLoaded, LoadRefused, handed_by, kept_by, leaves_of};
 
     /// Reads a key file. `NotKeyFile` tells the first offset at which its bytes are none; `OldRound` and `Exhausted`
@@ -160,6 +164,7 @@ impl KeyFile {
         ensures refused { IfErr result (λ e.
             LoadRefused e (D.file disk.old) (D.faults disk.old) (D.faults disk.new)) }
         ensures kept { D.file disk.new ≡ D.file disk.old }
+        ensures beside { StaysBeside (D.names disk.old) (D.names disk.new) }
         ensures no_fall { D.faults disk.old ≤ D.faults disk.new }
 
         // A crash at any moment of the call leaves what one before it might have left. So what every image keeps then,
@@ -230,6 +235,7 @@ impl KeyFile {
         ensures kept { IfErr result (λ e. e ≢ DiskFault → (self.new ≡ self.old) × (disk.new ≡ disk.old)) }
         ensures faulted { IfErr result (λ e. e ≡ DiskFault → IsTrue self.new.failed) }
         ensures parts { self.new.parts ≡ self.old.parts }
+        ensures beside { StaysBeside (D.names disk.old) (D.names disk.new) }
         ensures no_fall { D.faults disk.old ≤ D.faults disk.new }
 
         // At each moment of the call, every image keeps what the file said, and differs at most in the chosen slot.

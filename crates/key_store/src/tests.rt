@@ -55,6 +55,22 @@ fn gates(disk: &MemoryDisk) -> (Option<u8>, Option<u8>) {
     (disk.file().get(64).copied(), disk.file().get(96).copied())
 }
 
+fn choose<D: Disk>(disk: &mut D, name: &String, fresh: bool) -> DiskAnswer {
+    disk.choose(name, fresh)
+}
+
+fn write<D: Disk>(disk: &mut D) -> DiskAnswer {
+    disk.write_at(0, b"x")
+}
+
+// A disk on which a fresh file is chosen.
+fn chosen(alloc: Global, failing: Vec<u64>) -> Result<MemoryDisk, Fail> {
+    let mut disk = MemoryDisk::new(alloc, 40, failing)?;
+    let name = String::from_str(alloc, "key")?;
+    choose(&mut disk, &name, true);
+    Ok(disk)
+}
+
 // Makes a key file, and says whether it is loaded with its public key.
 fn made<D: Disk>(alloc: Global, disk: &mut D, width: OtsType) -> Result<bool, StoreRefusal> {
     let public = create(alloc, disk, MadeHeight::H5, width, &MASTER)?;
@@ -75,7 +91,7 @@ fn two_rounds<D: Disk>(alloc: Global, disk: &mut D) -> Result<(), StoreRefusal> 
 fn what_was_begun_is_kept(rt: HostRuntime) -> Result<(), Fail> {
     let alloc = rt.alloc();
     // Of the fourth row the second call fails, the sync behind the closing of slot 0.
-    let mut disk = MemoryDisk::new(alloc, 40, vec![in alloc; 21]?)?;
+    let mut disk = chosen(alloc, vec![in alloc; 22]?)?;
     assert!(rt; made(alloc, &mut disk, OtsType::W4) == Ok(true));
     let old = Err(StoreRefusal::OldRound { kept: 1 });
     let few = Err(StoreRefusal::Exhausted { next: 12 });
@@ -108,7 +124,7 @@ fn leaves_are_handed_out_to_the_last(rt: HostRuntime) -> Result<(), Fail> {
         (21, Err(StoreRefusal::Exhausted { next: 21 })),
         (20, Ok((20, 12))),
     ] {
-        let mut disk = MemoryDisk::new(alloc, 40, Vec::new(alloc))?;
+        let mut disk = chosen(alloc, Vec::new(alloc))?;
         assert!(rt; made(alloc, &mut disk, OtsType::W1) == Ok(true));
         assert!(rt; begun_twice(alloc, &mut disk, 1, used).is_ok());
         let answers = begun_twice(alloc, &mut disk, 2, 12);
@@ -119,7 +135,7 @@ fn leaves_are_handed_out_to_the_last(rt: HostRuntime) -> Result<(), Fail> {
 
 // A disk that stops after this number of calls, of which two rounds need 17.
 fn stopped(alloc: Global, calls: u32) -> Result<MemoryDisk, Fail> {
-    let mut disk = MemoryDisk::new(alloc, 20, Vec::new(alloc))?;
+    let mut disk = chosen(alloc, Vec::new(alloc))?;
     disk.stop_after(calls);
     let ended = two_rounds(alloc, &mut disk);
     if ended.is_ok() != (calls >= 17) {
@@ -180,7 +196,13 @@ fn changed(alloc: Global, place: usize, size: usize) -> Result<Option<StoreRefus
     if place < 128 {
         bytes[place] = 9;
     }
-    let mut disk = MemoryDisk::holding(alloc, &bytes[..size.min(128)], 40, Vec::new(alloc))?;
+    let mut disk = MemoryDisk::holding(
+        alloc,
+        b"key",
+        &bytes[..size.min(128)],
+        40,
+        Vec::new(alloc),
+    )?;
     Ok(KeyFile::load(alloc, &mut disk).err())
 }
 
@@ -201,11 +223,28 @@ fn the_first_place_that_is_wrong_is_told(rt: HostRuntime) -> Result<(), Fail> {
     ] {
         assert!(rt; changed(alloc, place, size)? == Some(StoreRefusal::NotKeyFile { at }));
     }
-    let mut disk = MemoryDisk::holding(alloc, &[0; 128], 40, Vec::new(alloc))?;
-    let at = 0;
-    assert!(rt; KeyFile::load(alloc, &mut disk).err() == Some(StoreRefusal::NotKeyFile { at }));
-    let name = String::from_str(alloc, "key")?;
-    assert!(rt; disk.choose(&name, true) == DiskAnswer::Done);
-    assert_eq!(rt; disk.file().len(), 0);
+    let mut zeros = MemoryDisk::holding(alloc, b"key", &[0; 128], 40, Vec::new(alloc))?;
+    assert!(rt; standing(alloc, &mut zeros) == Err(StoreRefusal::NotKeyFile { at: 0 }));
+    Ok(())
+}
+
+#[test]
+fn one_name_is_chosen(rt: HostRuntime) -> Result<(), Fail> {
+    let alloc = rt.alloc();
+    let mut disk = MemoryDisk::new(alloc, 40, Vec::new(alloc))?;
+    // A name, whether it is to be fresh, and the answer to its choice, and then to a write.
+    for (name, fresh, answer) in [
+        ("key", false, DiskAnswer::Failed),
+        ("key", true, DiskAnswer::Done),
+        ("key", true, DiskAnswer::Failed),
+        ("other", true, DiskAnswer::Failed),
+        ("other", false, DiskAnswer::Failed),
+        ("key", false, DiskAnswer::Done),
+    ] {
+        let name = String::from_str(alloc, name)?;
+        assert_eq!(rt; choose(&mut disk, &name, fresh), answer);
+        assert_eq!(rt; write(&mut disk), answer);
+    }
+    assert_eq!(rt; disk.file(), b"x".as_slice());
     Ok(())
 }

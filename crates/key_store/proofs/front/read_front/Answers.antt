@@ -2,6 +2,7 @@ use Rattle.std.proofs.Common.{◌∙◌, ap, arith, refl}
 use Rattle.key_store.specs.declared.disk.DiskRead.TheVariants.{Read}
 use Rattle.key_store.proofs.Fronts.{front_ended, front_more, none_read}
 use Rattle.key_store.proofs.Moments.{goes_on, started}
+use Rattle.key_store.proofs.Beside.{beside-trans, beside_itself}
 use Rattle.key_store.proofs.front.read_front.Goals as goal
 
 pub returns-then-taken-eq0-clause-read : goal.returns-then-taken-eq0-clause-read
@@ -18,6 +19,7 @@ loop-size-preserved g c = record {
   moments = goes_on g.D.Disk.may_leave g.D.Disk.moment g.D.Disk.left_since _ c.loop-size.disk c.read_more.new.disk _ c.loop-size.invariant.moments c.read_more.ensures.time
       (λ image left. c.loop-size.invariant.images image (c.read_more.ensures.images image left));
   kept = c.read_more.ensures.kept ∙ c.loop-size.invariant.kept;
+  beside = beside-trans _ _ _ c.loop-size.invariant.beside c.read_more.ensures.beside;
   no_fall = omega (arith, c.read_more.ensures.no_fall, c.loop-size.invariant.no_fall);
 }
 
@@ -28,5 +30,15 @@ loop-size-init g c = record {
   images = λ image left. left;
   moments = started g.D.Disk.may_leave g.D.Disk.moment g.D.Disk.left_since g.met.D.Disk.only_now c.args.disk.now _ (λ image left. left);
   kept = refl;
+  beside = beside_itself _;
   no_fall = omega arith;
 }
+
+pub returns-then-taken-eq0-clause-beside : goal.returns-then-taken-eq0-clause-beside
+returns-then-taken-eq0-clause-beside g c = beside-trans _ _ _ c.loop-size.invariant.beside c.read_more.ensures.beside
+
+pub returns-in-Failed-clause-beside : goal.returns-in-Failed-clause-beside
+returns-in-Failed-clause-beside g c = beside-trans _ _ _ c.loop-size.invariant.beside c.read_more.ensures.beside
+
+pub returns-clause-beside : goal.returns-clause-beside
+returns-clause-beside g c = c.loop-size.invariant.beside

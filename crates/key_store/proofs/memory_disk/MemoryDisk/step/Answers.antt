@@ -2,6 +2,7 @@ use Rattle.std.proofs.Common.{◌≡◌, ◌++◌, ◌∷◌, [], List, ℕ, len
 use Rattle.key_store.specs.declared.steps_taken.Step.{Step}
 use Rattle.key_store.specs.Memory.{DiskState, StepFits, fails_step, file_of}
 use Rattle.key_store.proofs.Disks.{no_step_fails, stepped}
+use Rattle.key_store.proofs.Named.{look_passes}
 use Rattle.key_store.proofs.Picked.{fits_still, images_push}
 use Rattle.key_store.proofs.memory_disk.MemoryDisk.step.Goals as goal
 
@@ -16,10 +17,11 @@ invariant_of-self-2 c = record {
 
 pub returns-clause-after : goal.returns-clause-after
 returns-clause-after c =
-    let pushed = ap (λ (l : List Step). let d : DiskState = record { first = c.self-3.inside.first; steps = l; room = c.self-3.inside.room; plan = c.self-3.inside.plan; passing = c.self-3.inside.passing } in d) c.in-Ok.ensures.items in
-    let view = ap (λ (d : DiskState). let e : DiskState = record { first = d.first; steps = d.steps ++ c.args.step ∷ []; room = d.room; plan = d.plan; passing = d.passing } in e) c.self-3.view_is in
+    let pushed = ap (λ (l : List Step). let d : DiskState = record { first = c.self-3.inside.first; steps = l; room = c.self-3.inside.room; plan = c.self-3.inside.plan; passing = c.self-3.inside.passing; naming = c.self-3.inside.naming } in d) c.in-Ok.ensures.items in
+    let view = ap (λ (d : DiskState). let e : DiskState = record { first = d.first; steps = d.steps ++ c.args.step ∷ []; room = d.room; plan = d.plan; passing = d.passing; naming = d.naming } in e) c.self-3.view_is in
     let size = ap (λ (d : DiskState). length d.steps) c.self.view_is in
     let room = ap (λ (d : DiskState). d.room) c.self.view_is in
-    let passes : fails_step c.args.self.now ≡ false =
-    no_step_fails c.args.self.now (sym c.counts.ensures.answer ∙ c.if-counts.false) (omega (arith, size, room, c.len.ensures, c.if-full.false)) in
-    stepped (fails_step c.args.self.now) c.args.self.now c.counts.new.self _ c.args.step passes c.counts.ensures.counted (pushed ∙ view)
+    let looks = look_passes c.args.self.now c.args.ready c.counts.result c.counts.ensures.answer c.if-counts.false c.if-not-ready.false in
+    let passes : fails_step c.args.self.now c.args.ready ≡ false =
+    no_step_fails c.args.self.now c.args.ready looks (omega (arith, size, room, c.len.ensures, c.if-full.false)) in
+    stepped (fails_step c.args.self.now c.args.ready) c.args.self.now c.counts.new.self _ c.args.step passes c.counts.ensures.counted (pushed ∙ view)

@@ -1,18 +1,29 @@
-use Rattle.std.proofs.Common.{Some, List, ℕ, ap}
-use Rattle.key_store.proofs.Disks.{emptied, passes_call, passes_look, still}
+use Rattle.std.specs.Prelude.{string_bytes}
+use Rattle.key_store.specs.Memory.{fails_choice}
+use Rattle.key_store.proofs.Named.{choice, choice_allowed}
 use Rattle.key_store.proofs.memory_disk.MemoryDiskDisk.choose.Goals as goal
 
-pub returns-then-fresh-clause-emptied : goal.returns-then-fresh-clause-emptied
-returns-then-fresh-clause-emptied c = λ done fresh. ap (λ (l : List ℕ). Some l) (emptied _ _ _ _ c.step.ensures.answer c.step.ensures.after done)
+pub returns-clause-names : goal.returns-clause-names
+returns-clause-names c =
+    (choice (fails_choice c.args.self.now (string_bytes c.args.name.now) c.args.fresh) c.args.fresh c.choose_file.result c.args.self.now c.choose_file.new.self (string_bytes c.args.name.now)
+    c.choose_file.ensures.answer c.choose_file.ensures.after (choice_allowed c.args.self.now (string_bytes c.args.name.now) c.args.fresh)).names
 
-pub returns-then-fresh-clause-time : goal.returns-then-fresh-clause-time
-returns-then-fresh-clause-time c = (passes_call _ _ _ _ c.step.ensures.after).time
+pub returns-clause-emptied : goal.returns-clause-emptied
+returns-clause-emptied c =
+    (choice (fails_choice c.args.self.now (string_bytes c.args.name.now) c.args.fresh) c.args.fresh c.choose_file.result c.args.self.now c.choose_file.new.self (string_bytes c.args.name.now)
+    c.choose_file.ensures.answer c.choose_file.ensures.after (choice_allowed c.args.self.now (string_bytes c.args.name.now) c.args.fresh)).emptied
 
 pub returns-clause-kept : goal.returns-clause-kept
-returns-clause-kept c = λ old. ap (λ (l : List ℕ). Some l) (still c.args.self.now c.look.new.self c.look.ensures.after).kept
+returns-clause-kept c =
+    (choice (fails_choice c.args.self.now (string_bytes c.args.name.now) c.args.fresh) c.args.fresh c.choose_file.result c.args.self.now c.choose_file.new.self (string_bytes c.args.name.now)
+    c.choose_file.ensures.answer c.choose_file.ensures.after (choice_allowed c.args.self.now (string_bytes c.args.name.now) c.args.fresh)).kept
 
 pub returns-clause-images : goal.returns-clause-images
-returns-clause-images c = λ old. (still c.args.self.now c.look.new.self c.look.ensures.after).images
+returns-clause-images c =
+    (choice (fails_choice c.args.self.now (string_bytes c.args.name.now) c.args.fresh) c.args.fresh c.choose_file.result c.args.self.now c.choose_file.new.self (string_bytes c.args.name.now)
+    c.choose_file.ensures.answer c.choose_file.ensures.after (choice_allowed c.args.self.now (string_bytes c.args.name.now) c.args.fresh)).images
 
 pub returns-clause-time : goal.returns-clause-time
-returns-clause-time c = (passes_look c.args.self.now c.look.new.self c.look.ensures.after).time
+returns-clause-time c =
+    (choice (fails_choice c.args.self.now (string_bytes c.args.name.now) c.args.fresh) c.args.fresh c.choose_file.result c.args.self.now c.choose_file.new.self (string_bytes c.args.name.now)
+    c.choose_file.ensures.answer c.choose_file.ensures.after (choice_allowed c.args.self.now (string_bytes c.args.name.now) c.args.fresh)).time

@@ -1,5 +1,9 @@
-use Rattle.std.proofs.Common.{Some, List, ℕ, ap}
+use Rattle.std.proofs.Common.{◌∙◌, Some, List, ℕ, ap}
+use Rattle.key_store.specs.declared.steps_taken.Step.TheVariants.{Synced}
+use Rattle.key_store.specs.Memory.{DiskState}
+use Rattle.key_store.specs.Naming.{is_chosen}
 use Rattle.key_store.proofs.Disks.{passes_call, syncs}
+use Rattle.key_store.proofs.Named.{call_beside, step_ready, unchosen_steps}
 use Rattle.key_store.proofs.memory_disk.MemoryDiskDisk.sync.Goals as goal
 
 pub returns-clause-durable : goal.returns-clause-durable
@@ -13,3 +17,13 @@ returns-clause-images c = (syncs _ _ _ _ c.step.ensures.answer c.step.ensures.af
 
 pub returns-clause-time : goal.returns-clause-time
 returns-clause-time c = (passes_call _ _ _ _ c.step.ensures.after).time
+
+pub returns-clause-beside : goal.returns-clause-beside
+returns-clause-beside c =
+    let ready = c.is_chosen-ready.ensures ∙ ap (λ (d : DiskState). is_chosen d.naming) c.self.view_is in
+    call_beside _ c.args.self.now c.step.new.self Synced c.step.ensures.after (λ passes. step_ready c.args.self.now c.is_chosen-ready.result ready passes)
+
+pub returns-clause-unchosen : goal.returns-clause-unchosen
+returns-clause-unchosen c = λ none.
+    let ready = c.is_chosen-ready.ensures ∙ ap (λ (d : DiskState). is_chosen d.naming) c.self.view_is in
+    unchosen_steps c.args.self.now c.is_chosen-ready.result c.step.result c.step.ensures.answer ready none

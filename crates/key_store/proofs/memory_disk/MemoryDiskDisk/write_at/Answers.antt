@@ -3,12 +3,14 @@ use Rattle.key_store.specs.declared.disk.DiskAnswer.TheVariants.{Failed}
 use Rattle.key_store.specs.declared.steps_taken.Step.TheVariants.{Synced}
 use Rattle.key_store.specs.Memory.{DiskState, after_call, fails_step, file_of}
 use Rattle.key_store.proofs.Disks.{fits_place, overwrites, passes_call}
+use Rattle.key_store.specs.Naming.{is_chosen}
+use Rattle.key_store.proofs.Named.{call_beside, look_beside, step_ready, unchosen_steps}
 use Rattle.key_store.proofs.memory_disk.MemoryDiskDisk.write_at.Goals as goal
 
 pub returns-clause-written : goal.returns-clause-written
 unfolding file_of
 returns-clause-written c =
-    let is = c.step.ensures.after ∙ ap (after_call (fails_step c.args.self.now) c.args.self.now) c.write_step.ensures in
+    let is = c.step.ensures.after ∙ ap (after_call (fails_step c.args.self.now c.is_chosen-ready.result) c.args.self.now) c.write_step.ensures in
     let reads = ap length (c.self.invariant.images.file ∙ ap (λ (d : DiskState). file_of d) c.self.view_is) in
     let place = fits_place (length c.self.inside.images.file) c.args.at (length c.args.bytes.now) c.fits.result c.fits.ensures.value c.if-not-fits.false in
     let within : c.args.at ≤ length (file_of c.args.self.now) = omega (arith, reads, place) in
@@ -17,7 +19,7 @@ returns-clause-written c =
 pub returns-clause-images : goal.returns-clause-images
 unfolding file_of
 returns-clause-images c =
-    let is = c.step.ensures.after ∙ ap (after_call (fails_step c.args.self.now) c.args.self.now) c.write_step.ensures in
+    let is = c.step.ensures.after ∙ ap (after_call (fails_step c.args.self.now c.is_chosen-ready.result) c.args.self.now) c.write_step.ensures in
     let reads = ap length (c.self.invariant.images.file ∙ ap (λ (d : DiskState). file_of d) c.self.view_is) in
     let place = fits_place (length c.self.inside.images.file) c.args.at (length c.args.bytes.now) c.fits.result c.fits.ensures.value c.if-not-fits.false in
     let within : c.args.at ≤ length (file_of c.args.self.now) = omega (arith, reads, place) in
@@ -32,3 +34,16 @@ returns-then-not-fits-clause-images c =
 
 pub returns-then-not-fits-clause-time : goal.returns-then-not-fits-clause-time
 returns-then-not-fits-clause-time c = (passes_call true c.args.self.now c.fails.new.self Synced c.fails.ensures.after).time
+
+pub returns-then-not-fits-clause-beside : goal.returns-then-not-fits-clause-beside
+returns-then-not-fits-clause-beside c = look_beside true c.args.self.now c.fails.new.self c.fails.ensures.after
+
+pub returns-clause-beside : goal.returns-clause-beside
+returns-clause-beside c =
+    let ready = c.is_chosen-ready.ensures ∙ ap (λ (d : DiskState). is_chosen d.naming) c.self.view_is in
+    call_beside _ c.args.self.now c.step.new.self _ c.step.ensures.after (λ passes. step_ready c.args.self.now c.is_chosen-ready.result ready passes)
+
+pub returns-clause-unchosen : goal.returns-clause-unchosen
+returns-clause-unchosen c = λ none.
+    let ready = c.is_chosen-ready.ensures ∙ ap (λ (d : DiskState). is_chosen d.naming) c.self.view_is in
+    unchosen_steps c.args.self.now c.is_chosen-ready.result c.step.result c.step.ensures.answer ready none
