@@ -4,7 +4,8 @@ use Rattle.std.specs.Prelude.{map, Any, IfSome, IfOk, option_map}
 use Rattle.wire_core.specs.Answers.{◌>>=◌}
 use Rattle.outside.specs.Changes.{Change, Failed}
 use Rattle.dissent.specs.declared.words.Command.TheVariants.{Judge, Show, Keygen, Roster as MakeRoster}
-use Rattle.dissent.specs.Outside.{Held, Shows, IsMissing, Gains}
+use Rattle.key_store.specs.Names.{Names, StoodStays}
+use Rattle.dissent.specs.Outside.{DiskTold, Held, Shows, IsMissing, Gains}
 use Rattle.dissent.specs.Command.{Request, written_name, requested}
 use Rattle.dissent.specs.Outcome.{Input, inputs_of, reads_of, Yields, YieldsOr, YieldsBy, Tells, MayTell, Stood, known_files, Misses, within, or_bad_roster, or_refused, judge_outcome, show_outcome, keygen_outcome, outcome_of, roster_outcome, TellsFiles, accepted_line, id_line}
 use Rattle.group_roster.specs.Toml.{toml_read}
@@ -140,7 +141,7 @@ whole fault (Ok output) answer sink status y (gained, gains, inr (inl unwritten)
 whole fault (Ok output) answer sink status y (gained, gains, inr (inr memory)) = λ no_fault no_write. inr memory.0
 
 -- an answer to a request yields what is known of it
-yields_known : (fresh : List ℕ) (files : Change (Option Held)) (disk : Change (Option (List ℕ))) (request : Option Request)
+yields_known : (fresh : List ℕ) (files : Change (Option Held)) (disk : Change DiskTold) (request : Option Request)
     (answer expected : Result (List ℕ) Status) → AnswersRequest fresh files disk request answer
     → expected_of fresh files.before request ≡ Some expected → YieldsBy (FaultOf files disk request) expected answer
 yields_known fresh files disk None answer expected a e = let same : Err Usage ≡ expected = cc in inl (a ∙ same)
@@ -202,7 +203,7 @@ fault_told (MakeRoster toml out) files_fault disk_fault status P read write disk
 fault_told (MakeRoster toml out) files_fault disk_fault status P read write disk (inr e, rose) = subst P (sym e) (write (rose, refl))
 
 -- the statuses that an answer may be
-answer_cases : (fresh : List ℕ) (files : Change (Option Held)) (disk : Change (Option (List ℕ))) (request : Option Request) (status : Status)
+answer_cases : (fresh : List ℕ) (files : Change (Option Held)) (disk : Change DiskTold) (request : Option Request) (status : Status)
     (P : Status → Type 0) → (request ≡ None → P Usage) → P OutOfMemory → (Failed files ⊎ IsSomeAnd request (Misses files.before) → P ReadFault)
     → (Failed files × IsSome (written_name request) → P WriteFault) → (Failed disk → P DiskFault) → ((limit : ℕ) → P (TooLong limit))
     → ((at rule : ℕ) → P (BadRoster at rule)) → ((check post at : ℕ) → P (Refused check post at))
@@ -218,14 +219,14 @@ answer_cases fresh files disk (Some request) status P usage memory read write di
     subst P e' (fault_told request (Failed files) (Failed disk) failed P (λ rose. read (inl rose)) write disk_fails t)
 
 -- the answer that is printed whole, under its status
-answer_at : (asked : Asked) (files : Change (Option Held)) (disk : Change (Option (List ℕ))) (answer : Result (List ℕ) Status) (status : Status)
+answer_at : (asked : Asked) (files : Change (Option Held)) (disk : Change DiskTold) (answer : Result (List ℕ) Status) (status : Status)
     → status_of answer ≡ status → status ≢ Done → Answers asked files disk answer → Answers asked files disk (Err status)
 answer_at asked files disk answer status is other h =
     let P : Result (List ℕ) Status → Type 0 = λ a. Answers asked files disk a in subst P (err_of answer status is other) h
 
 -- ---- the promises, of an answer that was come to and printed
 
-module _ (asked : Asked) (files : Change (Option Held)) (disk sink : Change (Option (List ℕ))) (answer : Result (List ℕ) Status) (status : Status)
+module _ (asked : Asked) (files : Change (Option Held)) (disk : Change DiskTold) (sink : Change (Option (List ℕ))) (answer : Result (List ℕ) Status) (status : Status)
     (answered : IsAnswered asked files disk answer) (printed : IsPrinted sink answer status) where
   pub follows : IfSome (expected_in asked files) (λ expected. IsStatusOf expected (FaultOf files disk (request_in asked)) (Failed sink) status)
   follows = by_expected (expected_in asked files) refl
@@ -311,8 +312,12 @@ widened failed fault expected answer (inl e) = inl e
 widened failed fault expected answer (inr (inl e)) = inr (inl e)
 widened failed fault expected answer (inr (inr t)) = inr (inr (failed, t.0, (refl, t.1)))
 
+all_stood : (told : Option Names) → StoodStays told told
+all_stood None = tt
+all_stood (Some names) = λ name stood. refl
+
 -- a request of files alone that was answered
-over_files : (asked : Asked) (files : Change (Option Held)) (disk : Change (Option (List ℕ))) (request : Option Request)
+over_files : (asked : Asked) (files : Change (Option Held)) (disk : Change DiskTold) (request : Option Request)
     (answer : Result (List ℕ) Status) → request_in asked ≡ request → AnswersRequest asked.fresh files disk request answer
     → OnOutput (BearsOutRequest asked.fresh files disk request) answer → FilesKept files (written_name request)
     → IsUntouched files (status_of answer) → files.faults_before ≤ files.faults_now
@@ -327,16 +332,17 @@ over_files asked files disk request answer e answers bears kept untouched count 
       untouched = untouched;
       files_count = count;
       disk_kept = λ _. (disk_kept, disk_count);
+      disk_stood = subst (λ (d : DiskTold). StoodStays disk.before.names d.names) (sym disk_kept) (all_stood disk.before.names);
       disk_count = omega (arith, disk_count);
     }
 
-pub usage_answered : (asked : Asked) (files : Change (Option Held)) (disk : Change (Option (List ℕ))) → request_in asked ≡ None
+pub usage_answered : (asked : Asked) (files : Change (Option Held)) (disk : Change DiskTold) → request_in asked ≡ None
     → files.now ≡ files.before → files.faults_now ≡ files.faults_before → disk.now ≡ disk.before → disk.faults_now ≡ disk.faults_before
     → IsAnswered asked files disk (Err Usage)
 usage_answered asked files disk e kept count disk_kept disk_count =
     over_files asked files disk None (Err Usage) e refl (λ f. absurd cc) kept (λ _ _ _. kept) (omega (arith, count)) disk_kept disk_count
 
-pub judge_answered : (asked : Asked) (files : Change (Option Held)) (disk : Change (Option (List ℕ))) (roster transcript : List ℕ)
+pub judge_answered : (asked : Asked) (files : Change (Option Held)) (disk : Change DiskTold) (roster transcript : List ℕ)
     (answer : Result (List ℕ) Status) → request_in asked ≡ Some (Judge roster transcript)
     → ((roster_file transcript_file : Option (List ℕ)) × Shows files.before roster roster_file × Shows files.before transcript transcript_file
     × Yields (Failed files) (judge_outcome (within 4096 roster_file) (within 134217728 transcript_file)) answer)
@@ -348,7 +354,7 @@ judge_answered asked files disk roster transcript answer e (file, second, shows,
     (file ∷ second ∷ [], (shows, (shows', tt)), widened ReadFault (Failed files) (judge_outcome (within 4096 file) (within 134217728 second)) answer y)
     bears kept (λ _ _ _. kept) count disk_kept disk_count
 
-pub show_answered : (asked : Asked) (files : Change (Option Held)) (disk : Change (Option (List ℕ))) (roster : List ℕ) (round : ℕ) (post : List ℕ)
+pub show_answered : (asked : Asked) (files : Change (Option Held)) (disk : Change DiskTold) (roster : List ℕ) (round : ℕ) (post : List ℕ)
     (answer : Result (List ℕ) Status) → request_in asked ≡ Some (Show roster round post)
     → ((roster_file post_file : Option (List ℕ)) × Shows files.before roster roster_file × Shows files.before post post_file
     × Yields (Failed files) (show_outcome round (within 4096 roster_file) (within 16777216 post_file)) answer)
@@ -360,19 +366,19 @@ show_answered asked files disk roster round post answer e (file, second, shows, 
     (file ∷ second ∷ [], (shows, (shows', tt)), widened ReadFault (Failed files) (show_outcome round (within 4096 file) (within 16777216 second)) answer y)
     bears kept (λ _ _ _. kept) count disk_kept disk_count
 
-pub roster_answered : (asked : Asked) (files : Change (Option Held)) (disk : Change (Option (List ℕ))) (toml out : List ℕ)
+pub roster_answered : (asked : Asked) (files : Change (Option Held)) (disk : Change DiskTold) (toml out : List ℕ)
     (answer : Result (List ℕ) Status) → request_in asked ≡ Some (MakeRoster toml out) → IsRosterRun files toml out answer
     → disk.now ≡ disk.before → disk.faults_now ≡ disk.faults_before → IsAnswered asked files disk answer
 roster_answered asked files disk toml out answer e ran disk_kept disk_count =
     over_files asked files disk (Some (MakeRoster toml out)) answer e
     (ran.answers.0 ∷ [], (ran.answers.1, tt), ran.answers.2) ran.borne_out ran.others ran.untouched ran.count disk_kept disk_count
 
-pub keygen_answered : (asked : Asked) (files : Change (Option Held)) (disk : Change (Option (List ℕ))) (key : List ℕ) (height : MadeHeight) (width : OtsType)
+pub keygen_answered : (asked : Asked) (files : Change (Option Held)) (disk : Change DiskTold) (key : List ℕ) (height : MadeHeight) (width : OtsType)
     (answer : Result (List ℕ) Status) → request_in asked ≡ Some (Keygen key height width)
     → YieldsOr DiskFault (Failed disk) (keygen_outcome asked.fresh height width) answer
-    → OnOutput (IsMade height width asked.fresh disk.now) answer → disk.faults_before ≤ disk.faults_now
+    → OnOutput (IsMade height width asked.fresh key disk) answer → StoodStays disk.before.names disk.now.names → disk.faults_before ≤ disk.faults_now
     → files.now ≡ files.before → files.faults_now ≡ files.faults_before → IsAnswered asked files disk answer
-keygen_answered asked files disk key height width answer e y bears disk_count kept count =
+keygen_answered asked files disk key height width answer e y bears stood disk_count kept count =
     let request = Some (Keygen key height width) in
     let At : Option Request → Type 0 = λ r. AnswersRequest asked.fresh files disk r answer in
     let Borne : Option Request → Type 0 = λ r. OnOutput (BearsOutRequest asked.fresh files disk r) answer in
@@ -384,6 +390,7 @@ keygen_answered asked files disk key height width answer e y bears disk_count ke
       untouched = λ _ _ _. kept;
       files_count = omega (arith, count);
       disk_kept = subst Kept (sym e) (λ other. absurd (other refl));
+      disk_stood = stood;
       disk_count = disk_count;
     }
 

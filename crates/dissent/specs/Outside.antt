@@ -1,11 +1,20 @@
 -- The outside of the program as its contracts see it: files by name, a sink of bytes, and counts of faults.
 use Rattle.std.specs.Prelude.{◌≡◌, ◌≢◌, ℕ, List, ◌++◌, ⊤, Option, Some, None, IsSome, IfSome, IsSomeAnd}
+use Rattle.key_store.specs.Names.{Names}
 use Rattle.dissent.specs.declared.interfaces.FileRead.{FileRead}
 use Rattle.dissent.specs.declared.interfaces.FileRead.TheVariants.{Bytes, TooLong, Failed, OutOfMemory}
 
 -- what files hold: the bytes of each name, or nothing where the name is missing
 abbrev pub Held : Type 0
 Held = List ℕ → Option (List ℕ)
+
+-- what a disk tells: its file, and its names
+pub record DiskTold : Type 0 where
+  pub file : Option (List ℕ)
+  pub names : Option Names
+
+abbrev pub telling : {D : Type 0} → (file : D → Option (List ℕ)) → (names : D → Option Names) → D → DiskTold
+telling file names disk = record { file = file disk; names = names disk }
 
 -- the files tell what they hold, and this name is missing
 abbrev pub IsMissing : Option Held → List ℕ → Type 0

@@ -5,7 +5,7 @@ use Rattle.outside.specs.Changes.{Change, Failed}
 use Rattle.dissent.specs.declared.status.Status.{Status}
 use Rattle.dissent.specs.declared.status.Status.TheVariants.{Done, Usage, ReadFault, WriteFault, DiskFault, OutOfMemory}
 use Rattle.dissent.specs.declared.words.Command.TheVariants.{Judge, Show, Keygen, Roster as MakeRoster}
-use Rattle.dissent.specs.Outside.{Held, Shows, HoldsNow, OthersStay, Gains}
+use Rattle.dissent.specs.Outside.{DiskTold, Held, Shows, HoldsNow, OthersStay, Gains}
 use Rattle.dissent.specs.Command.{Request, makes_key, written_name, requested}
 use Rattle.dissent.specs.Outcome.{Input, within, inputs_of, roster_outcome, outcome_of, TellsFiles, MayTell, YieldsBy, Stood, known_files, Misses, made_parts, key_line, accepted_line, id_line}
 use Rattle.group_roster.specs.Toml.{toml_read}
@@ -21,6 +21,7 @@ use Rattle.lms_tree.specs.Secret.{own_public}
 use Rattle.lm_ots.specs.declared.types.OtsType.{OtsType}
 use Rattle.lms_tree.specs.declared.secrets.MadeHeight.{MadeHeight}
 use Rattle.key_store.specs.KeyFiles.{key_read, new_content}
+use Rattle.key_store.specs.Names.{KeepsOthers, Names, StoodStays}
 
 -- what the call was asked: the words, and the bytes that `keygen` makes a key of
 pub record Asked : Type 0 where
@@ -38,14 +39,14 @@ MakesKey request = IsTrue (makes_key request)
 -- ---- answers and statuses
 
 -- an answer to a request over these files and this disk
-abbrev pub AnswersRequest : List ℕ → Change (Option Held) → Change (Option (List ℕ)) → Option Request → Result (List ℕ) Status → Type 0
+abbrev pub AnswersRequest : List ℕ → Change (Option Held) → Change DiskTold → Option Request → Result (List ℕ) Status → Type 0
 AnswersRequest fresh files disk None answer = answer ≡ Err Usage
 AnswersRequest fresh files disk (Some request) answer =
     (contents : List (Option (List ℕ))) × Stood files.before (inputs_of request) contents
     × YieldsBy (MayTell request (Failed files) (Failed disk)) (outcome_of fresh request contents) answer
 
 -- the answer to what was asked
-abbrev pub Answers : Asked → Change (Option Held) → Change (Option (List ℕ)) → Result (List ℕ) Status → Type 0
+abbrev pub Answers : Asked → Change (Option Held) → Change DiskTold → Result (List ℕ) Status → Type 0
 Answers asked files disk answer = AnswersRequest asked.fresh files disk (request_in asked) answer
 
 -- what a request comes to, where that is known; other words come to Usage
@@ -57,7 +58,7 @@ abbrev pub expected_in : Asked → Change (Option Held) → Option (Result (List
 expected_in asked files = expected_of asked.fresh files.before (request_in asked)
 
 -- the faults of files and disk that a request may end with
-abbrev pub FaultOf : Change (Option Held) → Change (Option (List ℕ)) → Option Request → Status → Type 0
+abbrev pub FaultOf : Change (Option Held) → Change DiskTold → Option Request → Status → Type 0
 FaultOf files disk None status = ⊥
 FaultOf files disk (Some request) status = MayTell request (Failed files) (Failed disk) status
 
@@ -112,11 +113,23 @@ FilesShow told roster round post output =
     (roster_file post_file : Option (List ℕ)) × Shows told roster roster_file × Shows told post post_file
     × IsShowing round roster_file post_file output
 
--- an output is the line of the public key that a master gives, and the disk, where it tells its file, holds the key file
--- of this master, which stands for round 0 and leaf 0
-pub record IsMade (height : MadeHeight) (width : OtsType) (master : List ℕ) (told : Option (List ℕ)) (output : List ℕ) : Type 0 where
+-- nothing stood under a name, where now there is the key file of this master, which stands for round 0 and leaf 0; what
+-- stands under all other names stays
+pub record HasMade (height : MadeHeight) (width : OtsType) (master name : List ℕ) (before now : Names) : Type 0 where
+  pub missing : before.held name ≡ None
+  pub holds : IsSomeAnd (now.held name) (λ file. key_read (take 128 file) ≡ Ok (new_content height width master))
+  pub others : (other : List ℕ) → other ≢ name → now.held other ≡ before.held other
+
+-- the same where the names are told, which then they are now too
+abbrev pub MakesFile : MadeHeight → OtsType → (master name : List ℕ) → Option Names → Option Names → Type 0
+MakesFile height width master name told now = IfSome told (λ before. IsSomeAnd now (HasMade height width master name before))
+
+-- an output is the line of the public key that a master gives, and the disk, as far as it tells, has the key file of this
+-- master, under a name where nothing stood
+pub record IsMade (height : MadeHeight) (width : OtsType) (master name : List ℕ) (disk : Change DiskTold) (output : List ℕ) : Type 0 where
   pub printed : output ≡ key_line (own_public (made_parts height width master))
-  pub holds : IfSome told (λ file. key_read (take 128 file) ≡ Ok (new_content height width master))
+  pub holds : IfSome disk.now.file (λ file. key_read (take 128 file) ≡ Ok (new_content height width master))
+  pub named : MakesFile height width master name disk.before.names disk.now.names
 
 -- A file stands for a roster in TOML, and an output is this roster's id. The file of the name `out`, where the files
 -- tell it, now holds the roster's bytes.
@@ -135,14 +148,14 @@ FilesHold files toml out output = (toml_file : Option (List ℕ)) × Shows files
 
 -- The outside bears an output out: the files that the words name convict whom `judge` names, or hold what `show` tells;
 -- or the disk holds the key file that `keygen` makes of the master; or a file holds the roster that `roster` tells of.
-abbrev pub BearsOutRequest : List ℕ → Change (Option Held) → Change (Option (List ℕ)) → Option Request → List ℕ → Type 0
+abbrev pub BearsOutRequest : List ℕ → Change (Option Held) → Change DiskTold → Option Request → List ℕ → Type 0
 BearsOutRequest fresh files disk None output = ⊥
 BearsOutRequest fresh files disk (Some (Judge roster transcript)) output = FilesConvict files.before roster transcript output
 BearsOutRequest fresh files disk (Some (Show roster round post)) output = FilesShow files.before roster round post output
-BearsOutRequest fresh files disk (Some (Keygen key height width)) output = IsMade height width fresh disk.now output
+BearsOutRequest fresh files disk (Some (Keygen key height width)) output = IsMade height width fresh key disk output
 BearsOutRequest fresh files disk (Some (MakeRoster toml out)) output = FilesHold files toml out output
 
-abbrev pub BearsOut : Asked → Change (Option Held) → Change (Option (List ℕ)) → List ℕ → Type 0
+abbrev pub BearsOut : Asked → Change (Option Held) → Change DiskTold → List ℕ → Type 0
 BearsOut asked files disk output = BearsOutRequest asked.fresh files disk (request_in asked) output
 
 -- an answer that is an output has P, and one that is a status is not Done
@@ -168,7 +181,7 @@ IsUntouched files status = status ≢ Done → status ≢ WriteFault → status 
 -- ---- the promises
 
 -- what came of the words, before it is printed
-pub record IsAnswered (asked : Asked) (files : Change (Option Held)) (disk : Change (Option (List ℕ)))
+pub record IsAnswered (asked : Asked) (files : Change (Option Held)) (disk : Change DiskTold)
     (answer : Result (List ℕ) Status) : Type 0 where
   pub answers : Answers asked files disk answer
   pub borne_out : OnOutput (BearsOut asked files disk) answer
@@ -176,6 +189,7 @@ pub record IsAnswered (asked : Asked) (files : Change (Option Held)) (disk : Cha
   pub untouched : IsUntouched files (status_of answer)
   pub files_count : files.faults_before ≤ files.faults_now
   pub disk_kept : ¬ MakesKey (request_in asked) → (disk.now ≡ disk.before) × (disk.faults_now ≡ disk.faults_before)
+  pub disk_stood : StoodStays disk.before.names disk.now.names
   pub disk_count : disk.faults_before ≤ disk.faults_now
 
 -- what came of the command `roster` with these names
@@ -193,7 +207,7 @@ pub record IsPrinted (sink : Change (Option (List ℕ))) (answer : Result (List 
   pub count : sink.faults_before ≤ sink.faults_now
 
 -- What the call did, and with which status it ended.
-pub record IsRun (asked : Asked) (files : Change (Option Held)) (disk sink : Change (Option (List ℕ))) (status : Status) : Type 0 where
+pub record IsRun (asked : Asked) (files : Change (Option Held)) (disk : Change DiskTold) (sink : Change (Option (List ℕ))) (status : Status) : Type 0 where
   -- it came to an answer to what was asked, and printed it
   pub ends : (answer : Result (List ℕ) Status) × Answers asked files disk answer × Delivers sink answer status
   -- where it is known what the words come to, the status follows from it, but for memory and for faults that counts tell
@@ -201,7 +215,7 @@ pub record IsRun (asked : Asked) (files : Change (Option Held)) (disk sink : Cha
   -- and with no fault the whole output is printed
   pub complete : IfSome (expected_in asked files) (IsWhole (FaultOf files disk (request_in asked)) sink status)
   -- Done comes of `judge` only where the files convict, and nobody is framed by them; of `show` only where the post passes
-  -- the eight checks; of `keygen` only where the disk has the key file that the fresh bytes make; and of `roster` only
+  -- the eight checks; of `keygen` only where the name, under which nothing stood, has the key file of the fresh bytes; and of `roster` only
   -- where the file of its name now holds the roster that the file in TOML stands for
   pub borne_out : status ≡ Done → PrintsOutput (BearsOut asked files disk) sink
   -- what each status of words and faults tells
@@ -209,10 +223,12 @@ pub record IsRun (asked : Asked) (files : Change (Option Held)) (disk sink : Cha
   pub read_fault : status ≡ ReadFault → Failed files ⊎ IsSomeAnd (request_in asked) (Misses files.before)
   pub disk_fault : status ≡ DiskFault → Failed disk
   pub write_fault : status ≡ WriteFault → Failed sink ⊎ (Failed files × IsSome (written_name (request_in asked)))
-  -- what stays: the files but for the one that `roster` writes, the disk but in `keygen`; and no count falls
+  -- what stays: the files but for the one that `roster` writes, the disk but in `keygen`, and whatever stood on it in
+  -- `keygen` too; and no count falls
   pub files_kept : FilesKept files (written_name (request_in asked))
   pub untouched : IsUntouched files status
   pub disk_kept : ¬ MakesKey (request_in asked) → (disk.now ≡ disk.before) × (disk.faults_now ≡ disk.faults_before)
+  pub disk_stood : StoodStays disk.before.names disk.now.names
   pub files_count : files.faults_before ≤ files.faults_now
   pub disk_count : disk.faults_before ≤ disk.faults_now
   pub sink_count : sink.faults_before ≤ sink.faults_now

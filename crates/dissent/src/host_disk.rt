@@ -40,11 +40,15 @@ impl<'a, R: rt::Files> Disk for HostDisk<'a, R> {
 
     ghost file = { λ _. None };
 
+    ghost names = { λ _. None };
+
     ghost may_leave = { λ _ _. Unit {0} };
 
     ghost moment = { λ _. 0 };
 
     ghost left_since = { λ _ _ _. Unit {0} };
+
+    ghost names_show_file = { λ _. tt };
 
     ghost read_is_image = { λ _. tt };
 

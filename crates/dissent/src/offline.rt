@@ -3,7 +3,8 @@ ghost use Rattle.std.specs.Prelude.{◌≡◌, ◌≢◌, ◌⊎◌, ◌≤◌, 
 ghost use Rattle.outside.specs.Faults.{Rose};
 ghost use Rattle.outside.specs.Changes.{change_of};
 ghost use Rattle.group_roster.specs.Given.{roster_of};
-ghost use Rattle.dissent.specs.Outside.{Shows, HoldsNow, OthersStay, GainsFirstOf};
+ghost use Rattle.key_store.specs.Names.{StoodStays};
+ghost use Rattle.dissent.specs.Outside.{Shows, HoldsNow, OthersStay, GainsFirstOf, telling};
 ghost use Rattle.dissent.specs.Command.{texts};
 ghost use Rattle.dissent.specs.Outcome.{Yields, YieldsOr, within, judge_outcome, show_outcome, keygen_outcome, key_line, accepted_line, id_line};
 ghost use Rattle.dissent.specs.Delivery.{DeliversText, answer_bytes, status_of, text_of};
@@ -48,7 +49,7 @@ pub fn run_offline<R: Threads + Sync, F: Files, D: Disk, O: Sink>(
     ensures { IsRun
         (record { words = texts words.now.items; fresh = fresh })
         (change_of F.faults F.told files.old files.new)
-        (change_of D.faults D.file disk.old disk.new)
+        (change_of D.faults (telling D.file D.names) disk.old disk.new)
         (change_of O.faults O.told out.old out.new)
         result }
 {
@@ -67,7 +68,7 @@ fn answer_words<F: Files, D: Disk>(
     ensures { IsAnswered
         (record { words = texts words.now.items; fresh = fresh.now })
         (change_of F.faults F.told files.old files.new)
-        (change_of D.faults D.file disk.old disk.new)
+        (change_of D.faults (telling D.file D.names) disk.old disk.new)
         (answer_bytes result) }
 {
     match read_words(words) {
@@ -161,11 +162,14 @@ fn run_keygen<D: Disk>(
 ) -> Result<Vec<u8>, Status>
     ensures answers { YieldsOr Status.DiskFault (Rose (D.faults disk.old) (D.faults disk.new))
         (keygen_outcome fresh.now height width) (answer_bytes result) }
-    ensures made { OnOutput (IsMade height width fresh.now (D.file disk.new)) (answer_bytes result) }
+    ensures made { OnOutput (IsMade height width fresh.now (string_bytes name.now)
+        (change_of D.faults (telling D.file D.names) disk.old disk.new)) (answer_bytes result) }
+    ensures stood { StoodStays (D.names disk.old) (D.names disk.new) }
     ensures no_fall { D.faults disk.old ≤ D.faults disk.new }
 {
-    if disk.choose(name, true) == DiskAnswer::Failed {
-        return Err(Status::DiskFault);
+    match disk.choose(name, true) {
+        DiskAnswer::Done => {}
+        DiskAnswer::Failed => return Err(Status::DiskFault),
     }
     match key_store::create(alloc, disk, height, width, fresh) {
         Ok(key) => Ok(key_text(alloc, &key)?),

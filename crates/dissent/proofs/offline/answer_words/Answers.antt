@@ -15,7 +15,7 @@ returns-in-Some-Show g c =
 pub returns-in-Some-Keygen : goal.returns-in-Some-Keygen
 returns-in-Some-Keygen g c =
     keygen_answered _ _ _ _ _ _ _ (rw c.in-Some-Keygen.field-0-is at c.in-Some-Keygen.ensures) c.run_keygen.ensures.answers
-    c.run_keygen.ensures.made c.run_keygen.ensures.no_fall refl refl
+    c.run_keygen.ensures.made c.run_keygen.ensures.stood c.run_keygen.ensures.no_fall refl refl
 
 pub returns-in-Some-Roster : goal.returns-in-Some-Roster
 returns-in-Some-Roster g c =

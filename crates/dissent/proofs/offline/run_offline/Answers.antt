@@ -16,6 +16,7 @@ returns g c =
       files_kept = answered.files_kept;
       untouched = untouched _ _ _ _ _ _ answered printed;
       disk_kept = answered.disk_kept;
+      disk_stood = answered.disk_stood;
       files_count = answered.files_count;
       disk_count = answered.disk_count;
       sink_count = printed.count;
