@@ -3,13 +3,30 @@
 ghost use Rattle.std.specs.Prelude.{◌≤◌, IfOk, None, length};
 
 use key_store::{Disk, DiskAnswer, DiskRead};
-use std::fs::{OpenFile, OpenOptions};
+use std::fs::{File, OpenFile, OpenOptions};
 use std::io::{ErrorKind, Read, Seek, SeekFrom, Write};
 use std::os::unix::fs::OpenOptionsExt;
+use std::path::Path;
 use std::{io, rt};
 
+/// A file that one opener at a time may hold.
+pub trait Lock {
+    /// Takes the file's lock until the file is closed, or fails where another opener holds it.
+    fn hold(&self) -> io::Result<()>;
+}
+
+impl Lock for File {
+    fn hold(&self) -> io::Result<()> {
+        match self.try_lock() {
+            Ok(()) => Ok(()),
+            Err(error) => Err(io::Error::from(error)),
+        }
+    }
+}
+
 /// A file of the system. Where nothing is chosen yet, and after a choice that failed, each call fails. The choice of a
-/// fresh file fails where the name stands; the file is then its owner's alone to read and write.
+/// fresh file fails where the name stands; the file is then its owner's alone to read and write, and its folder is
+/// brought onto the disk. While a file is chosen its lock is held: the choice of a file that another holds fails.
 #[derive(Drop)]
 pub struct HostDisk<'a, R: rt::Files> {
     rt: &'a R,
@@ -33,7 +50,10 @@ impl<'a, R: rt::Files> HostDisk<'a, R> {
     }
 }
 
-impl<'a, R: rt::Files> Disk for HostDisk<'a, R> {
+impl<'a, R: rt::Files> Disk for HostDisk<'a, R>
+where
+    R::File: Lock,
+{
     ghost use Rattle.dissent.specs.Host.{disk_faults};
 
     ghost faults = { λ disk. disk_faults disk };
@@ -58,7 +78,7 @@ impl<'a, R: rt::Files> Disk for HostDisk<'a, R> {
 
     fn choose(&mut self, name: &String, fresh: bool) -> DiskAnswer {
         self.file = None;
-        match open_file(self.rt, name, fresh) {
+        match held_file(self.rt, name, fresh) {
             Ok(file) => {
                 self.file = Some(file);
                 DiskAnswer::Done
@@ -99,6 +119,29 @@ impl<'a, R: rt::Files> Disk for HostDisk<'a, R> {
             }
         }
     }
+}
+
+// Opens a file, takes its lock, and brings the folder of a fresh one onto the disk.
+fn held_file<R: rt::Files>(rt: &R, name: &String, fresh: bool) -> io::Result<R::File>
+where
+    R::File: Lock,
+{
+    let file = open_file(rt, name, fresh)?;
+    file.hold()?;
+    if fresh {
+        sync_folder(rt, name)?;
+    }
+    Ok(file)
+}
+
+// Brings the folder of a name onto the disk.
+fn sync_folder<R: rt::Files>(rt: &R, name: &String) -> io::Result<()> {
+    let path = Path::new(name.as_str());
+    let folder = match path.parent() {
+        Some(folder) if !folder.as_str().is_empty() => folder.as_str(),
+        _ => ".",
+    };
+    OpenOptions::new().read(true).open(rt, folder)?.sync_all()
 }
 
 // Opens a file for reading and writing.

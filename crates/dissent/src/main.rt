@@ -17,7 +17,7 @@ mod tests;
 mod words;
 
 pub use host::{HostFiles, WriterSink};
-pub use host_disk::HostDisk;
+pub use host_disk::{HostDisk, Lock};
 pub use interfaces::{FileRead, FileWrite, Files, Sink, SinkAnswer};
 pub use memory::{MemoryFiles, MemorySink};
 use offline::print;
@@ -38,7 +38,10 @@ fn main(rt: HostRuntime) -> ExitCode {
 }
 
 // Runs the command that the program was started with.
-fn run<R: Runtime<A = Global> + RandomSource + Threads + Sync>(rt: &R) -> Status {
+fn run<R: Runtime<A = Global> + RandomSource + Threads + Sync>(rt: &R) -> Status
+where
+    R::File: Lock,
+{
     let mut out = WriterSink::new(io::writer(rt));
     match run_given(rt, &mut out) {
         Ok(status) => status,
@@ -51,7 +54,10 @@ fn run<R: Runtime<A = Global> + RandomSource + Threads + Sync>(rt: &R) -> Status
 fn run_given<R: Runtime<A = Global> + RandomSource + Threads + Sync, O: Sink>(
     rt: &R,
     out: &mut O,
-) -> Result<Status, Status> {
+) -> Result<Status, Status>
+where
+    R::File: Lock,
+{
     let alloc = rt.alloc();
     let words = given_words(rt)?;
     let mut fresh = [0; 32];
