@@ -3,6 +3,7 @@
 use super::*;
 use key_store::{Disk, DiskAnswer, DiskRead, MemoryDisk};
 use std::alloc::Global;
+use std::os::unix::fs::PermissionsExt;
 use std::test::Fail;
 use std::thread::Threads;
 
@@ -306,6 +307,11 @@ fn a_real_file_is_a_disk(rt: HostRuntime) -> Result<(), Fail> {
     let mut disk = HostDisk::new(&rt);
     assert_eq!(rt; disk.sync(), DiskAnswer::Failed);
     assert_eq!(rt; disk.choose(&name, true), DiskAnswer::Done);
+    let mode = std::fs::metadata(&rt, name.as_str())?.permissions().mode();
+    assert_eq!(rt; mode & 0o777, 0o600);
+    // A second opener can't choose the file while it is chosen.
+    let mut other = HostDisk::new(&rt);
+    assert_eq!(rt; other.choose(&name, false), DiskAnswer::Failed);
     assert_eq!(rt; disk.write_at(0, b"a disk"), DiskAnswer::Done);
     assert_eq!(rt; disk.write_at(2, b"DISK"), DiskAnswer::Done);
     assert_eq!(rt; disk.sync(), DiskAnswer::Done);
