@@ -1,20 +1,21 @@
 //! The look at one listed post: its seven checks before the body, its slot, and its body where the claim asks for it.
 
 ghost use Rattle.group_roster.specs.Given.{roster_of};
-ghost use Rattle.std.specs.Prelude.{◌≡◌, ◌<◌, ◌≤◌, ◌^◌, length, Some, Ok, Err, IfOk, IsOk, IsTrue};
+ghost use Rattle.std.specs.Prelude.{◌≡◌, ◌<◌, ◌≤◌, ◌^◌, All, length, map, None, Some, Ok, Err, IfOk, IsOk, IsTrue};
 ghost use Rattle.wire_core.specs.Answers.{Gives};
 ghost use Rattle.phase_message.specs.declared.content.Body.{Body};
 ghost use Rattle.phase_message.specs.Grammar.{kind_number};
 ghost use Rattle.phase_message.specs.Stages.{is_slot, kind_of_stage, shape_of};
 ghost use Rattle.group_roster.specs.Roster.{shape_of_roster};
-ghost use Rattle.judge_core.specs.Checks.{Looks, content_of, heard_of, is_asked, is_closing_stage, is_final_stage, is_keys_stage, is_kind_asked, is_of_bodies, is_of_one_stage, is_pad_stage, taken_of};
+ghost use Rattle.judge_core.specs.Checks.{Looks, content_of, failed_of, heard_of, hearing_of, is_asked, is_closing_stage, is_final_stage, is_keys_stage, is_kind_asked, is_of_bodies, is_of_one_stage, is_pad_stage, taken_of};
 ghost use Rattle.judge_core.specs.Case.{case_of, said_of};
 
-use crate::failed_check::FailedCheck;
+use crate::failed_check::{FailedCheck, Unjudged};
 use group_roster::Roster;
 use phase_message::{Header, Slot, StageKind, first_offence, slot_number, stage_kind};
 use signed_post::{PostRefusal, check_parts, unframed};
-use transcript_form::{Accusation, Claim};
+use std::alloc::Global;
+use transcript_form::{Accusation, Claim, ListedPosts};
 
 // Where the number of a content's kind stands.
 const KIND_AT: usize = 75;
@@ -193,4 +194,31 @@ fn is_kind_asked(claim: Claim, first: Option<Header>, kind: u8) -> bool
         (Claim::Replay, _) => kind == 7 || kind == 11,
         _ => true,
     }
+}
+
+// What is taken of the listed posts, one after the other. Out of memory is told behind the checks of all posts.
+pub(crate) fn take_all<'a>(
+    alloc: Global,
+    case: Case<'_>,
+    posts: ListedPosts<'a>,
+) -> Result<Vec<Said<'a>>, Unjudged>
+    requires { length posts < 2 ^ 31 }
+    ensures exact { Gives failed_of (λ said. map said_of said.items) result (hearing_of (case_of case.entry) None 1 posts.entry) }
+    ensures short { IfOk result (λ said. All (λ one. length one.content.now < 2 ^ 32) said.items) }
+    ensures memory { result ≡ Err Unjudged.Memory → IsOk (hearing_of (case_of case.entry) None 1 posts.entry) }
+{
+    let mut all = Vec::new(alloc);
+    let mut first = None;
+    let mut number = 1;
+    let mut lost = false;
+    for bytes in posts {
+        let said = take(case, first, number, bytes)?;
+        first = first.or(Some(said.header));
+        number += 1;
+        lost = lost || all.push(said).is_err();
+    }
+    if lost {
+        return Err(Unjudged::Memory);
+    }
+    Ok(all)
 }
