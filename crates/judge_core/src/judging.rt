@@ -31,9 +31,9 @@ pub struct Accepted {
 }
 
 /// Whom the bytes of a transcript convict under a roster, and of what. `Check` names the first check
-/// that they fail, as `FailedCheck` has them. Replay and Pad are not decided yet: either fails check 2
-/// at 5, before what follows it is looked at. Nothing of the bytes is copied before all listed posts
-/// pass their checks, and out of memory hides none of these.
+/// that they fail, as `FailedCheck` has them. Replay and Pad are not decided so far: they fail check 2 at 5, before what
+/// follows it is looked at. Nothing of the bytes is copied before all listed posts pass the checks 1 to 7, and out of
+/// memory hides none of these.
 ///
 /// It stands on no premise: what convicts is accepted, whoever wrote it down, and nothing else is. A
 /// member whose contents give no ground for a claim is not convicted of it, unless its signature was forged; of
