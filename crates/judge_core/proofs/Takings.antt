@@ -52,7 +52,7 @@ takes-next case posts left post rest first next number lost now kept more given 
     let rest_from : Option Header → Result (List Said) FailedCheck = λ h. hearing_of case h (number + 1) rest in
     let opened : hearing_of case first number (post ∷ rest) ≡ (taken_of case first number post >>= λ said. rest_from (Some (unwrap_or first said.header)) >>= λ others. list_ok (said ∷ others)) = refl in
     let heard : hearing_of case first number (post ∷ rest) ≡ (rest_from (Some (unwrap_or first given.header)) >>= λ others. list_ok (said ∷ others)) =
-        opened ∙ ap (λ (t : Result Said FailedCheck). t >>= λ said. rest_from (Some (unwrap_or first said.header)) >>= λ others. list_ok (said ∷ others)) taken in
+    opened ∙ ap (λ (t : Result Said FailedCheck). t >>= λ said. rest_from (Some (unwrap_or first said.header)) >>= λ others. list_ok (said ∷ others)) taken in
     record {
       done = so.done ++ said ∷ [];
       so_far = so.so_far ∙ ap (λ (l : List (List ℕ)). hearing_of case first number l >>= λ others. list_ok (so.done ++ others)) is
