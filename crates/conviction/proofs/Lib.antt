@@ -1,0 +1,13 @@
+pub mod Posts
+pub mod Pasts
+pub mod Bodies
+pub mod Closings
+pub mod OnePost
+pub mod OwnRows
+pub mod Replays
+pub mod Submissions
+pub mod Saids
+pub mod Shuffles
+pub mod OwnFronts
+pub mod NoGos
+pub mod OwnVotes
