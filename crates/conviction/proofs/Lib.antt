@@ -11,3 +11,10 @@ pub mod Shuffles
 pub mod OwnFronts
 pub mod NoGos
 pub mod OwnVotes
+pub mod OwnReplays
+pub mod Listed
+pub mod ReplayStrings
+pub mod ListedLogs
+pub mod SamePasts
+pub mod BadPads
+pub mod Framings

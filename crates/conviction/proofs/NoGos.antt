@@ -1,23 +1,20 @@
 -- The vote of an honest member is yes where nothing else is at fault.
-use Rattle.std.proofs.Common.{◌≡◌, ◌≢◌, ◌⊎◌, ℕ, zero, suc, ◌+◌, ◌-◌, ◌<◌, ◌≤◌, Bool, true, false, ◌&&◌, ◌||◌, List, [], ◌∷◌, length, get_or, map, take, drop, Option, Some, None, Result, Ok, Err, ap, sym, ◌∙◌, refl, subst, arith, inl, inr, IsPermutation}
-use Rattle.std.specs.Prelude.{Contains, bytes_eq, is_none, option_map, slice_index_or}
-use Rattle.std.specs.List.{list_any, slice_get, slice_range, range_with_len}
+use Rattle.std.proofs.Common.{◌≡◌, ℕ, zero, suc, ◌+◌, ◌-◌, ◌<◌, ◌≤◌, Bool, true, false, ◌||◌, List, [], ◌∷◌, length, map, take, drop, Option, Some, None, Result, Ok, Err, ap, sym, ◌∙◌, refl, arith, inl, inr}
+use Rattle.std.specs.Prelude.{Contains, bytes_eq, option_map}
+use Rattle.std.specs.List.{list_any, slice_get, range_with_len}
 use Rattle.std.proofs.lemmas.List.{length-map, length-take, take_all}
 use Rattle.std.proofs.lemmas.Option.{get_or_from_slice_get, slice_get-map}
 use Rattle.std.proofs.lemmas.Slice.Eq.{bytes_eq-Decides}
-use Rattle.phase_message.specs.declared.content.Body.{Body}
-use Rattle.phase_message.specs.declared.content.Body.TheVariants.{Shuffled}
 use Rattle.phase_message.specs.declared.content.Content.{Content}
 use Rattle.phase_message.specs.declared.offence.Offence.{Offence}
 use Rattle.phase_message.specs.declared.stage.StageKind.TheVariants.{Shuffle as AtShuffle}
 use Rattle.phase_message.specs.Offence.{content_read}
 use Rattle.phase_message.specs.Shape.{Shape}
 use Rattle.phase_message.specs.Slots.{slot_number, slots_before}
-use Rattle.phase_message.specs.Stages.{kind_of_stage}
 use Rattle.phase_message.proofs.Counts.{slots_next}
 use Rattle.stage_log.specs.Log.{all_some, first_wrong, wrong_at}
 use Rattle.stage_log.proofs.Fronts.{first_wrong-take}
-use Rattle.stage_log.proofs.Pasts.{all_some-is, option_map-some}
+use Rattle.stage_log.proofs.Pasts.{all_some-is}
 use Rattle.stage_log.proofs.Views.{slice_get-take}
 use Rattle.wire_core.proofs.AnswerLemmas.{first_below-each, first_below-none}
 use Rattle.phase_message.proofs.SlotLists.{slots_before-rises}

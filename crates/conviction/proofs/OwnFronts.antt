@@ -1,27 +1,25 @@
 -- What a member submits looks at nothing that is said at its stage or later.
-use Rattle.std.proofs.Common.{◌≡◌, ℕ, zero, suc, ◌+◌, ◌-◌, ◌<◌, ◌≤◌, Bool, true, false, List, [], ◌∷◌, length, map, take, Option, Some, None, ap, sym, ◌∙◌, refl, arith, rules, inl, inr}
+use Rattle.std.proofs.Common.{◌≡◌, ℕ, zero, suc, ◌+◌, ◌<◌, ◌≤◌, true, false, List, [], map, take, Option, Some, ap, sym, ◌∙◌, refl, arith, rules, inl, inr}
 use Rattle.std.specs.Prelude.{◌==◌, option_and_then, slice_index_or}
 use Rattle.std.specs.List.{range_with_len}
 use Rattle.std.proofs.lemmas.Bool.{cases_Bool, cond-false, cond-true, eq-eqb}
 use Rattle.std.proofs.lemmas.List.{get_or-take}
 use Rattle.phase_message.specs.declared.content.Body.{Body}
 use Rattle.phase_message.specs.declared.stage.StageKind.{StageKind}
-use Rattle.phase_message.specs.declared.stage.StageKind.TheVariants.{Keys, Submit, Final, Pad, Shuffle}
 use Rattle.phase_message.specs.Offence.{content_read}
 use Rattle.phase_message.specs.Shape.{Shape}
 use Rattle.phase_message.specs.Slots.{slot_number, slots_before}
-use Rattle.phase_message.specs.Stages.{is_member, is_slot, kind_of_stage, speaks}
+use Rattle.phase_message.specs.Stages.{is_member, is_slot, speaks}
 use Rattle.phase_message.proofs.SlotLists.{slot_number-within, slots_before-rises}
 use Rattle.phase_message.proofs.Table.{final_a_is, keys_is, pad_is, submit_a_is, turn_a}
-use Rattle.shuffle_core.specs.declared.entry.Submission.{Submission}
 use Rattle.shuffle_core.specs.Shuffle.{submission_of}
 use Rattle.bulk_descriptor.specs.declared.slot_state.SlotState.{SlotState}
 use Rattle.bulk_descriptor.specs.Descriptor.{descriptor_read, descriptor_text, made_descriptor}
 use Rattle.bulk_descriptor.specs.SlotState.{slot_states}
 use Rattle.accusation.specs.Item.{item_row}
 use Rattle.shuffle_blame.specs.Replay.{body_of, ciphertext_of, list_of, outer_place}
-use Rattle.round_spec.specs.Say.{Configuration, own_description, own_descriptor, own_item, own_layer_seeds, own_pad_seeds, own_submission, shape_in}
-use Rattle.round_spec.specs.Slots.{bulk_place, descriptors_opened, entries_opened, final_stage, inner_place, items_opened, keys_in, keys_said, list_said, pad_stage, pads_in, pads_sent, said_in, seed_in, seeds_revealed, slots_of_past, submissions_said}
+use Rattle.round_spec.specs.Say.{Configuration, own_descriptor, own_item, own_layer_seeds, own_pad_seeds, own_submission, shape_in}
+use Rattle.round_spec.specs.Slots.{bulk_place, descriptors_opened, entries_opened, final_stage, inner_place, items_opened, keys_in, keys_said, list_said, pad_stage, pads_in, pads_sent, said_in, seed_in, seeds_revealed, slots_of_past}
 
 -- the front of a past, before a stage
 abbrev front : Shape → List (List ℕ) → ℕ → List (List ℕ)

@@ -1,10 +1,9 @@
 -- The own vote is yes, at the end of a shuffle and behind the checks.
-use Rattle.std.proofs.Common.{◌≡◌, ◌≢◌, ◌⊎◌, ℕ, zero, suc, ◌+◌, ◌-◌, ◌<◌, ◌≤◌, Bool, true, false, ◌&&◌, List, [], ◌∷◌, length, take, Option, Some, None, ap, sym, ◌∙◌, refl, subst, arith, inl, inr}
-use Rattle.std.specs.Prelude.{◌==◌, IsSome, is_none, option_and_then, Contains}
+use Rattle.std.proofs.Common.{◌≡◌, ℕ, ◌+◌, ◌-◌, ◌<◌, ◌≤◌, true, false, ◌&&◌, List, take, Option, Some, None, ap, sym, ◌∙◌, refl, subst, arith, inl, inr}
+use Rattle.std.specs.Prelude.{◌==◌, is_none, Contains}
 use Rattle.std.proofs.lemmas.List.{take-map}
 use Rattle.wire_core.specs.Answers.{fault_unless}
 use Rattle.wire_core.proofs.AnswerLemmas.{first_below-found, nothing_mapped}
-use Rattle.phase_message.specs.declared.content.Body.{Body}
 use Rattle.phase_message.specs.declared.content.Content.{Content}
 use Rattle.phase_message.specs.declared.post.Post.{Post}
 use Rattle.phase_message.specs.declared.stage.Slot.{Slot}
@@ -14,14 +13,14 @@ use Rattle.phase_message.specs.Body.{body_form, form_of}
 use Rattle.phase_message.specs.Grammar.{IsBody}
 use Rattle.phase_message.specs.Shape.{Shape}
 use Rattle.phase_message.specs.Slots.{slots_before}
-use Rattle.phase_message.specs.Stages.{is_slot, kind_of_stage, speaks, vote_of}
+use Rattle.phase_message.specs.Stages.{is_slot, kind_of_stage, speaks}
 use Rattle.phase_message.proofs.Closings.{closing-follows}
 use Rattle.stage_log.specs.Log.{contents_of, first_wrong}
 use Rattle.shuffle_core.specs.declared.entry.Submission.{Submission}
 use Rattle.go_nogo.specs.Rows.{check_row, go_row, lists_before, stands_last}
 use Rattle.shuffle_blame.specs.declared.fault.Cause.TheVariants.{View, FalseNoGo}
 use Rattle.shuffle_blame.specs.declared.fault.Fault.{Fault}
-use Rattle.shuffle_blame.specs.Replay.{Inquiry, fault, is_yes, submit_stage, view_fault, vote_fault, votes_yes}
+use Rattle.shuffle_blame.specs.Replay.{Inquiry, fault, is_yes, submit_stage, view_fault, votes_yes}
 use Rattle.shuffle_blame.proofs.Endings.{ends_at}
 use Rattle.shuffle_blame.proofs.Slots.{end-least}
 use Rattle.shuffle_blame.proofs.Turns.{last_list_has}
@@ -36,7 +35,7 @@ use Rattle.conviction.proofs.OwnFronts.{submission-front}
 use Rattle.conviction.proofs.OwnRows.{OwnSaid, own-body, own-said, own-speaks}
 use Rattle.conviction.proofs.Replays.{not_both, unless-found}
 use Rattle.conviction.proofs.Shuffles.{IsEnded, body-in}
-use Rattle.conviction.proofs.Submissions.{IsSubmitted, own-submitted}
+use Rattle.conviction.proofs.Submissions.{own-submitted}
 
 -- ---- rows of votes
 

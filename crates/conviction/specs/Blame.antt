@@ -1,17 +1,20 @@
 -- Why the replay of what an honest member kept does not blame the member.
-use Rattle.std.specs.Prelude.{◌≡◌, ◌≢◌, ℕ, List, IsSome, length, option_and_then, Some, None}
+use Rattle.std.specs.Prelude.{◌≡◌, ◌≢◌, ℕ, List, Contains, IsSome, length, option_and_then, Some, None}
+use Rattle.wire_core.specs.Bytes.{IsBytes}
 use Rattle.phase_message.specs.declared.post.Post.{Post}
 use Rattle.phase_message.specs.declared.stage.StageKind.TheVariants.{Final}
 use Rattle.phase_message.specs.Stages.{kind_of_stage, vote_of}
 use Rattle.stage_log.specs.Log.{before, contents_of}
 use Rattle.transcript_form.specs.declared.transcript.Transcript.{Transcript}
-use Rattle.transcript_form.specs.Transcript.{IsTranscript}
+use Rattle.transcript_form.specs.Transcript.{IsTranscript, transcript_spelling}
 use Rattle.shuffle_blame.specs.declared.fault.Fault.{Fault}
-use Rattle.shuffle_blame.specs.Replay.{Inquiry, outer_opening, outer_place, outer_seed, seed_fault, submission_fault, turn_fault, view_fault, vote_fault}
+use Rattle.shuffle_blame.specs.Replay.{Inquiry, culprit_of, outer_opening, outer_place, outer_seed, seed_fault, submission_fault, turn_fault, view_fault, vote_fault}
 use Rattle.shuffle_blame.specs.Laws.{HasShownStrings}
+use Rattle.round_spec.specs.Premises.{NoneCollide}
+use Rattle.round_spec.specs.Slots.{pad_stage}
 use Rattle.round_spec.specs.Say.{own_key_seed, own_opening, shape_in}
 use Rattle.round_spec.specs.Runs.{HonestRun, Run}
-use Rattle.conviction.specs.Accepts.{ReplaysFault, inquiry_by}
+use Rattle.conviction.specs.Accepts.{ReplaysFault, ShowsBadPad, inquiry_by}
 use Rattle.conviction.specs.Framing.{OneRun}
 
 -- at the end of a shuffle each member shows its part, and the member of the run shows what makes its own outer layers
@@ -67,3 +70,19 @@ NoGoNotOwn = (run : Run) (q : Inquiry) (fault : Fault) → HonestRun run → IsO
     ((shuffle : ℕ) → kind_of_stage q.shape q.stage ≡ Some (Final shuffle) →
     (seed_fault q shuffle ≡ None) × (submission_fault q shuffle ≡ None) × (turn_fault q ≡ None)) →
     vote_fault q ≡ Some fault → fault.member ≢ run.config.number
+
+-- so the replay of what an honest member kept does not blame the member, whichever rule answers; for that, the strings of
+-- the layer seeds that are shown are among some of which no two have one hash
+abbrev pub ReplayNotOwn : Type 0
+ReplayNotOwn = (run : Run) (q : Inquiry) (strings : List (List ℕ)) (fault : Fault) → HonestRun run → IsOwnInquiry run q →
+    IsSome (option_and_then vote_of (kind_of_stage q.shape q.stage)) →
+    ((shuffle : ℕ) → kind_of_stage q.shape q.stage ≡ Some (Final shuffle) → HasShownStrings q shuffle strings) →
+    culprit_of q ≡ Some fault → fault.member ≢ run.config.number
+
+-- ---- a bad pad
+
+-- the posts that are listed of the slots before the pads have the contents that the run of the accused kept there
+abbrev pub PadSameLog : Type 0
+PadSameLog = (run : Run) (runs : List Run) (t : Transcript) → Contains runs run → OneRun t run → IsTranscript (shape_in run.config) t →
+    IsBytes (transcript_spelling t) → NoneCollide run.config.roster runs (transcript_spelling t) → (shown : ShowsBadPad run.config.roster t) →
+    (posts : List Post) × (before run.log (pad_stage (shape_in run.config)) ≡ Some posts) × (contents_of shown.log ≡ contents_of posts)

@@ -1,8 +1,8 @@
 //! That nobody honest is framed. Nobody calls these functions: the contract of each states a law.
 
-ghost use Rattle.conviction.specs.Accepts.{Equivocates, RevealsWrongSeed, SaysMalformed, ShowsBadLog};
-ghost use Rattle.conviction.specs.Blame.{CommonLogIsOwn, NoGoNotOwn, SeedNotOwn, ShuffleNotOwn, SubmissionNotOwn, ViewNotOwn};
-ghost use Rattle.conviction.specs.Framing.{NotShown, TheRun, UnforgedIsSaid};
+ghost use Rattle.conviction.specs.Accepts.{Equivocates, ReplaysFault, RevealsWrongSeed, SaysMalformed, ShowsBadLog, ShowsBadPad};
+ghost use Rattle.conviction.specs.Blame.{CommonLogIsOwn, NoGoNotOwn, PadSameLog, ReplayNotOwn, SeedNotOwn, ShuffleNotOwn, SubmissionNotOwn, ViewNotOwn};
+ghost use Rattle.conviction.specs.Framing.{NobodyHonestIsConvicted, NoFraming, NotShown, NotShownUnlessCollide, TheRun, UnforgedIsSaid};
 
 /// Where no signature was forged among the posts of a transcript, what it lists of the member of a run was said by a
 /// run of that member.
@@ -66,4 +66,38 @@ pub fn shuffle_not_own()
 /// Where nothing else is at fault, the vote of an honest member is yes.
 pub fn no_go_not_own()
     ensures { NoGoNotOwn }
+{}
+
+/// The replay of what an honest member kept does not blame the member, whichever rule answers.
+pub fn replay_not_own()
+    ensures { ReplayNotOwn }
+{}
+
+/// No posts show that the replay of what all members embed blames a member of honest runs, where no two strings of the
+/// runs and of the transcript have one hash.
+pub fn frame_replay()
+    ensures { NotShownUnlessCollide ReplaysFault }
+{}
+
+/// The log that a transcript of a bad pad lists is what the run of the accused kept before its pads.
+pub fn pad_same_log()
+    ensures { PadSameLog }
+{}
+
+/// No posts show that a member of honest runs sent a bad pad, where no two strings of the runs and of the transcript have
+/// one hash.
+pub fn frame_pad()
+    ensures { NotShownUnlessCollide ShowsBadPad }
+{}
+
+/// No bytes convict the member of an honest run, where what they list of it was said by its runs and no two strings of
+/// the runs and of these bytes have one hash.
+pub fn no_framing()
+    ensures { NoFraming }
+{}
+
+/// Nobody honest is convicted, whoever wrote the bytes: where no signature was forged among the posts that they list and
+/// no two strings of the runs and of these bytes have one hash, the accused is not the member of an honest run.
+pub fn nobody_honest_is_convicted()
+    ensures { NobodyHonestIsConvicted }
 {}
