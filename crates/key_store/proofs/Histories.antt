@@ -1,12 +1,12 @@
 -- What happens to a key file over time.
-use Rattle.std.proofs.Common.{◌≡◌, ℕ, ◌+◌, ◌<◌, ◌≤◌, List, [], ◌∷◌, Option, Some, None, IfSome, length, sym, subst, arith}
+use Rattle.std.proofs.Common.{ℕ, ◌<◌, ◌≤◌, List, [], ◌∷◌, Option, Some, None, sym, subst, arith}
 use Rattle.std.specs.Prelude.{All, AllPairs}
 use Rattle.std.proofs.lemmas.List.Elements.{All-cons, All-nil}
 use Rattle.std.proofs.lemmas.List.Kept.{AllPairs-cons}
 use Rattle.key_store.specs.declared.layout.KeyContent.{KeyContent}
-use Rattle.key_store.specs.Disk.{Every, Only}
+use Rattle.key_store.specs.Disk.{Every}
 use Rattle.key_store.specs.Crashes.{KeepsFront}
-use Rattle.key_store.specs.History.{Event, Handed, Happened, IsBefore, IsCall, IsLeft, IsRaised, IsUsedOnce, all_handed, disk_after, raised_to, raised_to_last}
+use Rattle.key_store.specs.History.{Event, Handed, Happened, IsBefore, IsLeft, IsRaised, IsUsedOnce, all_handed, disk_after, raised_to, raised_to_last}
 use Rattle.key_store.specs.History.Event.{returned, cut_off, crashed}
 
 -- leaves beyond what a file stands for

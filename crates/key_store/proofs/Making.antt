@@ -1,9 +1,9 @@
 -- What a crash leaves while a key file is made.
-use Rattle.std.proofs.Common.{◌≡◌, ℕ, ◌+◌, ◌≤◌, List, Option, Some, None, IfSome, length, refl, sym, ap, ◌∙◌, subst, arith}
+use Rattle.std.proofs.Common.{◌≡◌, ℕ, List, Option, Some, None, IfSome, length, ◌∙◌, subst, arith}
 use Rattle.key_store.specs.Disk.{Elapses, ImagesTear, IsTorn, IsTornOf, LeavesOf, LeavesOnly, Writes, overwritten}
 use Rattle.key_store.proofs.Files.{overwritten_torn}
 use Rattle.key_store.proofs.Moments.{goes_on, joined, started, torn_nowhere, weaker}
-use Rattle.key_store.proofs.Torn.{torn_more, torn_wider}
+use Rattle.key_store.proofs.Torn.{torn_wider}
 
 -- a file whose front was written, and in which a byte of the front may be torn
 front_torn : (file image left : List ℕ) → length image ≡ 128 → IsTorn (overwritten file 0 image) 64 1 left → IsTorn file 0 128 left

@@ -3,7 +3,7 @@ use Rattle.std.proofs.Common.{◌≡◌, [], ◌∷◌, ℕ, ◌+◌, ◌≤◌,
 use Rattle.std.specs.Prelude.{option_map}
 use Rattle.key_store.specs.Disk.{IsTorn, LeavesOf}
 use Rattle.key_store.specs.KeyFiles.{IsAtRest, IsClosing, IsSlot, Mirrors, closed, numbers, written}
-use Rattle.key_store.proofs.Files.{mirror_length, overwritten_torn, rest_mirrors}
+use Rattle.key_store.proofs.Files.{mirror_length, overwritten_torn}
 use Rattle.key_store.proofs.Moments.{joined, started, torn_nowhere, weaker}
 use Rattle.key_store.proofs.Raised.{slot_within}
 use Rattle.key_store.proofs.Torn.{length-torn, torn_more, torn_wider}
