@@ -26,11 +26,11 @@ not-shown roster runs t Replay honest form bytes none said shows = frame_replay 
 not-shown roster runs t Pad honest form bytes none said shows = frame_pad roster runs t honest form bytes none said shows
 
 pub no_framing : NoFraming
-no_framing roster runs bytes accused claim is honest said none accepts =
+no_framing roster bytes accused claim is accepts runs honest none said =
     let t = accepts.transcript in
     not-shown roster runs t claim honest accepts.form (subst IsBytes accepts.spelled is) (subst (NoneCollide roster runs) accepts.spelled none)
     (subst (λ (number : ℕ). SaidBy roster runs number t.round t.posts) (sym accepts.accused_is) (said t accepts.form accepts.spelled)) accepts.convicts
 
 pub nobody_honest_is_convicted : NobodyHonestIsConvicted
-nobody_honest_is_convicted roster runs bytes accused claim is honest has unforged none accepts =
-    no_framing roster runs bytes accused claim is honest (unforged_is_said roster bytes runs accused has unforged) none accepts
+nobody_honest_is_convicted roster bytes accused claim is accepts runs honest none unforged has =
+    no_framing roster bytes accused claim is accepts runs honest none (unforged_is_said roster bytes runs accused has unforged)

@@ -38,7 +38,8 @@ AllSent roster round posts number run = (bytes content : List ℕ) (header : Hea
 
 -- a member that said one of the listed posts of a round has one run in this round, which sent all that is listed of it
 abbrev pub TheRun : Type 0
-TheRun = (roster : Roster) (runs : List Run) (number round : ℕ) (posts : List (List ℕ)) (bytes content : List ℕ) (header : Header) →
+TheRun = (roster : Roster) (runs : List Run) (number round : ℕ) (posts : List (List ℕ)) (bytes content : List ℕ)
+    (header : Header) →
     AreHonest roster runs → SaidBy roster runs number round posts →
     Contains posts bytes → Says roster round bytes content header → header.sender ≡ number →
     (run : Run) × IsRunOf runs number round run × AllSent roster round posts number run
@@ -61,18 +62,29 @@ NotShown shows = (roster : Roster) (runs : List Run) (t : Transcript) → AreHon
 -- the same where no two of the runs' and of the transcript's strings have one hash
 abbrev pub NotShownUnlessCollide : (Roster → Transcript → Type 0) → Type 0
 NotShownUnlessCollide shows = (roster : Roster) (runs : List Run) (t : Transcript) → AreHonest roster runs →
-    IsTranscript (shape_of_roster roster) t → IsBytes (transcript_spelling t) → NoneCollide roster runs (transcript_spelling t) →
-    SaidBy roster runs t.accused t.round t.posts → shows roster t → ⊥
+    IsTranscript (shape_of_roster roster) t → IsBytes (transcript_spelling t) →
+    NoneCollide roster runs (transcript_spelling t) → SaidBy roster runs t.accused t.round t.posts → shows roster t → ⊥
 
 -- ---- whole
 
--- no bytes convict the member of an honest run, where what they list of it was said by its runs and no two strings of
--- the runs and of these bytes have one hash
-abbrev pub NoFraming : Type 0
-NoFraming = (roster : Roster) (runs : List Run) (bytes : List ℕ) (accused : ℕ) (claim : Claim) → IsBytes bytes → AreHonest roster runs →
-    ListsSaid roster bytes runs accused → NoneCollide roster runs bytes → Accepts roster bytes accused claim → ⊥
+-- no honest runs said what these bytes list of a member, unless two of the strings of the runs and of the bytes have one
+-- hash
+abbrev pub NoRunsSaid : Roster → List ℕ → ℕ → Type 0
+NoRunsSaid roster bytes member = (runs : List Run) → AreHonest roster runs → NoneCollide roster runs bytes →
+    ListsSaid roster bytes runs member → ⊥
 
--- the same where no signature was forged
+-- no list of honest runs has a run of a member, unless a signature was forged among the posts that these bytes list, or
+-- two of the strings of the runs and of the bytes have one hash
+abbrev pub HasNoHonestRun : Roster → List ℕ → ℕ → Type 0
+HasNoHonestRun roster bytes member = (runs : List Run) → AreHonest roster runs → NoneCollide roster runs bytes →
+    ListsNoForgery roster bytes runs → HasNumber runs member → ⊥
+
+-- whoever is convicted by bytes: no honest runs said what they list of it
+abbrev pub NoFraming : Type 0
+NoFraming = (roster : Roster) (bytes : List ℕ) (accused : ℕ) (claim : Claim) → IsBytes bytes →
+    Accepts roster bytes accused claim → NoRunsSaid roster bytes accused
+
+-- whoever is convicted by bytes is not honest: it has no honest run
 abbrev pub NobodyHonestIsConvicted : Type 0
-NobodyHonestIsConvicted = (roster : Roster) (runs : List Run) (bytes : List ℕ) (accused : ℕ) (claim : Claim) → IsBytes bytes → AreHonest roster runs →
-    HasNumber runs accused → ListsNoForgery roster bytes runs → NoneCollide roster runs bytes → Accepts roster bytes accused claim → ⊥
+NobodyHonestIsConvicted = (roster : Roster) (bytes : List ℕ) (accused : ℕ) (claim : Claim) → IsBytes bytes →
+    Accepts roster bytes accused claim → HasNoHonestRun roster bytes accused

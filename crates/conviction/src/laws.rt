@@ -90,14 +90,14 @@ pub fn frame_pad()
     ensures { NotShownUnlessCollide ShowsBadPad }
 {}
 
-/// No bytes convict the member of an honest run, where what they list of it was said by its runs and no two strings of
-/// the runs and of these bytes have one hash.
+/// Whoever is convicted by bytes: no honest runs said what they list of it, unless two strings of the runs and of the
+/// bytes have one hash.
 pub fn no_framing()
     ensures { NoFraming }
 {}
 
-/// Nobody honest is convicted, whoever wrote the bytes: where no signature was forged among the posts that they list and
-/// no two strings of the runs and of these bytes have one hash, the accused is not the member of an honest run.
+/// Nobody honest is convicted, whoever wrote the bytes: whoever is convicted has a run in no list of honest runs, unless a
+/// signature was forged among the posts that the bytes list, or two strings of the runs and of the bytes have one hash.
 pub fn nobody_honest_is_convicted()
     ensures { NobodyHonestIsConvicted }
 {}
