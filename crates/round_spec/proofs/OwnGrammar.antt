@@ -84,7 +84,8 @@ submit-is c stage shuffle past can kind =
 -- ---- turns
 
 -- entries in another order
-order-entries : (count size : ℕ) (seed : List ℕ) (entries : List (List ℕ)) → count ≤ 8 → AreEntries count size entries → AreEntries count size (in_drawn_order seed entries)
+order-entries : (count size : ℕ) (seed : List ℕ) (entries : List (List ℕ)) → count ≤ 8 → AreEntries count size entries
+    → AreEntries count size (in_drawn_order seed entries)
 order-entries count size seed entries few are =
     let moved = entries_are_permuted seed entries (omega (arith, few, are.count)) in
     let other : (P : List ℕ → Type 0) → AllByRecursion P entries → AllByRecursion P (in_drawn_order seed entries) =
@@ -96,7 +97,8 @@ order-entries count size seed entries few are =
     }
 
 -- their bodies
-stripped-entries : (count size : ℕ) (seed : List ℕ) (entries bodies : List (List ℕ)) → AreEntries count (size + 2272) entries → stripped seed entries ≡ Some bodies → AreEntries count size bodies
+stripped-entries : (count size : ℕ) (seed : List ℕ) (entries bodies : List (List ℕ)) → AreEntries count (size + 2272) entries
+    → stripped seed entries ≡ Some bodies → AreEntries count size bodies
 stripped-entries count size seed entries bodies are e =
     let each = (strips_exactly seed entries bodies).0 e in
     record {
@@ -106,14 +108,16 @@ stripped-entries count size seed entries bodies are e =
     }
 
 -- what a turn says
-turn-cases : (seed order : List ℕ) (entries : List (List ℕ)) → (turn_of seed order entries ≡ Abort) ⊎ ((list : List (List ℕ)) × (turn_of seed order entries ≡ Shuffled list))
+turn-cases : (seed order : List ℕ) (entries : List (List ℕ))
+    → (turn_of seed order entries ≡ Abort) ⊎ ((list : List (List ℕ)) × (turn_of seed order entries ≡ Shuffled list))
 unfolding turn_of
 turn-cases seed order entries = elim (cases_Bool (has_equal entries)) [
   | inl twice ↦ inl (cond-true (has_equal entries) Abort (list_or_abort (option_map (in_drawn_order order) (stripped seed entries))) twice)
   | inr apart ↦ by_list (option_map (in_drawn_order order) (stripped seed entries)) (cond-false (has_equal entries) Abort (list_or_abort (option_map (in_drawn_order order) (stripped seed entries))) apart)
 ]
   where
-    by_list : (o : Option (List (List ℕ))) → (if has_equal entries then Abort else list_or_abort (option_map (in_drawn_order order) (stripped seed entries))) ≡ list_or_abort o
+    by_list : (o : Option (List (List ℕ)))
+        → (if has_equal entries then Abort else list_or_abort (option_map (in_drawn_order order) (stripped seed entries))) ≡ list_or_abort o
         → ((if has_equal entries then Abort else list_or_abort (option_map (in_drawn_order order) (stripped seed entries))) ≡ Abort)
         ⊎ ((list : List (List ℕ)) × ((if has_equal entries then Abort else list_or_abort (option_map (in_drawn_order order) (stripped seed entries))) ≡ Shuffled list))
     by_list None e = inl e
@@ -144,7 +148,8 @@ over-is : (c : Configuration) (stage shuffle k : ℕ) (o : Option (List (List �
 over-is c stage shuffle k None few lt each = record { form = tt; bytes = IsBytes-nil }
 over-is c stage shuffle k (Some entries) few lt each = turn-row c stage shuffle k (own_key_seed c (outer_place shuffle)) (own_order_seed c shuffle) entries few lt (each entries refl)
 
-turn-is : (c : Configuration) (stage shuffle k : ℕ) (past : List Post) → CanSay c stage past → kind_of_stage (shape_in c) stage ≡ Some (Shuffle shuffle k) → IsRow c stage (Shuffle shuffle k) (turn_row c (contents_of past) shuffle)
+turn-is : (c : Configuration) (stage shuffle k : ℕ) (past : List Post) → CanSay c stage past
+    → kind_of_stage (shape_in c) stage ≡ Some (Shuffle shuffle k) → IsRow c stage (Shuffle shuffle k) (turn_row c (contents_of past) shuffle)
 unfolding turn_row
 turn-is c stage shuffle k past can kind =
     let at = turn-at (shape_in c) stage shuffle k kind in
@@ -187,13 +192,15 @@ posts-bytes c stage past is = all-from (λ post. IsBytes (post_spelling post)) p
 all-posts : (P : List ℕ → Type 0) (posts : List Post) → AllByRecursion (λ post. P (post_spelling post)) posts → AllByRecursion P (written posts)
 all-posts P posts all = all-map-from P post_spelling posts all
 
-stage-posts : (P : List ℕ → Type 0) (shape : Shape) (posts : List Post) (stage : ℕ) → AllByRecursion (λ post. P (post_spelling post)) posts → AllByRecursion P (written (posts_at shape posts stage))
+stage-posts : (P : List ℕ → Type 0) (shape : Shape) (posts : List Post) (stage : ℕ) → AllByRecursion (λ post. P (post_spelling post)) posts
+    → AllByRecursion P (written (posts_at shape posts stage))
 stage-posts P shape posts stage all =
     all-posts P (posts_at shape posts stage) (all-take (λ post. P (post_spelling post)) (slots_before shape (stage + 1) - slots_before shape stage) (drop (slots_before shape stage) posts)
     (all-drop (λ post. P (post_spelling post)) (slots_before shape stage) posts all))
 
 -- as many votes as members stand before a closing stage
-votes-count : (shape : Shape) (posts : List Post) (stage : ℕ) (kind vote : StageKind) → kind_of_stage shape stage ≡ Some kind → vote_of kind ≡ Some vote → senders_of shape vote ≡ shape.members
+votes-count : (shape : Shape) (posts : List Post) (stage : ℕ) (kind vote : StageKind) → kind_of_stage shape stage ≡ Some kind
+    → vote_of kind ≡ Some vote → senders_of shape vote ≡ shape.members
     → length posts ≡ slots_before shape stage → length (written (posts_at shape posts (stage - 1))) ≡ shape.members
 votes-count shape posts stage kind vote at closes all whole =
     let follows = closing-follows shape stage kind vote at closes in
@@ -207,7 +214,8 @@ votes-count shape posts stage kind vote at closes all whole =
     ∙ length-take-le (b - a) (drop a posts) (omega (arith, whole, end, next, length-drop a posts))
     ∙ omega (arith, next, all)
 
-final-is : (c : Configuration) (stage shuffle : ℕ) (past : List Post) (inner outer opening : List ℕ) → IsPastAt c stage past → kind_of_stage (shape_in c) stage ≡ Some (Final shuffle)
+final-is : (c : Configuration) (stage shuffle : ℕ) (past : List Post) (inner outer opening : List ℕ) → IsPastAt c stage past
+    → kind_of_stage (shape_in c) stage ≡ Some (Final shuffle)
     → IsItem 32 inner → IsItem 32 outer → IsItem 32 opening → IsRow c stage (Final shuffle) (final_row (shape_in c) past stage inner outer opening)
 unfolding final_row
 final-is c stage shuffle past inner outer opening is kind i o p =
@@ -227,7 +235,8 @@ final-is c stage shuffle past inner outer opening is kind i o p =
           })
     ]
 
-confirm-is : (c : Configuration) (stage : ℕ) (past : List Post) → IsPastAt c stage past → kind_of_stage (shape_in c) stage ≡ Some Confirm → IsRow c stage Confirm (confirm_row (shape_in c) past stage)
+confirm-is : (c : Configuration) (stage : ℕ) (past : List Post) → IsPastAt c stage past → kind_of_stage (shape_in c) stage ≡ Some Confirm
+    → IsRow c stage Confirm (confirm_row (shape_in c) past stage)
 unfolding confirm_row
 confirm-is c stage past is kind =
     let short = posts-short c stage past is in

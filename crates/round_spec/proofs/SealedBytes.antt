@@ -138,13 +138,15 @@ opened-bytes seed layer m body opens is =
     let hidden : IsBytes (masked m body) = IsBytes-back (capsule_of (key_of_seed seed) m ++ hash_of LayerTag (m ∷ masked m body ∷ [])) (masked m body) whole in
     subst IsBytes (masked_twice m body) (masked-bytes m (masked m body) hidden)
 
-pub bodies-bytes : (seed : List ℕ) (entries bodies : List (List ℕ)) → AllZip (HasBody seed) entries bodies → AllByRecursion IsBytes entries → AllByRecursion IsBytes bodies
+pub bodies-bytes : (seed : List ℕ) (entries bodies : List (List ℕ)) → AllZip (HasBody seed) entries bodies → AllByRecursion IsBytes entries
+    → AllByRecursion IsBytes bodies
 bodies-bytes seed [] [] are all = tt
 bodies-bytes seed [] (body ∷ bodies) are all = absurd are
 bodies-bytes seed (entry ∷ entries) [] are all = absurd are
 bodies-bytes seed (entry ∷ entries) (body ∷ bodies) are all = (opened-bytes seed entry are.0.0 body are.0.1 all.0, bodies-bytes seed entries bodies are.1 all.1)
 
-pub bodies-long : (seed : List ℕ) (size : ℕ) (entries bodies : List (List ℕ)) → AllZip (HasBody seed) entries bodies → AllByRecursion (λ entry. length entry ≡ size + 2272) entries
+pub bodies-long : (seed : List ℕ) (size : ℕ) (entries bodies : List (List ℕ)) → AllZip (HasBody seed) entries bodies
+    → AllByRecursion (λ entry. length entry ≡ size + 2272) entries
     → AllByRecursion (λ body. length body ≡ size) bodies
 bodies-long seed size [] [] are all = tt
 bodies-long seed size [] (body ∷ bodies) are all = absurd are
