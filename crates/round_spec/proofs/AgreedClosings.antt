@@ -1,26 +1,20 @@
 -- Closing contents of stages behind which a round goes on: they embed votes, which are short.
-use Rattle.std.proofs.Common.{◌≡◌, ℕ, zero, suc, ◌+◌, ◌-◌, ◌<◌, ◌≤◌, true, false, List, [], ◌∷◌, ◌++◌, length, get_or, drop, map, take, Option, Some, None, Result, Ok, ap, sym, ◌∙◌, refl, subst, arith, rules, inl, inr}
-use Rattle.std.specs.Prelude.{All, Contains, IsSome, IsTrue, is_some, option_and_then, option_map, slice_index_or, zip}
+use Rattle.std.proofs.Common.{◌≡◌, ℕ, ◌+◌, ◌-◌, ◌<◌, ◌≤◌, true, List, [], ◌∷◌, ◌++◌, length, drop, take, Option, Some, Result, Ok, ap, sym, ◌∙◌, refl, subst, arith, rules}
+use Rattle.std.specs.Prelude.{Contains, is_some, option_and_then, zip}
 use Rattle.std.specs.Int.{to_be_bytes, w32}
-use Rattle.std.specs.List.{AllByRecursion, AllZip, flat_map, slice_get, slice_range}
+use Rattle.std.specs.List.{AllByRecursion, slice_get, slice_range}
 use Rattle.std.proofs.lemmas.Bool.{cond-true}
 use Rattle.std.proofs.lemmas.List.{get_or-take, length-drop, length-take-le}
 use Rattle.std.proofs.lemmas.Option.{get_or_from_slice_get, slice_get_within}
-use Rattle.wire_core.specs.Bytes.{IsBytes, prefixed}
+use Rattle.wire_core.specs.Bytes.{IsBytes}
 use Rattle.wire_core.proofs.ByteLists.{IsBytes-back, IsBytes-front}
-use Rattle.phase_message.specs.declared.content.Body.{Body}
-use Rattle.phase_message.specs.declared.content.Body.TheVariants.{Reveal, Dispute, Confirm as ConfirmBody, Differ}
 use Rattle.phase_message.specs.declared.content.Content.{Content}
-use Rattle.phase_message.specs.declared.header.Header.{Header}
 use Rattle.phase_message.specs.declared.offence.Offence.{Offence}
 use Rattle.phase_message.specs.declared.post.Post.{Post}
 use Rattle.phase_message.specs.declared.stage.Slot.{Slot}
 use Rattle.phase_message.specs.declared.stage.StageKind.{StageKind}
-use Rattle.phase_message.specs.declared.stage.StageKind.TheVariants.{Keys, Submit, Shuffle, Go, Final, Pad, Check, Confirm}
-use Rattle.phase_message.specs.Grammar.{body_text}
-use Rattle.phase_message.specs.Kinds.{IsBodyAt}
+use Rattle.phase_message.specs.declared.stage.StageKind.TheVariants.{Go, Final, Check, Confirm}
 use Rattle.phase_message.specs.Offence.{content_read}
-use Rattle.phase_message.specs.Post.{post_spelling}
 use Rattle.phase_message.specs.Shape.{Shape}
 use Rattle.phase_message.specs.Slots.{senders_of, slot_number, slots_before, slots_of}
 use Rattle.phase_message.specs.Stages.{is_member, is_slot, kind_of_stage, speaks, vote_of}
@@ -33,14 +27,14 @@ use Rattle.signed_post.proofs.Lengths.{votes_are_short}
 use Rattle.go_nogo.specs.Closing.{IsClosing, is_assent, posts_embedded, slots_embedded}
 use Rattle.go_nogo.proofs.EmbeddedSlots.{assent-slots}
 use Rattle.transcript_form.specs.declared.transcript.Transcript.{Transcript}
-use Rattle.round_spec.specs.Cases.{IsMemberOf, IsWhole, agree_before}
+use Rattle.round_spec.specs.Cases.{IsWhole}
 use Rattle.round_spec.specs.Course.{closing_of}
 use Rattle.round_spec.specs.Embedded.{embedded_pairs, posts_in_content}
 use Rattle.round_spec.specs.Justified.{ArePostsOf, IsPostOf}
 use Rattle.round_spec.specs.OwnRows.{IsPastAt}
 use Rattle.round_spec.specs.Runs.{AllGo, ChecksIn}
 use Rattle.round_spec.specs.Say.{Configuration, shape_in}
-use Rattle.round_spec.specs.Verdict.{ClosedStage, Convicts, Goes, Verdict, closing_content, is_closing, no_post, post_in, shape_at, verdict_of}
+use Rattle.round_spec.specs.Verdict.{ClosedStage, Convicts, Goes, Verdict, is_closing, no_post, post_in, verdict_of}
 use Rattle.round_spec.proofs.GoLists.{there}
 use Rattle.round_spec.proofs.Justified.{posts_are_found, zip-bytes}
 use Rattle.round_spec.proofs.PastForms.{said-there}

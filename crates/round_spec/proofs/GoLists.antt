@@ -1,7 +1,7 @@
 -- The lists that a vote on a shuffle looks at.
-use Rattle.std.proofs.Common.{◌≡◌, ℕ, zero, suc, ◌+◌, ◌-◌, ◌<◌, ◌≤◌, List, [], ◌∷◌, length, map, take, drop, get_or, Option, Some, None, Result, Ok, Err, ap, sym, ◌∙◌, refl, arith, inl, inr}
+use Rattle.std.proofs.Common.{◌≡◌, ℕ, zero, suc, ◌+◌, ◌-◌, ◌<◌, ◌≤◌, List, [], ◌∷◌, length, map, take, drop, Option, Some, Result, Ok, Err, ap, sym, ◌∙◌, refl, arith, inl, inr}
 use Rattle.std.specs.Prelude.{◌==◌, slice_index_or}
-use Rattle.std.specs.List.{range_with_len, slice_get, slice_range}
+use Rattle.std.specs.List.{range_with_len, slice_get}
 use Rattle.std.proofs.lemmas.Bool.{cases_Bool, cond-false, cond-true}
 use Rattle.std.proofs.lemmas.Option.{get_or_from_slice_get}
 use Rattle.phase_message.specs.declared.content.Body.TheVariants.{Keys, Submit, Shuffled, Abort, Go, Reveal, Dispute, Pads, Check, Confirm, Differ}
@@ -17,10 +17,10 @@ use Rattle.phase_message.specs.Stages.{kind_of_stage}
 use Rattle.phase_message.proofs.Counts.{slots_next}
 use Rattle.phase_message.proofs.Table.{turn_a, turn_b}
 use Rattle.stage_log.specs.Log.{all_some}
-use Rattle.go_nogo.specs.Rows.{list_in, list_read, lists_before, turns_before}
+use Rattle.go_nogo.specs.Rows.{list_in, list_read, turns_before}
 use Rattle.shuffle_blame.specs.Replay.{body_of, list_of}
 use Rattle.round_spec.specs.Given.{VotesLookAtLists}
-use Rattle.round_spec.specs.Slots.{final_stage, list_said, said_in, submit_stage}
+use Rattle.round_spec.specs.Slots.{list_said, said_in, submit_stage}
 
 -- ---- parts of a list
 

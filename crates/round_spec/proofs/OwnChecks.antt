@@ -1,5 +1,5 @@
 -- What a member says checks, and stands in its slot.
-use Rattle.std.proofs.Common.{◌≡◌, ℕ, zero, suc, ◌+◌, ◌-◌, ◌*◌, ◌<◌, ◌≤◌, Bool, true, false, List, [], ◌∷◌, ◌++◌, cond, length, Ok, ap, sym, ◌∙◌, refl, subst, arith, rules}
+use Rattle.std.proofs.Common.{◌≡◌, ℕ, zero, suc, ◌+◌, ◌-◌, ◌*◌, ◌<◌, ◌≤◌, Bool, true, List, ◌∷◌, ◌++◌, cond, length, Ok, ap, sym, ◌∙◌, refl, subst, arith, rules}
 use Rattle.std.specs.Prelude.{◌==◌, count_by}
 use Rattle.std.specs.List.{list_all, range_with_len, sum_by}
 use Rattle.std.proofs.lemmas.Bool.{eqb-true}

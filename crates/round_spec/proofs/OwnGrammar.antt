@@ -1,8 +1,8 @@
 -- What a member says over a past of posts that check is of the grammar.
-use Rattle.std.proofs.Common.{◌≡◌, ℕ, zero, suc, ◌+◌, ◌-◌, ◌*◌, ◌<◌, ◌≤◌, ◌^◌, true, false, List, [], ◌∷◌, ◌++◌, length, map, drop, take, Option, Some, None, ap, sym, ◌∙◌, refl, subst, arith, inl, inr}
-use Rattle.std.specs.Prelude.{◌⊎◌, All, Bool, ◌==◌, option_map, if◌then◌else◌}
+use Rattle.std.proofs.Common.{◌≡◌, ℕ, zero, suc, ◌+◌, ◌-◌, ◌*◌, ◌<◌, ◌≤◌, ◌^◌, true, false, List, [], ◌∷◌, ◌++◌, length, map, drop, Option, Some, None, ap, sym, ◌∙◌, refl, subst, arith, inl, inr}
+use Rattle.std.specs.Prelude.{◌⊎◌, Bool, ◌==◌, option_map, if◌then◌else◌}
 use Rattle.std.specs.Int.{to_be_bytes, w64}
-use Rattle.std.specs.List.{AllByRecursion, flat_map, range_with_len, slice_range}
+use Rattle.std.specs.List.{AllByRecursion, flat_map, range_with_len}
 use Rattle.std.proofs.lemmas.Bool.{cases_Bool, cond-false, cond-true, eqb-true}
 use Rattle.std.proofs.lemmas.List.{length-drop, length-map, length-take-le}
 use Rattle.std.proofs.lemmas.List.Sorted.{All-permutation, length_permutation}
@@ -14,18 +14,16 @@ use Rattle.ring_encrypt.proofs.KeyLemmas.{key_is_public_key}
 use Rattle.ring_encrypt.specs.PublicKey.{IsPublicKey}
 use Rattle.phase_message.specs.declared.content.Body.{Body}
 use Rattle.phase_message.specs.declared.content.Body.TheVariants.{Keys as KeysBody, Submit as SubmitBody, Shuffled, Abort, Go as GoBody, Reveal, Dispute, Pads, Check as CheckBody, Confirm as ConfirmBody, Differ}
-use Rattle.phase_message.specs.declared.content.Content.{Content}
 use Rattle.phase_message.specs.declared.post.Post.{Post}
-use Rattle.phase_message.specs.declared.stage.Slot.{Slot}
 use Rattle.phase_message.specs.declared.stage.StageKind.{StageKind}
 use Rattle.phase_message.specs.declared.stage.StageKind.TheVariants.{Keys, Submit, Shuffle, Go, Final, Pad, Check, Confirm}
 use Rattle.phase_message.specs.Body.{level}
-use Rattle.phase_message.specs.Grammar.{IsBody, OfGrammar, body_text, content_text, flag_text, header_text, kind_number}
-use Rattle.phase_message.specs.Kinds.{ArePosts, IsBodyAt}
+use Rattle.phase_message.specs.Grammar.{body_text, flag_text, header_text, kind_number}
+use Rattle.phase_message.specs.Kinds.{IsBodyAt}
 use Rattle.phase_message.specs.Post.{post_spelling}
 use Rattle.phase_message.specs.Shape.{Shape}
-use Rattle.phase_message.specs.Slots.{senders_of, slots_before, stage_count}
-use Rattle.phase_message.specs.Stages.{is_sender, is_slot, kind_of_stage, speaks, vote_of}
+use Rattle.phase_message.specs.Slots.{senders_of, slots_before}
+use Rattle.phase_message.specs.Stages.{kind_of_stage, speaks, vote_of}
 use Rattle.phase_message.proofs.Closings.{closing-follows}
 use Rattle.phase_message.proofs.Counts.{slots_next}
 use Rattle.phase_message.proofs.BodyKinds.{bodies_are_of_kinds}
@@ -40,11 +38,11 @@ use Rattle.shuffle_core.proofs.Turns.{turn_says_bodies}
 use Rattle.go_nogo.specs.Rows.{check_row, confirm_row, final_row, go_row, posts_at, written}
 use Rattle.go_nogo.specs.Votes.{votes_agree}
 use Rattle.shuffle_blame.specs.Replay.{outer_place}
-use Rattle.round_spec.specs.Slots.{bulk_place, inner_place, items_opened, list_said, submit_stage}
+use Rattle.round_spec.specs.Slots.{inner_place, items_opened, list_said}
 use Rattle.round_spec.specs.Say.{Configuration, content_with, keys_row, own_body_at, own_body_if, own_content, own_descriptor, own_header, own_key_seed, own_opening, own_order_seed, own_secret, own_submission, pad_for, pads_row, shape_in, turn_over, turn_row}
 use Rattle.round_spec.specs.OwnRows.{CanSay, IsPastAt, OwnRowOfGrammar, content_due}
 use Rattle.round_spec.proofs.OwnBytes.{key-bytes}
-use Rattle.round_spec.proofs.OwnItems.{IsItem, IsPad, is-member, opened-count, own-submission, sent-pad}
+use Rattle.round_spec.proofs.OwnItems.{IsItem, is-member, opened-count, own-submission, sent-pad}
 use Rattle.round_spec.proofs.PastForms.{AreEntries, list-is, spelled-bytes, spelled-short, stands-there}
 use Rattle.round_spec.proofs.SealedBytes.{all-drop, all-from, all-items, all-map, all-map-from, all-places, all-take, bodies-bytes, bodies-long, flat-bytes, prefixed-bytes}
 use Rattle.round_spec.proofs.Turns.{pad-late, submit-late, turn-at}

@@ -1,7 +1,7 @@
 -- What a member submits, and the pads that it sends, over a past of posts that check.
-use Rattle.std.proofs.Common.{◌≡◌, ℕ, zero, suc, ◌+◌, ◌-◌, ◌*◌, ◌<◌, ◌≤◌, true, false, List, [], ◌∷◌, length, get_or, map, replicate, Option, Some, None, ap, sym, ◌∙◌, refl, subst, arith, inl, inr}
+use Rattle.std.proofs.Common.{◌≡◌, ℕ, ◌+◌, ◌-◌, ◌*◌, ◌<◌, ◌≤◌, true, false, List, [], ◌∷◌, length, get_or, map, Option, Some, None, sym, ◌∙◌, refl, subst, arith, inl, inr}
 use Rattle.std.specs.Prelude.{◌⊎◌, All, ◌==◌, bytes_eq, option_map, option_and_then, unwrap_or, slice_index_or, if◌then◌else◌}
-use Rattle.std.specs.List.{AllByRecursion, enumerate_from, range_with_len}
+use Rattle.std.specs.List.{enumerate_from}
 use Rattle.std.specs.Option.{option_map_or}
 use Rattle.std.proofs.lemmas.Bool.{cases_Bool, cond-false, cond-true}
 use Rattle.std.proofs.lemmas.List.{length-map, length-replicate}
@@ -11,7 +11,6 @@ use Rattle.wire_core.specs.Bytes.{IsBytes}
 use Rattle.wire_core.specs.Hash.{derived}
 use Rattle.wire_core.proofs.AnswerLemmas.{first_below-found}
 use Rattle.wire_core.proofs.ByteLists.{IsBytes-cons, IsBytes-nil, hash_bytes}
-use Rattle.lms_tree.specs.Secret.{own_public}
 use Rattle.phase_message.specs.declared.post.Post.{Post}
 use Rattle.phase_message.specs.Body.{level}
 use Rattle.phase_message.proofs.SlotBounds.{slot-bounds}
@@ -29,9 +28,8 @@ use Rattle.bulk_descriptor.proofs.MakingLemmas.{length-own_pad, length-pad_of}
 use Rattle.bulk_descriptor.proofs.SpellingLemmas.{in_grammar, passes, read_passes, spelled_are_read}
 use Rattle.accusation.specs.Item.{NamesWithin, accusation_by, empty_item, first_in, item_accusation, item_row}
 use Rattle.accusation.proofs.AccusationLemmas.{first_in_cases, states_name_members}
-use Rattle.layer_cipher.proofs.WrapLemmas.{wrapping_adds}
 use Rattle.layer_cipher.specs.Layer.{wrapping_of}
-use Rattle.shuffle_core.specs.Shuffle.{layer_seeds_of, opened_item}
+use Rattle.shuffle_core.specs.Shuffle.{opened_item}
 use Rattle.shuffle_core.proofs.LayerSeeds.{seeds_are_messages}
 use Rattle.shuffle_core.proofs.Submitted.{submission_adds}
 use Rattle.shuffle_blame.specs.Replay.{outer_place}
@@ -41,7 +39,6 @@ use Rattle.round_spec.specs.OwnRows.{CanSay, IsPastAt}
 use Rattle.round_spec.specs.Runs.{IsConfiguration}
 use Rattle.round_spec.proofs.PastForms.{list-is}
 use Rattle.round_spec.proofs.SealedBytes.{descriptor-bytes, own-pad-bytes, pad-bytes, wrapping-bytes, zero-bytes}
-use Rattle.round_spec.proofs.Turns.{IsShuffle}
 
 -- ---- the own number
 

@@ -1,8 +1,8 @@
 -- What a member says is short enough for a post.
-use Rattle.std.proofs.Common.{◌≡◌, ℕ, zero, suc, ◌+◌, ◌-◌, ◌*◌, ◌<◌, ◌≤◌, true, false, List, [], ◌∷◌, ◌++◌, length, length-append, drop, map, take, Option, Some, None, Ok, ap, sym, ◌∙◌, refl, subst, arith, inl, inr}
+use Rattle.std.proofs.Common.{◌≡◌, ℕ, zero, suc, ◌+◌, ◌-◌, ◌*◌, ◌<◌, ◌≤◌, true, List, [], ◌∷◌, ◌++◌, length, length-append, drop, take, Option, Some, None, ap, sym, ◌∙◌, refl, subst, arith, inl, inr}
 use Rattle.std.specs.Prelude.{◌⊎◌, ◌==◌, if◌then◌else◌}
 use Rattle.std.specs.Int.{to_be_bytes, w32}
-use Rattle.std.specs.List.{AllByRecursion, flat_map, slice_get, slice_range}
+use Rattle.std.specs.List.{AllByRecursion, flat_map, slice_get}
 use Rattle.std.proofs.lemmas.Bool.{cases_Bool, cases_eq, cases_lt, cond-false, cond-true}
 use Rattle.std.proofs.lemmas.Grind.{flat_map-append}
 use Rattle.std.proofs.lemmas.Nat.{mul-le}
@@ -10,19 +10,19 @@ use Rattle.std.proofs.lemmas.List.{drop-map, length-drop, length-map, length-tak
 use Rattle.wire_core.specs.Bytes.{IsBytes, prefixed}
 use Rattle.wire_core.proofs.ByteLists.{IsBytes-back, IsBytes-front, hash_bytes}
 use Rattle.phase_message.specs.declared.content.Body.{Body}
-use Rattle.phase_message.specs.declared.content.Body.TheVariants.{Keys as KeysBody, Submit as SubmitBody, Shuffled, Abort, Go as GoBody, Reveal, Dispute, Pads, Check as CheckBody, Confirm as ConfirmBody, Differ}
+use Rattle.phase_message.specs.declared.content.Body.TheVariants.{Reveal, Dispute, Confirm as ConfirmBody, Differ}
 use Rattle.phase_message.specs.declared.content.Content.{Content}
 use Rattle.phase_message.specs.declared.post.Post.{Post}
 use Rattle.phase_message.specs.declared.stage.Slot.{Slot}
 use Rattle.phase_message.specs.declared.stage.StageKind.{StageKind}
 use Rattle.phase_message.specs.declared.stage.StageKind.TheVariants.{Keys, Submit, Shuffle, Go, Final, Pad, Check, Confirm}
-use Rattle.phase_message.specs.Body.{length_rule, level}
+use Rattle.phase_message.specs.Body.{level}
 use Rattle.phase_message.specs.Grammar.{OfGrammar, body_text, content_text, header_text, kind_number}
 use Rattle.phase_message.specs.Kinds.{IsBodyAt}
 use Rattle.phase_message.specs.Post.{post_spelling}
 use Rattle.phase_message.specs.Shape.{Shape}
-use Rattle.phase_message.specs.Slots.{senders_of, slot_at, slot_number, slots_before, stage_count}
-use Rattle.phase_message.specs.Stages.{is_slot, kind_of_stage}
+use Rattle.phase_message.specs.Slots.{senders_of, slot_at, slots_before, stage_count}
+use Rattle.phase_message.specs.Stages.{kind_of_stage}
 use Rattle.phase_message.proofs.Counts.{slots_next, slots_past}
 use Rattle.phase_message.proofs.Lengths.{fixed-length, pads-length, turn-length}
 use Rattle.phase_message.proofs.SlotBounds.{slot-bounds}
@@ -34,7 +34,6 @@ use Rattle.go_nogo.specs.Rows.{confirm_row, final_row, posts_at, written}
 use Rattle.go_nogo.specs.Votes.{votes_agree}
 use Rattle.go_nogo.proofs.VoteSlots.{get_drop}
 use Rattle.stage_log.specs.Log.{contents_of}
-use Rattle.stage_log.proofs.Views.{slice_get-take}
 use Rattle.round_spec.specs.OwnRows.{CanSay, IsPastAt, OwnContentIsShort, content_due}
 use Rattle.round_spec.specs.Runs.{AllGo, ChecksIn}
 use Rattle.round_spec.specs.Say.{Configuration, content_with, own_body_at, own_body_if, own_content, own_descriptor, own_key_seed, own_opening, shape_in}

@@ -1,15 +1,15 @@
 -- What stands in the slots of a past of posts that check.
-use Rattle.std.proofs.Common.{◌≡◌, ℕ, zero, suc, ◌+◌, ◌-◌, ◌*◌, ◌<◌, ◌≤◌, ◌^◌, true, false, List, [], ◌∷◌, ◌++◌, length, get_or, length-append, map, Option, Some, None, Ok, ap, sym, ◌∙◌, refl, subst, arith, rules, inl, inr}
-use Rattle.std.specs.Prelude.{option_map, slice_index_or}
+use Rattle.std.proofs.Common.{◌≡◌, ℕ, zero, suc, ◌+◌, ◌<◌, ◌≤◌, ◌^◌, true, List, [], ◌∷◌, ◌++◌, length, get_or, length-append, map, Option, Some, Ok, ap, sym, ◌∙◌, refl, subst, arith, rules}
+use Rattle.std.specs.Prelude.{option_map}
 use Rattle.std.specs.Int.{to_be_bytes, w32}
-use Rattle.std.specs.List.{AllByRecursion, flat_map, range_with_len, slice_get}
-use Rattle.std.proofs.lemmas.Bool.{cases_eq, cases_lt, eq-eqb}
+use Rattle.std.specs.List.{AllByRecursion, range_with_len, slice_get}
+use Rattle.std.proofs.lemmas.Bool.{eq-eqb}
 use Rattle.std.proofs.lemmas.List.FromFn.{length-map-range_with_len}
 use Rattle.std.proofs.lemmas.Option.{get_or_from_slice_get, slice_get-map, slice_get_within}
 use Rattle.wire_core.specs.Bytes.{IsBytes}
 use Rattle.wire_core.proofs.ByteLists.{IsBytes-append, IsBytes-back, IsBytes-to_be_bytes}
 use Rattle.phase_message.specs.declared.content.Body.{Body}
-use Rattle.phase_message.specs.declared.content.Body.TheVariants.{Keys, Submit, Shuffled, Abort, Go, Reveal, Dispute, Pads, Check, Confirm, Differ}
+use Rattle.phase_message.specs.declared.content.Body.TheVariants.{Submit, Shuffled, Abort}
 use Rattle.phase_message.specs.declared.content.Content.{Content}
 use Rattle.phase_message.specs.declared.header.Header.{Header}
 use Rattle.phase_message.specs.declared.post.Post.{Post}
@@ -25,7 +25,7 @@ use Rattle.phase_message.specs.Shape.{Shape}
 use Rattle.phase_message.specs.Slots.{slot_at, slot_number, slots_before, slots_of}
 use Rattle.phase_message.specs.Stages.{is_member, is_slot, kind_of_stage, speaks}
 use Rattle.phase_message.proofs.BodyKinds.{bodies_are_of_kinds}
-use Rattle.phase_message.proofs.SlotLists.{length-slots_of, slot_at-is, slot_at-number, slot_number-within, slots_before-most, slots_before-rises}
+use Rattle.phase_message.proofs.SlotLists.{length-slots_of, slot_at-number, slot_number-within, slots_before-most, slots_before-rises}
 use Rattle.phase_message.proofs.Whole.{content-is_spelled}
 use Rattle.signed_post.specs.Admission.{Admitted}
 use Rattle.signed_post.proofs.Admits.{admits_exactly}
@@ -37,7 +37,7 @@ use Rattle.round_spec.specs.OwnRows.{IsPastAt}
 use Rattle.round_spec.specs.Runs.{ChecksIn}
 use Rattle.round_spec.proofs.GoLists.{there}
 use Rattle.round_spec.proofs.Rows.{checks-parts}
-use Rattle.round_spec.proofs.SealedBytes.{all-map, bytes-flat}
+use Rattle.round_spec.proofs.SealedBytes.{bytes-flat}
 use Rattle.round_spec.proofs.Turns.{IsShuffle, submit-kind, turn-kind}
 
 -- ---- posts

@@ -1,11 +1,9 @@
 -- What a member makes of bytes are bytes: layers, descriptors, pads and items.
-use Rattle.std.proofs.Common.{◌≡◌, ℕ, zero, suc, ◌+◌, ◌-◌, ◌*◌, ◌/◌, ◌%◌, ◌^◌, ◌<◌, ◌≤◌, List, [], ◌∷◌, ◌++◌, length, get_or, map, take, drop, replicate, Option, Some, None, ap, sym, ◌∙◌, refl, subst, arith, inl, inr}
-use Rattle.std.specs.Prelude.{All, bit_xor, bytes_eq, ◌==◌, option_map, option_and_then, unwrap_or, slice_index_or, zip, if◌then◌else◌}
-use Rattle.std.specs.List.{AllByRecursion, AllZip, concat, enumerate_from, flat_map, range_with_len, slice_get}
+use Rattle.std.proofs.Common.{◌≡◌, ℕ, zero, suc, ◌+◌, ◌/◌, ◌%◌, ◌<◌, List, [], ◌∷◌, ◌++◌, length, map, take, drop, replicate, Some, ap, sym, refl, subst, arith}
+use Rattle.std.specs.Prelude.{All, bit_xor, zip}
+use Rattle.std.specs.List.{AllByRecursion, AllZip, concat, flat_map, range_with_len, slice_get}
 use Rattle.std.specs.Int.{to_be_bytes, w32}
-use Rattle.std.specs.Option.{option_map_or}
-use Rattle.std.proofs.lemmas.Bool.{cases_Bool, cond-false, cond-true}
-use Rattle.std.proofs.lemmas.List.{length-map, take-append-drop}
+use Rattle.std.proofs.lemmas.List.{take-append-drop}
 use Rattle.std.proofs.lemmas.Nat.{xor_of_8}
 use Rattle.wire_core.specs.Bytes.{IsBytes, prefixed}
 use Rattle.wire_core.specs.declared.tag.Tag.TheVariants.{LayerStream, LayerTag, Message, PadHash, PadStream, RingCoins}
@@ -20,7 +18,7 @@ use Rattle.ring_encrypt.proofs.OpeningLemmas.{sealed_parts, u_of, v_of}
 use Rattle.layer_cipher.specs.Layer.{Opens, layer_of, masked, wrapping_of}
 use Rattle.layer_cipher.specs.Stripping.{HasBody}
 use Rattle.layer_cipher.proofs.LayerLemmas.{layer_adds, masked_twice}
-use Rattle.bulk_descriptor.specs.Descriptor.{Description, descriptor_read, descriptor_text, hash_of_pad, hidden_under, made_descriptor, made_pads, other_pads, own_pad, pad_found, pad_if_hashed, pad_row, pads_of, sealed_seeds}
+use Rattle.bulk_descriptor.specs.Descriptor.{descriptor_text, hash_of_pad, hidden_under, made_descriptor, made_pads, other_pads, own_pad, pads_of, sealed_seeds}
 use Rattle.round_spec.proofs.OwnBytes.{low-first, packed-bytes}
 
 -- ---- lists of byte strings
