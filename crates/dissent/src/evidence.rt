@@ -1,9 +1,8 @@
 //! Evidence: votes of member 2 of a group of two in one slot, the transcripts that list them, and posts to be shown.
 
 use super::*;
-use crate::tests::{files_of, run_words};
+use crate::tests::{NOTHING_FAILS, put, run_words};
 use lms_tree::{LmsSecret, MadeHeight, OtsType};
-use std::test::Fail;
 use wire_core::{Mem, Register, Tag, put_bytes, put_u8, put_u32, put_u64};
 
 // The key of H5 and W4 that is made from a member's number.
@@ -68,49 +67,57 @@ fn files_of_two(alloc: Global) -> Mem<MemoryFiles> {
     let yes = post_of(alloc, &mut second, 77, &go)?;
     let no = post_of(alloc, &mut second, 77, &no_go)?;
     let again = post_of(alloc, &mut second, 77, &go)?;
-    files_of(
+    let mut files = MemoryFiles::new(alloc, Vec::new(alloc));
+    put(alloc, &mut files, "r", &roster)?;
+    put(alloc, &mut files, "go", &yes)?;
+    put(
         alloc,
-        Vec::new(alloc),
-        &[
-            ("r", &roster),
-            ("go", &yes),
-            ("abort", &post_of(alloc, &mut first, 76, &abort)?),
-            ("two", &transcript_of(alloc, &yes, &no)?),
-            ("one", &transcript_of(alloc, &yes, &again)?),
-        ],
-    )
+        &mut files,
+        "abort",
+        &post_of(alloc, &mut first, 76, &abort)?,
+    )?;
+    put(alloc, &mut files, "two", &transcript_of(alloc, &yes, &no)?)?;
+    put(
+        alloc,
+        &mut files,
+        "one",
+        &transcript_of(alloc, &yes, &again)?,
+    )?;
+    Ok(files)
 }
 
-// What the commands print of transcripts and of posts.
-#[test]
-fn commands_come_to_their_end(rt: HostRuntime) -> Result<(), Fail> {
-    let alloc = rt.alloc();
+// Commands over these files, with the number and the line that each ends with.
+const LINES: [(&[&str], u8, &[u8]); 4] = [
+    (
+        &["judge", "--roster", "r", "--transcript", "two"],
+        0,
+        b"accepted member 2 claim Equivocation\n",
+    ),
+    (
+        &["judge", "--roster", "r", "--transcript", "one"],
+        4,
+        b"refused check 8 post 2 at 0\n",
+    ),
+    (
+        &["show", "--roster", "r", "--round", "1", "--post", "go"],
+        0,
+        b"stage 4 sender 2 kind Go view 0909090909090909090909090909090909090909090909090909090909090909\n",
+    ),
+    (
+        &["show", "--roster", "r", "--round", "1", "--post", "abort"],
+        0,
+        b"stage 2 sender 1 kind Abort view 0909090909090909090909090909090909090909090909090909090909090909\n",
+    ),
+];
+
+// The first of these commands that ends otherwise.
+pub(crate) fn first_other_line<R: Threads + Sync>(rt: &R, alloc: Global) -> Mem<Option<usize>> {
     let mut files = files_of_two(alloc)?;
-    for (words, number, line) in [
-        (
-            ["judge", "--roster", "r", "--transcript", "two"].as_slice(),
-            0,
-            b"accepted member 2 claim Equivocation\n".as_slice(),
-        ),
-        (
-            ["judge", "--roster", "r", "--transcript", "one"].as_slice(),
-            4,
-            b"refused check 8 post 2 at 0\n".as_slice(),
-        ),
-        (
-            ["show", "--roster", "r", "--round", "1", "--post", "go"].as_slice(),
-            0,
-            b"stage 4 sender 2 kind Go view 0909090909090909090909090909090909090909090909090909090909090909\n".as_slice(),
-        ),
-        (
-            ["show", "--roster", "r", "--round", "1", "--post", "abort"].as_slice(),
-            0,
-            b"stage 2 sender 1 kind Abort view 0909090909090909090909090909090909090909090909090909090909090909\n".as_slice(),
-        ),
-    ] {
-        let (status, out) = run_words(&rt, alloc, words, &mut files)?;
-        assert_eq!(rt; status.number(), number);
-        assert_eq!(rt; out.written(), line);
+    for (place, (words, number, line)) in LINES.iter().enumerate() {
+        let ended = run_words(rt, alloc, words, &mut files, NOTHING_FAILS)?;
+        if !ended.is(*number, line) {
+            return Ok(Some(place));
+        }
     }
-    Ok(())
+    Ok(None)
 }
