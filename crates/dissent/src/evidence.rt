@@ -49,40 +49,54 @@ fn transcript_of(alloc: Global, first: &[u8], second: &[u8]) -> Mem<Vec<u8>> {
     Ok(bytes)
 }
 
-// The files of a group of two: its roster, two votes of member 2 in one slot and one of them signed again, in the
-// transcripts that list them, a vote, and a turn that member 1 calls off.
-fn files_of_two(alloc: Global) -> Mem<MemoryFiles> {
-    let mut first = secret_of(alloc, 1)?;
-    let mut second = secret_of(alloc, 2)?;
+// The roster of two keys, and its id.
+fn roster_of(alloc: Global, first: &LmsSecret, second: &LmsSecret) -> Mem<(Vec<u8>, [u8; 32])> {
     let mut roster = Vec::new(alloc);
     put_bytes(&mut roster, b"DSRO\x01\x02")?;
     put_bytes(&mut roster, &first.public().bytes())?;
     put_bytes(&mut roster, &second.public().bytes())?;
     let mut register = Register::new(Tag::Roster);
     register.piece(&roster);
-    let group = register.end();
-    let go = content_of(alloc, &group, 4, 2, &[5, 1])?;
-    let no_go = content_of(alloc, &group, 4, 2, &[5, 0])?;
-    let abort = content_of(alloc, &group, 2, 1, &[4])?;
-    let yes = post_of(alloc, &mut second, 77, &go)?;
-    let no = post_of(alloc, &mut second, 77, &no_go)?;
-    let again = post_of(alloc, &mut second, 77, &go)?;
+    Ok((roster, register.end()))
+}
+
+// The post of a vote of member 2.
+fn vote_of(alloc: Global, secret: &mut LmsSecret, group: &[u8; 32], flag: u8) -> Mem<Vec<u8>> {
+    let content = content_of(alloc, group, 4, 2, &[5, flag])?;
+    post_of(alloc, secret, 77, &content)
+}
+
+// The post of a turn that member 1 calls off.
+fn abort_of(alloc: Global, secret: &mut LmsSecret, group: &[u8; 32]) -> Mem<Vec<u8>> {
+    let content = content_of(alloc, group, 2, 1, &[4])?;
+    post_of(alloc, secret, 76, &content)
+}
+
+// Two votes in one slot and one of them signed again, in the transcripts that list them, and a vote.
+fn put_votes<F: Files>(
+    alloc: Global,
+    files: &mut F,
+    secret: &mut LmsSecret,
+    group: &[u8; 32],
+) -> Mem<()> {
+    let yes = vote_of(alloc, secret, group, 1)?;
+    let no = vote_of(alloc, secret, group, 0)?;
+    let again = vote_of(alloc, secret, group, 1)?;
+    put(alloc, files, "go", &yes)?;
+    put(alloc, files, "two", &transcript_of(alloc, &yes, &no)?)?;
+    put(alloc, files, "one", &transcript_of(alloc, &yes, &again)?)
+}
+
+// The files of a group of two: its roster, a turn that is called off, and evidence on votes.
+fn files_of_two(alloc: Global) -> Mem<MemoryFiles> {
+    let mut first = secret_of(alloc, 1)?;
+    let mut second = secret_of(alloc, 2)?;
+    let (roster, group) = roster_of(alloc, &first, &second)?;
     let mut files = MemoryFiles::new(alloc, Vec::new(alloc));
     put(alloc, &mut files, "r", &roster)?;
-    put(alloc, &mut files, "go", &yes)?;
-    put(
-        alloc,
-        &mut files,
-        "abort",
-        &post_of(alloc, &mut first, 76, &abort)?,
-    )?;
-    put(alloc, &mut files, "two", &transcript_of(alloc, &yes, &no)?)?;
-    put(
-        alloc,
-        &mut files,
-        "one",
-        &transcript_of(alloc, &yes, &again)?,
-    )?;
+    let abort = abort_of(alloc, &mut first, &group)?;
+    put(alloc, &mut files, "abort", &abort)?;
+    put_votes(alloc, &mut files, &mut second, &group)?;
     Ok(files)
 }
 

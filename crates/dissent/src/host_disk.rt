@@ -227,3 +227,6 @@ fn sync_all<F: OpenFile>(file: &Option<F>) -> io::Result<()> {
     }
     Err(io::Error::from(ErrorKind::Interrupted))
 }
+
+#[cfg(test)]
+mod tests;
