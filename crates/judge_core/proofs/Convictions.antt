@@ -1,118 +1,52 @@
--- What the judge accepts convicts, what convicts is accepted, and nobody is framed.
-use Rattle.std.proofs.Common.{◌≡◌, ◌≢◌, ℕ, Bool, true, false, not, ◌&&◌, List, [], ◌∷◌, ◌++◌, length, Option, Some, None, Result, Ok, Err, refl, sym, ap, subst, ◌∙◌, arith}
-use Rattle.std.specs.Prelude.{◌==◌, bytes_eq, Contains, is_ok}
+-- What the judge accepts convicts, and what convicts is accepted.
+use Rattle.std.proofs.Common.{◌≡◌, ◌≢◌, ◌<◌, ℕ, true, false, not, List, [], ◌∷◌, length, Option, Some, None, Result, Ok, Err, refl, sym, ap, subst, ◌∙◌, arith}
+use Rattle.std.specs.Prelude.{◌==◌, bytes_eq, is_ok, nat_le}
 use Rattle.std.specs.List.{AllByRecursion}
-use Rattle.std.specs.Int.{w32, to_be_bytes}
-use Rattle.std.proofs.lemmas.Bool.{eqb-true, eq-eqb, and_parts, both_ways, not-true, not-false, false_from_ne_true}
+use Rattle.std.proofs.lemmas.Bool.{eqb-true, leb-true, eq-eqb, and_parts, both_ways, not-true, false_from_ne_true}
 use Rattle.std.proofs.lemmas.Slice.Eq.{bytes_eq-Decides}
 use Rattle.wire_core.specs.Bytes.{IsBytes}
-use Rattle.wire_core.proofs.ByteLists.{IsBytes-front, IsBytes-back}
-use Rattle.wire_core.specs.Answers.{fault_as, unless, Gives}
-use Rattle.wire_core.proofs.Readings.{bind_ok, fault_as_ok, guard_ok}
-use Rattle.wire_core.specs.declared.cursor.Short.{Short}
+use Rattle.wire_core.specs.Answers.{fault_as, Gives}
+use Rattle.wire_core.proofs.Readings.{bind_ok, fault_as_ok}
 use Rattle.ring_encrypt.specs.Capsule.{key_of_seed}
 use Rattle.phase_message.specs.declared.content.Body.{Body}
-use Rattle.phase_message.specs.declared.content.Body.TheVariants.{Keys, Submit, Shuffled, Abort, Go, Reveal, Dispute, Pads, Check, Confirm, Differ}
+use Rattle.phase_message.specs.declared.content.Body.TheVariants.{Keys, Reveal}
 use Rattle.phase_message.specs.declared.content.Content.{Content}
 use Rattle.phase_message.specs.declared.stage.StageKind.{StageKind}
 use Rattle.phase_message.specs.declared.stage.StageKind.TheVariants.{Keys as AtKeys, Submit as AtSubmit, Shuffle as AtShuffle, Go as AtGo, Final as AtFinal, Pad as AtPad, Check as AtCheck, Confirm as AtConfirm}
-use Rattle.phase_message.specs.Body.{body_form, form_of}
-use Rattle.phase_message.specs.Slots.{slots_before}
 use Rattle.phase_message.specs.Stages.{kind_of_stage, vote_of}
 use Rattle.phase_message.specs.declared.header.Header.{Header}
-use Rattle.phase_message.specs.declared.post.Post.{Post}
-use Rattle.phase_message.specs.Grammar.{IsBody, OfGrammar, content_text, kind_number}
+use Rattle.phase_message.specs.Grammar.{OfGrammar, content_text}
 use Rattle.phase_message.specs.declared.offence.Offence.{Offence}
 use Rattle.phase_message.specs.Offence.{content_read}
-use Rattle.phase_message.proofs.Whole.{content-header, content-is_spelled, content-is_read}
+use Rattle.phase_message.proofs.Whole.{content-is_spelled, content-is_read}
 use Rattle.phase_message.specs.Shape.{Shape, IsShape}
 use Rattle.group_roster.specs.Roster.{Roster, shape_of_roster, IsRosterForm}
 use Rattle.wire_core.specs.Answers.{fault_unless}
 use Rattle.wire_core.proofs.AnswerLemmas.{fault_unless-holds}
-use Rattle.signed_post.specs.declared.post.PostRefusal.{PostRefusal}
-use Rattle.signed_post.specs.declared.post.PostRefusal.TheVariants.{Frame}
-use Rattle.signed_post.specs.Frame.{frame_of}
-use Rattle.signed_post.specs.Admission.{framed_admission_of, admission_of_bytes, IsPostFile, Says}
-use Rattle.signed_post.proofs.Frames.{framed-found, framed-again, framed-bytes}
-use Rattle.signed_post.proofs.Admits.{admit-found, admit-again}
+use Rattle.signed_post.specs.Admission.{IsPostFile}
 use Rattle.transcript_form.specs.declared.claim.Claim.{Claim}
 use Rattle.transcript_form.specs.declared.claim.Claim.TheVariants.{Equivocation, Malformed, WrongSeed, BadLog, Replay, Pad}
-use Rattle.transcript_form.specs.declared.refusal.FailedForm.{FailedForm}
 use Rattle.transcript_form.specs.declared.refusal.Refused.{Refused}
 use Rattle.transcript_form.specs.Refusals.{failure_of_refusal}
 use Rattle.transcript_form.specs.declared.transcript.Transcript.{Transcript}
 use Rattle.transcript_form.specs.Claim.{claim_posts}
-use Rattle.transcript_form.specs.Form.{claim_read, transcript_read}
-use Rattle.transcript_form.proofs.Transcripts.{transcript_read-found, transcript_read-again, claim_read-transcript, transcript-bytes}
+use Rattle.transcript_form.specs.Transcript.{IsTranscript}
+use Rattle.transcript_form.specs.Form.{transcript_read}
+use Rattle.transcript_form.proofs.Transcripts.{transcript_read-found, transcript_read-again, transcript-bytes}
 use Rattle.judge_core.specs.declared.failed_check.FailedCheck.{FailedCheck}
-use Rattle.judge_core.specs.declared.failed_check.FailedCheck.TheVariants.{Form, Post as RefusedPost, Slot, Body as FailedBody, Kind, Same, WellFormed, SeedFits, Justified}
+use Rattle.judge_core.specs.declared.failed_check.FailedCheck.TheVariants.{Form, Same, WellFormed, SeedFits, Justified}
 use Rattle.judge_core.specs.declared.judging.Accepted.{Accepted}
-use Rattle.judge_core.specs.Accepts.{Equivocates, SaysMalformed, RevealsWrongSeed, ShowsBadLog, Convicts, Accepts}
-use Rattle.judge_core.specs.Checks.{content_of, is_decided, undecided, is_asked, is_closing_stage, is_final_stage, is_keys_stage, is_kind_asked, is_of_bodies, is_seed_right, is_slot_asked, heard_of, taken_of, own_failure, conviction_of, judgement_of, printed_judgement_of, AcceptsExactly}
-use Rattle.judge_core.specs.Case.{Case, Said, case_of_transcript}
-use Rattle.judge_core.specs.Pad.{is_reveal}
-use Rattle.std.specs.Prelude.{IsSome, is_some, option_and_then}
+use Rattle.conviction.specs.Accepts.{Equivocates, SaysMalformed, RevealsWrongSeed, ShowsBadLog, Convicts, Accepts, inner_key}
+use Rattle.judge_core.specs.Checks.{is_asked, is_closing_stage, is_final_stage, is_keys_stage, is_kind_asked, is_of_bodies, is_seed_right, own_failure, conviction_of, judgement_of, printed_judgement_of, AcceptsExactly}
+use Rattle.judge_core.specs.Case.{Said, case_of_transcript}
+use Rattle.std.specs.Prelude.{IsSome, option_and_then}
 use Rattle.judge_core.specs.Closing.{is_justified_in, is_read_justified}
-use Rattle.judge_core.specs.WrongSeed.{inner_key, is_seed_in, is_seed_of_key}
 use Rattle.judge_core.specs.Failures.{failure_of_check}
-use Rattle.judge_core.specs.Framing.{EachOfGrammar, GivesNoGround, OnePerSlot, SaidBy, NobodyIsFramed}
-use Rattle.judge_core.proofs.Hearings.{BothHeard, both_heard, two-both, other_contents, other_seed, unborne, is-closing, OneHeard, one_heard, one-heard, unformed, taken-plain, taken-heard, taken-read, taken-again}
-
--- ---- a listed post
-
-abbrev admitted_ok : Header × List ℕ → Result (Header × List ℕ) PostRefusal
-admitted_ok x = Ok x
-
-says-found : (roster : Roster) (round : ℕ) (bytes : List ℕ) (x : Header × List ℕ) → IsBytes bytes → admission_of_bytes roster round bytes ≡ Ok x → Says roster round bytes x.1 x.0
-says-found roster round bytes x fits e =
-    let a = bind_ok (fault_as (λ at. Frame at) (frame_of bytes)) _ x e in
-    let b = bind_ok (framed_admission_of roster round a.0) _ x a.2 in
-    let frame = framed-found bytes a.0 fits (fault_as_ok (λ at. Frame at) (frame_of bytes) a.0 a.1) in
-    let same : (b.0, a.0.content) ≡ x = (let e : admitted_ok (b.0, a.0.content) ≡ admitted_ok x = b.2 in cc) in
-    let says : Says roster round bytes a.0.content b.0 = record { signature = a.0.signature; spelled = frame.1; admitted = admit-found roster round a.0 b.0 frame.0 (framed-bytes bytes a.0 fits (fault_as_ok (λ at. Frame at) (frame_of bytes) a.0 a.1)) b.1 } in
-    subst (λ (x : Header × List ℕ). Says roster round bytes x.1 x.0) same says
-
-says-again : (roster : Roster) (round : ℕ) (bytes content : List ℕ) (header : Header) → Says roster round bytes content header → admission_of_bytes roster round bytes ≡ Ok (header, content)
-says-again roster round bytes content header says =
-    let post : Post = record { content = content; signature = says.signature } in
-    let frame : frame_of bytes ≡ Ok post = ap frame_of says.spelled ∙ framed-again post says.admitted.frame in
-    rw (frame, admit-again roster round post header says.admitted) refl
-
--- what a post says are bytes
-says-bytes : (roster : Roster) (round : ℕ) (bytes content : List ℕ) (header : Header) → IsBytes bytes → Says roster round bytes content header → IsBytes content
-says-bytes roster round bytes content header fits says =
-    let spelled : IsBytes (to_be_bytes w32 (length content) ++ content ++ says.signature) = subst (λ (x : List ℕ). IsBytes x) says.spelled fits in
-    IsBytes-back (to_be_bytes w32 (length content)) content (IsBytes-front (to_be_bytes w32 (length content) ++ content) says.signature spelled)
-
--- a post that is heard says what is heard, and the claim asks for it
-pub heard-found : (case : Case) (first : Option Header) (number : ℕ) (bytes : List ℕ) (x : Said) → IsBytes bytes → heard_of case first number bytes ≡ Ok x
-    → Says case.roster case.round bytes x.content x.header × (is_asked case first number x.header ≡ true)
-unfolding heard_of
-heard-found case first number bytes x fits e =
-    let a = bind_ok (fault_as (λ refusal. RefusedPost number refusal) (admission_of_bytes case.roster case.round bytes)) _ x e in
-    let said : Said = record { header = a.0.0; content = a.0.1 } in
-    let asked = guard_ok (not (is_asked case first number a.0.0)) (Slot number a.0.0.stage) said x a.2 in
-    let says = says-found case.roster case.round bytes a.0 fits (fault_as_ok (λ refusal. RefusedPost number refusal) (admission_of_bytes case.roster case.round bytes) a.0 a.1) in
-    subst (λ (x : Said). Says case.roster case.round bytes x.content x.header × (is_asked case first number x.header ≡ true)) asked.1
-    (says, not-false (is_asked case first number a.0.0) asked.0)
-
-pub heard-again : (case : Case) (first : Option Header) (number : ℕ) (bytes content : List ℕ) (header : Header) → Says case.roster case.round bytes content header → is_asked case first number header ≡ true
-    → heard_of case first number bytes ≡ Ok (record { header = header; content = content })
-unfolding heard_of
-heard-again case first number bytes content header says asked = rw (says-again case.roster case.round bytes content header says, asked) refl
-
--- the same of what is asked of the claim's slot
-abbrev asks : Claim → Case → Option Header → ℕ → Header → Bool
-asks claim case first number header = is_slot_asked claim case (kind_of_stage (shape_of_roster case.roster) header.stage) first number header
-
-pub asked-found : (case : Case) (claim : Claim) (first : Option Header) (number : ℕ) (header : Header) → case.claim ≡ claim → is_asked case first number header ≡ true → asks claim case first number header ≡ true
-asked-found case claim first number header is asked = subst (λ (c : Claim). asks c case first number header ≡ true) is asked
-
-pub asked-again : (case : Case) (claim : Claim) (first : Option Header) (number : ℕ) (header : Header) → case.claim ≡ claim → asks claim case first number header ≡ true → is_asked case first number header ≡ true
-asked-again case claim first number header is asked = subst (λ (c : Claim). asks c case first number header ≡ true) (sym is) asked
-
-plain-claim : (claim c : Claim) → claim ≡ c → is_of_bodies c ≡ false → is_of_bodies claim ≡ false
-plain-claim claim c is e = ap is_of_bodies is ∙ e
+use Rattle.judge_core.proofs.PadLaw.{pad-again, pad-found}
+use Rattle.judge_core.proofs.Replays.{replay-again, replay-found}
+use Rattle.judge_core.proofs.SeedPlaces.{is-keys, keys_body, reveal_body, seed-right}
+use Rattle.judge_core.proofs.Listed.{asked-again, asked-found, both-true, closing-is, file-taken, heard-again, heard-found, plain-claim, says-bytes, taken-found}
+use Rattle.judge_core.proofs.Hearings.{BothHeard, both_heard, two-both, other_contents, other_seed, unborne, is-closing, OneHeard, one_heard, one-heard, unformed, taken-plain, taken-heard}
 
 -- ---- Equivocation
 
@@ -170,61 +104,7 @@ two-again roster t is e =
     (taken-plain case (Some e.first_header) 2 e.second plain ∙ heard-again case (Some e.first_header) 2 e.second e.second_content e.second_header e.second_says asked_again)
     ∙ other_contents case a b is differ
 
--- ---- a post whose body is looked at
-
--- what is taken of a post for a claim that looks at bodies is a post of a content of the grammar
-pub record TakenPost (case : Case) (first : Option Header) (number : ℕ) (bytes : List ℕ) (x : Said) : Type 0 where
-  pub content : Content
-  pub header_is : content.header ≡ x.header
-  pub file : IsPostFile case.roster case.round bytes content
-  pub reads : content_read (shape_of_roster case.roster) x.content ≡ Ok content
-  pub asked : is_asked case first number x.header ≡ true
-  pub kind : is_kind_asked case.claim first content.body ≡ true
-
-abbrev header_ok : Header → Result Header Short
-header_ok header = Ok header
-
-pub taken-found : (case : Case) (first : Option Header) (number : ℕ) (bytes : List ℕ) (x : Said) → is_of_bodies case.claim ≡ true → IsBytes bytes → taken_of case first number bytes ≡ Ok x → TakenPost case first number bytes x
-unfolding content_of
-taken-found case first number bytes x bodies fits e =
-    let heard = heard-found case first number bytes x fits (taken-heard case first number bytes x e) in
-    let looked = taken-read case first number bytes x bodies e in
-    let read = bind_ok (fault_as (λ offence. FailedBody number offence.at) (content_read (shape_of_roster case.roster) x.content)) _ looked.0 looked.1 in
-    let asked = guard_ok (not (is_kind_asked case.claim first read.0.body)) (Kind number (kind_number read.0.body)) read.0 looked.0 read.2 in
-    let found = fault_as_ok (λ offence. FailedBody number offence.at) (content_read (shape_of_roster case.roster) x.content) read.0 read.1 in
-    let header : header_ok read.0.header ≡ header_ok x.header = sym (content-header (shape_of_roster case.roster) x.content read.0 found) ∙ heard.0.admitted.reads in
-    let same : read.0.header ≡ x.header = cc in
-    record {
-      content = read.0;
-      header_is = same;
-      file = record { text = x.content; says = subst (λ (h : Header). Says case.roster case.round bytes x.content h) (sym same) heard.0; reads = found };
-      reads = found;
-      asked = heard.1;
-      kind = not-false (is_kind_asked case.claim first read.0.body) asked.0;
-    }
-
--- and such a post is taken
-pub file-taken : (case : Case) (first : Option Header) (number : ℕ) (bytes : List ℕ) (content : Content) (file : IsPostFile case.roster case.round bytes content)
-    → is_asked case first number content.header ≡ true → is_kind_asked case.claim first content.body ≡ true
-    → taken_of case first number bytes ≡ Ok (record { header = content.header; content = file.text })
-unfolding content_of
-file-taken case first number bytes content file asked kind =
-    taken-again case first number bytes (record { header = content.header; content = file.text }) content
-    (heard-again case first number bytes file.text content.header file.says asked)
-    (rw (file.reads, kind) refl)
-
 -- ---- WrongSeed
-
-is-keys : (kind : Option StageKind) → is_keys_stage kind ≡ true → kind ≡ Some AtKeys
-is-keys (Some AtKeys) e = refl
-is-keys None e = absurd cc
-is-keys (Some (AtSubmit shuffle)) e = absurd cc
-is-keys (Some (AtShuffle shuffle k)) e = absurd cc
-is-keys (Some (AtGo shuffle)) e = absurd cc
-is-keys (Some (AtFinal shuffle)) e = absurd cc
-is-keys (Some AtPad) e = absurd cc
-is-keys (Some AtCheck) e = absurd cc
-is-keys (Some AtConfirm) e = absurd cc
 
 is-final : (kind : Option StageKind) → is_final_stage kind ≡ true → (shuffle : ℕ) × (kind ≡ Some (AtFinal shuffle))
 is-final (Some (AtFinal shuffle)) e = (shuffle, refl)
@@ -236,47 +116,6 @@ is-final (Some (AtGo shuffle)) e = absurd cc
 is-final (Some AtPad) e = absurd cc
 is-final (Some AtCheck) e = absurd cc
 is-final (Some AtConfirm) e = absurd cc
-
--- at the stage of keys a body of the grammar is one of keys
-no_keys : {F : Type 0} (o : Option StageKind) (form : Option StageKind → Option F) (f : F) → o ≡ Some AtKeys → form (Some AtKeys) ≡ None → form o ≡ Some f → ⊥
-no_keys {F} o form f e other is = never (form o) f (ap form e ∙ other) is
-  where
-    never : (o : Option F) (x : F) → o ≡ None → o ≡ Some x → ⊥
-    never None x none some = absurd cc
-    never (Some y) x none some = absurd cc
-
-keys_body : (shape : Shape) (stage : ℕ) (body : Body) → kind_of_stage shape stage ≡ Some AtKeys → IsBody shape stage body → (keys : List (List ℕ)) × (body ≡ Keys keys)
-unfolding body_form
-keys_body shape stage (Keys keys) e is = (keys, refl)
-keys_body shape stage (Submit ciphertext) e is = absurd (no_keys (kind_of_stage shape stage) (λ o. form_of shape (slots_before shape stage) o 2) is.0 e refl is.1)
-keys_body shape stage (Shuffled list) e is = absurd (no_keys (kind_of_stage shape stage) (λ o. form_of shape (slots_before shape stage) o 3) is.0 e refl is.1)
-keys_body shape stage Abort e is = absurd (no_keys (kind_of_stage shape stage) (λ o. form_of shape (slots_before shape stage) o 4) is.0 e refl is.1)
-keys_body shape stage (Go vote) e is = absurd (no_keys (kind_of_stage shape stage) (λ o. form_of shape (slots_before shape stage) o 5) is.0 e refl is.1)
-keys_body shape stage (Reveal votes seed) e is = absurd (no_keys (kind_of_stage shape stage) (λ o. form_of shape (slots_before shape stage) o 6) is.0 e refl is.1)
-keys_body shape stage (Dispute posts seed opening) e is = absurd (no_keys (kind_of_stage shape stage) (λ o. form_of shape (slots_before shape stage) o 7) is.0 e refl is.1)
-keys_body shape stage (Pads pads) e is = absurd (no_keys (kind_of_stage shape stage) (λ o. form_of shape (slots_before shape stage) o 8) is.0 e refl is.1)
-keys_body shape stage (Check vote) e is = absurd (no_keys (kind_of_stage shape stage) (λ o. form_of shape (slots_before shape stage) o 9) is.0 e refl is.1)
-keys_body shape stage (Confirm votes) e is = absurd (no_keys (kind_of_stage shape stage) (λ o. form_of shape (slots_before shape stage) o 10) is.0 e refl is.1)
-keys_body shape stage (Differ posts) e is = absurd (no_keys (kind_of_stage shape stage) (λ o. form_of shape (slots_before shape stage) o 11) is.0 e refl is.1)
-
-reveal_body : (body : Body) → is_reveal body ≡ true → (votes : List (List ℕ)) × (seed : List ℕ) × (body ≡ Reveal votes seed)
-reveal_body (Reveal votes seed) e = (votes, seed, refl)
-reveal_body (Keys keys) e = absurd cc
-reveal_body (Submit ciphertext) e = absurd cc
-reveal_body (Shuffled list) e = absurd cc
-reveal_body Abort e = absurd cc
-reveal_body (Go vote) e = absurd cc
-reveal_body (Dispute posts seed opening) e = absurd cc
-reveal_body (Pads pads) e = absurd cc
-reveal_body (Check vote) e = absurd cc
-reveal_body (Confirm votes) e = absurd cc
-reveal_body (Differ posts) e = absurd cc
-
--- what is right of a seed, of contents that are read
-seed-right : (kind : Option StageKind) (first last : Result Content Offence) (a b : Content) (shuffle : ℕ) (keys votes : List (List ℕ)) (seed : List ℕ)
-    → kind ≡ Some (AtFinal shuffle) → first ≡ Ok a → last ≡ Ok b → a.body ≡ Keys keys → b.body ≡ Reveal votes seed → is_seed_of_key kind first last ≡ bytes_eq (key_of_seed seed) (inner_key shuffle keys)
-seed-right kind first last a b shuffle keys votes seed e1 e2 e3 e4 e5 =
-    rw (e1, e2, e3) (ap (λ (body : Body). is_seed_in (Some (AtFinal shuffle)) body b.body) e4 ∙ ap (λ (body : Body). is_seed_in (Some (AtFinal shuffle)) (Keys keys) body) e5)
 
 -- a content by its header and its body
 same_content : (c : Content) (header : Header) (body : Body) → c.header ≡ header → c.body ≡ body → c ≡ record { header = header; body = body }
@@ -335,8 +174,8 @@ seed-again roster t is e =
     let other : (e.final_header.sender == t.accused) ≡ true = eq-eqb _ _ e.final_sender in
     let keys : is_keys_stage (kind_of_stage shape e.keys_header.stage) ≡ true = ap is_keys_stage e.keys_stage in
     let final : is_final_stage (kind_of_stage shape e.final_header.stage) ≡ true = ap is_final_stage e.final_stage in
-    let asked : is_asked case None 1 e.keys_header ≡ true = asked-again case WrongSeed None 1 e.keys_header is (both _ _ sender keys) in
-    let asked_again : is_asked case (Some e.keys_header) 2 e.final_header ≡ true = asked-again case WrongSeed (Some e.keys_header) 2 e.final_header is (both _ _ other final) in
+    let asked : is_asked case None 1 e.keys_header ≡ true = asked-again case WrongSeed None 1 e.keys_header is (both-true _ _ sender keys) in
+    let asked_again : is_asked case (Some e.keys_header) 2 e.final_header ≡ true = asked-again case WrongSeed (Some e.keys_header) 2 e.final_header is (both-true _ _ other final) in
     let kind : is_kind_asked case.claim None (Keys e.keys) ≡ true = subst (λ (c : Claim). is_kind_asked c None (Keys e.keys) ≡ true) (sym is) refl in
     let kind_again : is_kind_asked case.claim (Some e.keys_header) (Reveal e.votes e.seed) ≡ true = subst (λ (c : Claim). is_kind_asked c (Some e.keys_header) (Reveal e.votes e.seed) ≡ true) (sym is) refl in
     let right = seed-right (kind_of_stage shape e.final_header.stage) (content_read shape e.keys_are.text) (content_read shape e.final_is.text) first last e.shuffle e.keys e.votes e.seed e.final_stage e.keys_are.reads e.final_is.reads refl refl in
@@ -346,11 +185,6 @@ seed-again roster t is e =
     (file-taken case None 1 e.keys_post first e.keys_are asked kind)
     (file-taken case (Some e.keys_header) 2 e.final_post last e.final_is asked_again kind_again)
     ∙ other_seed case a b is (right ∙ differ)
-  where
-    both : (x y : Bool) → x ≡ true → y ≡ true → (x && y) ≡ true
-    both true true e f = refl
-    both true false e f = absurd cc
-    both false y e f = absurd cc
 
 -- ---- Malformed
 
@@ -406,13 +240,6 @@ one-again roster t is fits m =
 
 -- ---- BadLog
 
-closing-is : (o : Option StageKind) → IsSome (option_and_then vote_of o) → is_closing_stage o ≡ true
-closing-is o e = some_of (option_and_then vote_of o) e
-  where
-    some_of : (o : Option StageKind) → IsSome o → is_some o ≡ true
-    some_of (Some kind) e = refl
-    some_of None e = absurd cc
-
 log-found : (roster : Roster) (t : Transcript) (only : List ℕ) → t.claim ≡ BadLog → t.posts ≡ only ∷ [] → IsBytes only → OneHeard (case_of_transcript roster t) only → ShowsBadLog roster t
 log-found roster t only is posts fits one =
     let case = case_of_transcript roster t in
@@ -437,99 +264,86 @@ log-again roster t is m =
     let a : Said = record { header = m.content.header; content = m.file.text } in
     let sender : (m.content.header.sender == t.accused) ≡ true = eq-eqb _ _ m.sender in
     let closing : is_closing_stage (kind_of_stage shape m.content.header.stage) ≡ true = closing-is (kind_of_stage shape m.content.header.stage) m.closing in
-    let asked : is_asked case None 1 m.content.header ≡ true = asked-again case BadLog None 1 m.content.header is (both _ _ sender closing) in
+    let asked : is_asked case None 1 m.content.header ≡ true = asked-again case BadLog None 1 m.content.header is (both-true _ _ sender closing) in
     let kind : is_kind_asked case.claim None m.content.body ≡ true = subst (λ (c : Claim). is_kind_asked c None m.content.body ≡ true) (sym is) refl in
     ap (conviction_of case) m.listed
     ∙ one-heard case m.post a (file-taken case None 1 m.post m.content m.file asked kind)
     ∙ unborne case a is (ap (is_read_justified roster t.round) m.file.reads ∙ m.unjustified)
-  where
-    both : (x y : Bool) → x ≡ true → y ≡ true → (x && y) ≡ true
-    both true true e f = refl
-    both true false e f = absurd cc
-    both false y e f = absurd cc
 
 -- ---- by claim
 
-convicts-found : (roster : Roster) (t : Transcript) (claim : Claim) → t.claim ≡ claim → is_decided claim ≡ true → length t.posts ≡ claim_posts (shape_of_roster roster) claim → AllByRecursion IsBytes t.posts
+-- a transcript accuses a member, so that there is one
+members-some : (roster : Roster) (t : Transcript) → IsTranscript (shape_of_roster roster) t → 0 < (shape_of_roster roster).members
+members-some roster t form =
+    let n : ℕ = (shape_of_roster roster).members in
+    let parts = and_parts (nat_le 1 t.accused) (nat_le t.accused n) form.accused in
+    omega (arith, leb-true 1 t.accused parts.0, leb-true t.accused n parts.1)
+
+convicts-found : (roster : Roster) (t : Transcript) (claim : Claim) → IsTranscript (shape_of_roster roster) t → t.claim ≡ claim → length t.posts ≡ claim_posts (shape_of_roster roster) claim → AllByRecursion IsBytes t.posts
     → conviction_of (case_of_transcript roster t) t.posts ≡ Ok tt → Convicts roster t claim
-convicts-found roster t Equivocation is decided count fits e =
+convicts-found roster t Equivocation form is count fits e =
     let two = two_listed t.posts count in
     let bytes : IsBytes two.0 × IsBytes two.1 = two_bytes two.0 two.1 (subst (λ (x : List (List ℕ)). AllByRecursion IsBytes x) two.2 fits) in
     two-found roster t two.0 two.1 is two.2 bytes.0 bytes.1 (both_heard (case_of_transcript roster t) two.0 two.1 (sym (ap (conviction_of (case_of_transcript roster t)) two.2) ∙ e))
   where
     two_bytes : (a b : List ℕ) → AllByRecursion IsBytes (a ∷ b ∷ []) → IsBytes a × IsBytes b
     two_bytes a b fits = (fits.0, fits.1.0)
-convicts-found roster t Malformed is decided count fits e =
+convicts-found roster t Malformed form is count fits e =
     let one = one_listed t.posts count in
     let bytes : IsBytes one.0 = only_bytes one.0 (subst (λ (x : List (List ℕ)). AllByRecursion IsBytes x) one.1 fits) in
     one-found roster t one.0 is one.1 bytes (one_heard (case_of_transcript roster t) one.0 (sym (ap (conviction_of (case_of_transcript roster t)) one.1) ∙ e))
   where
     only_bytes : (a : List ℕ) → AllByRecursion IsBytes (a ∷ []) → IsBytes a
     only_bytes a fits = fits.0
-convicts-found roster t WrongSeed is decided count fits e =
+convicts-found roster t WrongSeed form is count fits e =
     let two = two_listed t.posts count in
     let bytes : IsBytes two.0 × IsBytes two.1 = two_bytes two.0 two.1 (subst (λ (x : List (List ℕ)). AllByRecursion IsBytes x) two.2 fits) in
     seed-found roster t two.0 two.1 is two.2 bytes.0 bytes.1 (both_heard (case_of_transcript roster t) two.0 two.1 (sym (ap (conviction_of (case_of_transcript roster t)) two.2) ∙ e))
   where
     two_bytes : (a b : List ℕ) → AllByRecursion IsBytes (a ∷ b ∷ []) → IsBytes a × IsBytes b
     two_bytes a b fits = (fits.0, fits.1.0)
-convicts-found roster t BadLog is decided count fits e =
+convicts-found roster t BadLog form is count fits e =
     let one = one_listed t.posts count in
     let bytes : IsBytes one.0 = only_bytes one.0 (subst (λ (x : List (List ℕ)). AllByRecursion IsBytes x) one.1 fits) in
     log-found roster t one.0 is one.1 bytes (one_heard (case_of_transcript roster t) one.0 (sym (ap (conviction_of (case_of_transcript roster t)) one.1) ∙ e))
   where
     only_bytes : (a : List ℕ) → AllByRecursion IsBytes (a ∷ []) → IsBytes a
     only_bytes a fits = fits.0
-convicts-found roster t Replay is decided count fits e = absurd cc
-convicts-found roster t Pad is decided count fits e = absurd cc
+convicts-found roster t Replay form is count fits e = (let some = members-some roster t form in replay-found roster t is count (omega (arith, some, count)) fits e)
+convicts-found roster t Pad form is count fits e = pad-found roster t is count fits e
 
-convicts-again : (roster : Roster) (t : Transcript) (claim : Claim) → t.claim ≡ claim → AllByRecursion IsBytes t.posts → Convicts roster t claim → (is_decided claim ≡ true) × (conviction_of (case_of_transcript roster t) t.posts ≡ Ok tt)
-convicts-again roster t Equivocation is fits convicts = (refl, two-again roster t is convicts)
-convicts-again roster t Malformed is fits convicts = (refl, one-again roster t is fits convicts)
-convicts-again roster t WrongSeed is fits convicts = (refl, seed-again roster t is convicts)
-convicts-again roster t BadLog is fits convicts = (refl, log-again roster t is convicts)
-convicts-again roster t Replay is fits convicts = absurd convicts
-convicts-again roster t Pad is fits convicts = absurd convicts
+convicts-again : (roster : Roster) (t : Transcript) (claim : Claim) → IsTranscript (shape_of_roster roster) t → t.claim ≡ claim → AllByRecursion IsBytes t.posts → Convicts roster t claim → conviction_of (case_of_transcript roster t) t.posts ≡ Ok tt
+convicts-again roster t Equivocation form is fits convicts = two-again roster t is convicts
+convicts-again roster t Malformed form is fits convicts = one-again roster t is fits convicts
+convicts-again roster t WrongSeed form is fits convicts = seed-again roster t is convicts
+convicts-again roster t BadLog form is fits convicts = log-again roster t is convicts
+convicts-again roster t Replay form is fits convicts = replay-again roster t (members-some roster t form) is convicts
+convicts-again roster t Pad form is fits convicts = pad-again roster t is (form.count ∙ ap (claim_posts (shape_of_roster roster)) is) fits convicts
 
 -- ---- the whole
 
 abbrev accepted_ok : Accepted → Result Accepted FailedCheck
 accepted_ok a = Ok a
 
-abbrev claim_ok : Claim → Result Claim FailedForm
-claim_ok claim = Ok claim
-
-one_claim : (a b : Claim) → claim_ok a ≡ claim_ok b → a ≡ b
-one_claim a b e = cc
-
--- the claim that was found at the head is that of the transcript
-pub decided_claim : (shape : Shape) (bytes : List ℕ) (t : Transcript) (claim : Claim) → claim_read bytes ≡ Ok claim → transcript_read shape bytes ≡ Ok t → is_decided claim ≡ true → is_decided t.claim ≡ true
-decided_claim shape bytes t claim head read decided =
-    subst (λ (c : Claim). is_decided c ≡ true) (one_claim claim t.claim (sym head ∙ claim_read-transcript shape bytes t read)) decided
-
 pub judgement-found : (roster : Roster) (bytes : List ℕ) (a : Accepted) → IsBytes bytes → judgement_of roster bytes ≡ Ok a → Accepts roster bytes a.accused a.claim
 unfolding judgement_of
 judgement-found roster bytes a fits e =
-    let head = bind_ok (fault_as (λ failed. Form failed) (claim_read bytes)) _ a e in
-    let test = bind_ok (unless (not (is_decided head.0)) undecided head.0) _ a head.2 in
-    let read = bind_ok (fault_as (λ failed. Form failed) (transcript_read (shape_of_roster roster) bytes)) _ a test.2 in
+    let read = bind_ok (fault_as (λ failed. Form failed) (transcript_read (shape_of_roster roster) bytes)) _ a e in
     let t : Transcript = read.0 in
     let convicted = bind_ok (conviction_of (case_of_transcript roster t) t.posts) _ a read.2 in
     let found = fault_as_ok (λ failed. Form failed) (transcript_read (shape_of_roster roster) bytes) t read.1 in
-    let passed = not-false (is_decided head.0) (guard_ok (not (is_decided head.0)) undecided head.0 test.0 test.1).0 in
-    let decided = decided_claim (shape_of_roster roster) bytes t head.0 (fault_as_ok (λ failed. Form failed) (claim_read bytes) head.0 head.1) found passed in
     let spelled = transcript_read-found (shape_of_roster roster) bytes t fits found in
     let posts = transcript-bytes t (subst (λ (x : List ℕ). IsBytes x) spelled.1 fits) in
-    let convicts = convicts-found roster t t.claim refl decided spelled.0.count posts convicted.1 in
+    let convicts = convicts-found roster t t.claim spelled.0 refl spelled.0.count posts convicted.1 in
     let made : Accepted = record { accused = t.accused; claim = t.claim } in
     let same : made ≡ a = (let e : accepted_ok made ≡ accepted_ok a = convicted.2 in cc) in
     subst (λ (a : Accepted). Accepts roster bytes a.accused a.claim) same
     (record { transcript = t; form = spelled.0; spelled = spelled.1; accused_is = refl; claim_is = refl; convicts = convicts })
 
-judges : (roster : Roster) (bytes : List ℕ) (t : Transcript) → claim_read bytes ≡ Ok t.claim → is_decided t.claim ≡ true → transcript_read (shape_of_roster roster) bytes ≡ Ok t → conviction_of (case_of_transcript roster t) t.posts ≡ Ok tt
+judges : (roster : Roster) (bytes : List ℕ) (t : Transcript) → transcript_read (shape_of_roster roster) bytes ≡ Ok t → conviction_of (case_of_transcript roster t) t.posts ≡ Ok tt
     → judgement_of roster bytes ≡ Ok (record { accused = t.accused; claim = t.claim })
 unfolding judgement_of
-judges roster bytes t e1 e2 e3 e4 = rw (e1, e2, e3, e4) refl
+judges roster bytes t e1 e2 = rw (e1, e2) refl
 
 pub judgement-again : (roster : Roster) (bytes : List ℕ) (accused : ℕ) (claim : Claim) → IsRosterForm roster → IsBytes bytes → Accepts roster bytes accused claim → judgement_of roster bytes ≡ Ok (record { accused = accused; claim = claim })
 judgement-again roster bytes accused claim form fits accepts =
@@ -537,9 +351,8 @@ judgement-again roster bytes accused claim form fits accepts =
     let shape = shape_of_roster roster in
     let is_shape : IsShape shape.version shape.members = record { first = form.version; least = form.least; most = form.most } in
     let read : transcript_read shape bytes ≡ Ok t = ap (transcript_read shape) accepts.spelled ∙ transcript_read-again shape t is_shape accepts.form in
-    let convicts = convicts-again roster t claim accepts.claim_is (transcript-bytes t (subst (λ (x : List ℕ). IsBytes x) accepts.spelled fits)) accepts.convicts in
-    let decided : is_decided t.claim ≡ true = ap is_decided accepts.claim_is ∙ convicts.0 in
-    judges roster bytes t (claim_read-transcript shape bytes t read) decided read convicts.1
+    let convicts = convicts-again roster t claim accepts.form accepts.claim_is (transcript-bytes t (subst (λ (x : List ℕ). IsBytes x) accepts.spelled fits)) accepts.convicts in
+    judges roster bytes t read convicts
     ∙ ap (λ (m : ℕ). ok m t.claim) accepts.accused_is
     ∙ ap (λ (c : Claim). ok accused c) accepts.claim_is
   where
@@ -555,36 +368,3 @@ pub answered-only : (roster : Roster) (bytes : List ℕ) (result : Result Accept
     → Gives failure_of_refusal (λ a. a) result (printed_judgement_of roster bytes) → Accepts roster bytes accused claim → Gives failure_of_refusal (λ a. a) result (Ok (record { accused = accused; claim = claim }))
 answered-only roster bytes result accused claim form fits gives accepts =
     subst (λ (r : Result Accepted FailedCheck). Gives failure_of_refusal (λ a. a) result (fault_as failure_of_check r)) (judgement-again roster bytes accused claim form fits accepts) gives
-
--- ---- no framing
-
-nobody_equivocates : (roster : Roster) (t : Transcript) (sent : List (List ℕ)) → OnePerSlot sent → SaidBy roster t.round t.accused t.posts sent → Equivocates roster t → ⊥
-nobody_equivocates roster t sent one said e =
-    let first_listed : Contains t.posts e.first = subst (λ (p : List (List ℕ)). Contains p e.first) (sym e.listed) (0, omega arith, refl) in
-    let second_listed : Contains t.posts e.second = subst (λ (p : List (List ℕ)). Contains p e.second) (sym e.listed) (1, omega arith, refl) in
-    let first_sent = said e.first e.first_content e.first_header first_listed e.first_says e.first_sender in
-    let second_sent = said e.second e.second_content e.second_header second_listed e.second_says e.second_sender in
-    e.differ (one e.first_content e.second_content e.first_header e.second_header first_sent second_sent
-    e.first_says.admitted.reads e.second_says.admitted.reads
-    (e.first_says.admitted.this_round ∙ sym e.second_says.admitted.this_round) (sym e.one_stage)
-    (e.first_sender ∙ sym e.second_sender))
-
-nobody_malforms : (roster : Roster) (t : Transcript) (sent : List (List ℕ)) → EachOfGrammar (shape_of_roster roster) sent → SaidBy roster t.round t.accused t.posts sent → SaysMalformed roster t → ⊥
-nobody_malforms roster t sent each said m =
-    let listed : Contains t.posts m.post = subst (λ (p : List (List ℕ)). Contains p m.post) (sym m.listed) (0, omega arith, refl) in
-    let content = each m.content (said m.post m.content m.header listed m.says m.sender) in
-    m.outside content.0 content.1 content.2
-
-framed_by : (roster : Roster) (t : Transcript) (claim : Claim) (sent : List (List ℕ)) → GivesNoGround (shape_of_roster roster) claim sent → SaidBy roster t.round t.accused t.posts sent → Convicts roster t claim → ⊥
-framed_by roster t Equivocation sent ground said convicts = nobody_equivocates roster t sent ground said convicts
-framed_by roster t Malformed sent ground said convicts = nobody_malforms roster t sent ground said convicts
-framed_by roster t WrongSeed sent ground said convicts = ground
-framed_by roster t BadLog sent ground said convicts = ground
-framed_by roster t Replay sent ground said convicts = ground
-framed_by roster t Pad sent ground said convicts = ground
-
-pub nobody_is_framed : NobodyIsFramed
-nobody_is_framed roster bytes accused claim sent ground lists accepts =
-    let t = accepts.transcript in
-    let said : SaidBy roster t.round t.accused t.posts sent = subst (λ (n : ℕ). SaidBy roster t.round n t.posts sent) (sym accepts.accused_is) (lists t accepts.form accepts.spelled) in
-    framed_by roster t claim sent ground said accepts.convicts

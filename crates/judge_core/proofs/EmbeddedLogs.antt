@@ -1,17 +1,15 @@
 -- The log of the posts that a closing content embeds: its places, and what is embedded so far.
-use Rattle.std.proofs.Common.{◌≡◌, ℕ, zero, suc, ◌+◌, ◌-◌, ◌*◌, ◌<◌, ◌≤◌, Bool, true, false, not, List, [], ◌∷◌, ◌++◌, length, get_or, map, take, drop, replicate, Option, Some, None, Result, Ok, Err, refl, sym, ap, subst, ◌∙◌, arith, append_assoc, append-nil, length-append, inl, inr}
-use Rattle.std.specs.Prelude.{◌⊎◌, ◌&&◌, ◌==◌, IsErr, IsOk, IsSome, IsTrue, fold, zip, option_and_then, is_some, if◌then◌else◌}
-use Rattle.std.specs.List.{slice_get, slice_range, slice_set, list_all}
+use Rattle.std.proofs.Common.{◌≡◌, ℕ, zero, suc, ◌+◌, ◌-◌, ◌<◌, ◌≤◌, true, false, List, [], ◌∷◌, ◌++◌, length, get_or, map, take, drop, replicate, Option, Some, None, Result, Ok, Err, refl, sym, ap, subst, ◌∙◌, arith, append_assoc, append-nil, length-append, inl, inr}
+use Rattle.std.specs.Prelude.{◌⊎◌, IsErr, IsSome, fold, zip, option_and_then}
+use Rattle.std.specs.List.{slice_get, slice_set}
 use Rattle.std.proofs.Math.Seq.{drop-cons, get_or-append_seam, set-append_seam}
-use Rattle.std.proofs.lemmas.Bool.{cases_Bool, cond-true, cond-false, eqb-true, eq-eqb, false_from_ne_true, and_parts}
+use Rattle.std.proofs.lemmas.Bool.{cond-true, cond-false}
 use Rattle.std.proofs.lemmas.List.{map-append, length-map, length-take-le, length-drop, replicate-append-replicate}
-use Rattle.std.proofs.lemmas.Slice.Zip.{firsts-zip, length-zip}
-use Rattle.wire_core.specs.Answers.{◌>>=◌, fault_as, unless}
-use Rattle.wire_core.proofs.Readings.{bind_ok}
+use Rattle.std.proofs.lemmas.Slice.Zip.{firsts-zip}
+use Rattle.wire_core.specs.Answers.{◌>>=◌, fault_as}
 use Rattle.phase_message.specs.declared.content.Body.{Body}
 use Rattle.phase_message.specs.declared.content.Body.TheVariants.{Keys, Submit, Shuffled, Abort, Go, Reveal, Dispute, Pads, Check, Confirm, Differ}
 use Rattle.phase_message.specs.declared.content.Content.{Content}
-use Rattle.phase_message.specs.declared.header.Header.{Header}
 use Rattle.phase_message.specs.declared.post.Post.{Post}
 use Rattle.phase_message.specs.declared.stage.Slot.{Slot}
 use Rattle.phase_message.specs.declared.stage.StageKind.{StageKind}
@@ -24,7 +22,7 @@ use Rattle.phase_message.specs.Stages.{is_slot, kind_of_stage, vote_of}
 use Rattle.phase_message.proofs.Closings.{closing-follows}
 use Rattle.phase_message.proofs.Counts.{slots_next}
 use Rattle.phase_message.proofs.Read.{closings_are_read}
-use Rattle.phase_message.proofs.SlotLists.{length-slots_of, slot_at-is, slot_at-number, slots_before-most, slots_before-rises}
+use Rattle.phase_message.proofs.SlotLists.{length-slots_of, slot_at-is, slots_before-most}
 use Rattle.phase_message.proofs.Whole.{content-is_read}
 use Rattle.group_roster.specs.Roster.{Roster, shape_of_roster}
 use Rattle.stage_log.specs.Put.{put_log}
@@ -36,8 +34,7 @@ use Rattle.std.specs.Option.{option_flatten}
 use Rattle.std.proofs.lemmas.Option.{slice_get_read}
 use Rattle.std.proofs.Math.ListN.{drop_of_length-le}
 use Rattle.go_nogo.specs.Closing.{IsClosing, embedded_of, is_assent, posts_embedded, slots_embedded}
-use Rattle.go_nogo.proofs.Justification.{votes-before}
-use Rattle.round_spec.specs.Embedded.{BadPost, WhyNot, checked_post, embedded_log, embedded_pairs, log_of, names_slot, post_for_slot, posts_for, posts_in_content}
+use Rattle.round_spec.specs.Embedded.{BadPost, WhyNot, embedded_log, embedded_pairs, log_of, post_for_slot, posts_for}
 use Rattle.judge_core.specs.Embedding.{KeepsEmbedded, StandsThere, first_embedded, places_of}
 
 -- ---- the places of a log
@@ -148,6 +145,7 @@ pub record Spans (shape : Shape) (content : Content) : Type 0 where
   pub slots_long : length (slots_embedded shape content) ≡ count
   pub posts_long : length (posts_embedded content.body) ≡ count
   pub within : first_embedded shape content + count ≤ slot_count shape
+  pub objects : is_assent content.body ≡ false → (count ≡ slots_before shape content.header.stage) × (first_embedded shape content ≡ 0)
 
 -- how many posts a closing body embeds, by whether it assents
 counts : (shape : Shape) (stage : ℕ) (kind : StageKind) (body : Body) → IsClosingBody shape stage kind body
@@ -198,7 +196,7 @@ votes_long shape stage kind vote e closes =
     all_vote AtCheck vote e = absurd cc
 
 -- the two kinds of a closing stage
-closing_kind : (o : Option StageKind) → IsSome (option_and_then vote_of o) → (kind : StageKind) × (vote : StageKind) × (o ≡ Some kind) × (vote_of kind ≡ Some vote)
+pub closing_kind : (o : Option StageKind) → IsSome (option_and_then vote_of o) → (kind : StageKind) × (vote : StageKind) × (o ≡ Some kind) × (vote_of kind ≡ Some vote)
 closing_kind None is = absurd cc
 closing_kind (Some (AtFinal shuffle)) is = (AtFinal shuffle, AtGo shuffle, refl, refl)
 closing_kind (Some AtConfirm) is = (AtConfirm, AtCheck, refl, refl)
@@ -232,6 +230,7 @@ spans shape content grammar closing =
             slots_long = ap (λ (s : List Slot). length s) is ∙ length-take-le shape.members (drop (first_embedded shape content) all) (omega (arith, length-drop (first_embedded shape content) all, length-slots_of shape, most, votes, first));
             posts_long = assents.1;
             within = omega (arith, most, votes, first);
+            objects = λ e. absurd (let both = sym assents.0 ∙ e in cc);
           }
       | inr objects ↦
           let n : ℕ = slots_before shape stage in
@@ -245,6 +244,7 @@ spans shape content grammar closing =
             slots_long = ap (λ (s : List Slot). length s) own ∙ length-take-le n all (omega (arith, length-slots_of shape, most));
             posts_long = objects.1;
             within = omega (arith, most, first);
+            objects = λ e. (refl, first);
           }
     ]
 

@@ -1,10 +1,10 @@
-pub mod Accepts
 pub mod Case
 pub mod Checks
 pub mod Closing
 pub mod Embedding
 pub mod Failures
-pub mod Framing
 pub mod Pad
+pub mod PadLog
 pub mod Replay
+pub mod Showing
 pub mod WrongSeed

@@ -9,7 +9,14 @@ mod failed_check;
 mod hearing;
 mod judging;
 mod laws;
+mod listed_log;
+#[cfg(test)]
+mod made_evidence;
+mod pad;
+#[cfg(test)]
+mod pad_evidence;
 mod reading;
+mod replaying;
 #[cfg(test)]
 mod stored_evidence;
 mod wrong_seed;
@@ -17,4 +24,4 @@ mod wrong_seed;
 pub use embedding::{EmbeddedRefusal, embedded};
 pub use failed_check::FailedCheck;
 pub use judging::{Accepted, judge};
-pub use laws::{checks_are_exact, nobody_is_framed};
+pub use laws::checks_are_exact;
