@@ -1,2 +1,4 @@
 pub mod Endings
 pub mod Naming
+pub mod Kept
+pub mod OnePost

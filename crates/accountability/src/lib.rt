@@ -1,6 +1,6 @@
-//! The first half of the headline: how an honest member's round ends.
+//! How an honest member's round ends: with evidence that is accepted, or with the names of the missing.
 #![tactic(auto)]
 
 mod laws;
 
-pub use laws::open_names;
+pub use laws::{bad_log_accepted, open_names};
