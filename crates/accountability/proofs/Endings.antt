@@ -117,6 +117,7 @@ fault-cases c firsts bytes verdict e =
 pub record EndsByLast (c : Configuration) (delivered : List (List ℕ)) (verdict : Verdict) : Type 0 where
   pub bytes : List ℕ
   pub listed : Contains delivered bytes
+  pub shows_it : fault_shown c (first_posts c delivered) bytes ≡ Some verdict
   pub shows : IsMalformed c bytes verdict ⊎ IsContradiction c (first_posts c delivered) bytes verdict
 
 last-listed : (delivered : List (List ℕ)) (bytes : List ℕ) → last_of delivered ≡ Some bytes → Contains delivered bytes
@@ -130,7 +131,7 @@ ending-cases c delivered verdict e =
     elim (first_some-some_parts (option_and_then (fault_shown c (first_posts c delivered)) (last_of delivered)) (ending_verdict (stand_after c delivered).verdict ∷ []) verdict e) [
       | inl here ↦
           let last = and-then-parts (fault_shown c (first_posts c delivered)) (last_of delivered) verdict here in
-          inl (record { bytes = last.0; listed = last-listed delivered last.0 last.1; shows = fault-cases c (first_posts c delivered) last.0 verdict last.2 })
+          inl (record { bytes = last.0; listed = last-listed delivered last.0 last.1; shows_it = last.2; shows = fault-cases c (first_posts c delivered) last.0 verdict last.2 })
       | inr later ↦ elim (first_some-some_parts (ending_verdict (stand_after c delivered).verdict) [] verdict later.1) [
         | inl here ↦ inr (ending-closed (stand_after c delivered).verdict verdict here)
         | inr nothing ↦ absurd (none-some verdict nothing.1)

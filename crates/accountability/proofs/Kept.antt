@@ -3,7 +3,7 @@ use Rattle.std.proofs.Common.{arith, refl, ap, sym, rules, List, None, Ok, Optio
 use Rattle.phase_message.specs.declared.stage.StageKind.TheVariants.{Keys as AtKeys, Submit as AtSubmit, Shuffle as AtShuffle, Go as AtGo, Final as AtFinal, Pad as AtPad, Check as AtCheck, Confirm as AtConfirm}
 use Rattle.round_spec.specs.Verdict.{Convicts, closing_content, is_closing, no_post, post_in, sent_in}
 use Rattle.conviction.proofs.Closings.{IsPast, is-past}
-use Rattle.signed_post.specs.Admission.{Admitted, IsPostFile}
+use Rattle.signed_post.specs.Admission.{Admitted, IsPostFile, Says}
 use Rattle.round_spec.specs.Runs.{ChecksIn, Run}
 use Rattle.round_spec.proofs.AgreedClosings.{ClosingKind, confirm-closes, final-closes}
 use Rattle.round_spec.specs.Say.{Configuration, shape_in}
@@ -34,26 +34,35 @@ use Rattle.std.specs.Prelude.{is_some, option_and_then, option_map}
 use Rattle.phase_message.specs.Post.{post_spelling}
 use Rattle.round_spec.specs.Slots.{said_in}
 use Rattle.phase_message.proofs.SlotLists.{slot_at-number, slot_number-within, slots_before-rises}
-use Rattle.phase_message.specs.Slots.{slot_number}
-use Rattle.round_spec.proofs.PastForms.{spelled-short}
+use Rattle.phase_message.specs.Slots.{slot_number, slots_before}
+use Rattle.round_spec.proofs.PastForms.{spelled-short, said-there}
 use Rattle.conviction.specs.Accepts.{Convicts as Shows}
+use Rattle.phase_message.specs.Grammar.{IsBody, OfGrammar, body_text}
+use Rattle.phase_message.specs.Kinds.{IsBodyAt}
+use Rattle.wire_core.specs.Bytes.{IsBytes}
+use Rattle.phase_message.proofs.BodyKinds.{bodies_are_of_kinds}
 
 header-same : (a b : Header) (r : Result Header Short) → r ≡ Ok a → r ≡ Ok b → a ≡ b
 header-same a b r e e' = let both = sym e ∙ e' in cc
 
 -- ---- post files
 
--- what checks is a post file
-pub file-of : (c : Configuration) (slot : Slot) (post : Post) (is : ChecksIn c slot post) → IsPostFile c.roster c.round (post_spelling post) is.content
-file-of c slot post is =
+-- what checks says its content
+pub file-says : (c : Configuration) (slot : Slot) (post : Post) (is : ChecksIn c slot post)
+    → Says c.roster c.round (post_spelling post) post.content is.content.header
+file-says c slot post is =
     let admitted = checks-admitted c slot post is in
     let parts = checks-parts c.roster c.round post is.content is.checks in
     let same = header-same admitted.0 is.content.header (header_of post.content) admitted.1.reads (content-header (shape_of_roster c.roster) post.content is.content parts.2) in
-    record {
-      text = post.content;
-      says = record { signature = post.signature; spelled = refl; admitted = subst (Admitted c.roster c.round post) same admitted.1 };
-      reads = parts.2;
-    }
+    record { signature = post.signature; spelled = refl; admitted = subst (Admitted c.roster c.round post) same admitted.1 }
+
+-- and is a post file
+pub file-of : (c : Configuration) (slot : Slot) (post : Post) (is : ChecksIn c slot post) → IsPostFile c.roster c.round (post_spelling post) is.content
+file-of c slot post is = record {
+  text = post.content;
+  says = file-says c slot post is;
+  reads = (checks-parts c.roster c.round post is.content is.checks).2;
+}
 
 -- ---- slots of the past
 
@@ -154,7 +163,7 @@ pub member-is : (run : Run) (stage member : ℕ) (posts : List Post) → IsMembe
     → is_member (shape_in run.config).members member ≡ true
 member-is run stage member posts is = member-there (shape_in run.config).members member is.least is.most
 
-contents-same : (a b : Content) (r : Result Content Offence) → r ≡ Ok a → r ≡ Ok b → a ≡ b
+pub contents-same : (a b : Content) (r : Result Content Offence) → r ≡ Ok a → r ≡ Ok b → a ≡ b
 contents-same a b r e e' = let both = sym e ∙ e' in cc
 
 pub whole-end : (run : Run) (stage : ℕ) (posts : List Post) → IsKeptEnd run stage posts → IsWhole (closing_of run.config posts stage)
@@ -179,3 +188,37 @@ transcript-same x y e = cc
 -- a transcript with its own claim is accepted where it is what the claim asks
 pub accept : (roster : Roster) (t : Transcript) → IsTranscript (shape_of_roster roster) t → Shows roster t t.claim → IsAccepted roster t
 accept roster t form shows = record { transcript = t; form = form; spelled = refl; accused_is = refl; claim_is = refl; convicts = shows }
+
+-- ---- what a kept content is
+
+-- it is of the grammar
+pub content-grammar : (run : Run) (posts : List Post) (stage member : ℕ) (k : KeptIn run posts stage member)
+    → OfGrammar (shape_in run.config) k.checks.content
+content-grammar run posts stage member k =
+    let said = said-there run.config (record { stage = stage; sender = member }) k.post k.checks in
+    subst (OfGrammar (shape_in run.config))
+    (contents-same said.content k.checks.content (content_read (shape_in run.config) k.post.content) said.reads (content-reads run posts stage member k)) said.grammar
+
+pub body-at : (run : Run) (posts : List Post) (stage member : ℕ) (k : KeptIn run posts stage member) → IsBody (shape_in run.config) stage k.checks.content.body
+body-at run posts stage member k =
+    subst (λ (s : ℕ). IsBody (shape_in run.config) s k.checks.content.body) (content-stage run posts stage member k) (content-grammar run posts stage member k).1
+
+-- by the kind of its stage
+pub body-of_kind : (run : Run) (posts : List Post) (stage member : ℕ) (kind : StageKind) (k : KeptIn run posts stage member)
+    → kind_of_stage (shape_in run.config) stage ≡ Some kind
+    → IsBodyAt (shape_in run.config) (slots_before (shape_in run.config) stage) kind k.checks.content.body
+body-of_kind run posts stage member kind k at =
+    (bodies_are_of_kinds (shape_in run.config) stage kind k.checks.content.body at).0 (body-at run posts stage member k)
+
+-- and its body is bytes
+pub body-bytes : (run : Run) (posts : List Post) (stage member : ℕ) (k : KeptIn run posts stage member) → IsBytes (body_text k.checks.content.body)
+body-bytes run posts stage member k =
+    let said = said-there run.config (record { stage = stage; sender = member }) k.post k.checks in
+    subst (λ (c : Content). IsBytes (body_text c.body))
+    (contents-same said.content k.checks.content (content_read (shape_in run.config) k.post.content) said.reads (content-reads run posts stage member k)) said.body_bytes
+
+-- what was read at the closing stage is the content that is kept there
+pub content-is : (run : Run) (stage member : ℕ) (posts : List Post) (content : Content) (k : KeptIn run posts stage member)
+    → closing_content (closing_of run.config posts stage) member ≡ Ok content → k.checks.content ≡ content
+content-is run stage member posts content k reads =
+    contents-same k.checks.content content (closing_content (closing_of run.config posts stage) member) (closing-reads run posts stage member k) reads

@@ -12,7 +12,7 @@ use Rattle.round_spec.specs.Honesty.{OthersCheck}
 use Rattle.round_spec.specs.Result.{Blamed, fault_shown, result_of}
 use Rattle.round_spec.specs.Runs.{HonestRun, IsConfiguration, Run}
 use Rattle.round_spec.specs.Say.{Configuration, shape_in}
-use Rattle.round_spec.specs.Verdict.{ClosedStage, Convicts, Verdict, is_closing}
+use Rattle.round_spec.specs.Verdict.{ClosedStage, Convicts, Verdict, is_closing, verdict_of}
 use Rattle.conviction.specs.Accepts.{Accepts}
 
 -- the bytes of a transcript convict the member that it accuses, by its claim
@@ -31,6 +31,10 @@ pub record IsKeptEnd (run : Run) (stage : ℕ) (posts : List Post) : Type 0 wher
 abbrev pub AcceptedFor : (ClosedStage → Verdict → Type 0) → Type 0
 AcceptedFor reason = (run : Run) (stage : ℕ) (posts : List Post) (t : Transcript) → IsKeptEnd run stage posts →
     reason (closing_of run.config posts stage) (Convicts t) → IsAccepted run.config.roster t
+
+-- so does every verdict that convicts
+abbrev pub VerdictAccepted : Type 0
+VerdictAccepted = AcceptedFor (λ v verdict. verdict_of v ≡ verdict)
 
 -- ---- by a delivered string
 

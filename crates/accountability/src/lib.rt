@@ -3,4 +3,7 @@
 
 mod laws;
 
-pub use laws::{bad_log_accepted, open_names};
+pub use laws::{
+    bad_log_accepted, bad_pad_accepted, equivocation_accepted, evidence_accepted, fault_accepted, open_names,
+    replay_accepted, wrong_seed_accepted,
+};
