@@ -60,7 +60,7 @@ use Rattle.conviction.proofs.SamePasts.{listed-log, own-pads, same-past}
 
 -- ---- own pads
 
-abbrev row_pads : Configuration → List (List ℕ) → List (List ℕ)
+abbrev pub row_pads : Configuration → List (List ℕ) → List (List ℕ)
 row_pads c past = map (pad_for c (own_descriptor c past)) (items_opened (shape_in c) past 1)
 
 -- a pad by a capsule is as long as the descriptor says
@@ -84,7 +84,7 @@ found-short n member seed entry (Some d) e = by_seed (opened seed (capsule_for d
     by_seed None = omega arith
     by_seed (Some s) = by_hash s (bytes_eq (hash_of_pad (pad_of s d.length)) (pad_hash_for d member))
 
-row-apart : (n : ℕ) (own kept : List ℕ) (member : ℕ) (seed entry : List ℕ) → bytes_eq entry own ≡ false
+pub row-apart : (n : ℕ) (own kept : List ℕ) (member : ℕ) (seed entry : List ℕ) → bytes_eq entry own ≡ false
     → pad_row n own kept member seed entry ≡ unwrap_or (option_and_then (λ d. pad_found d member seed) (descriptor_read n entry)) []
 unfolding pad_row
 row-apart n own kept member seed entry apart =
@@ -117,7 +117,7 @@ unfolding hashed
 texts-same xs ys short short' e = (hashed_determines PadHash PadHash xs ys short short' (ap (λ (text : List ℕ). magic ++ tag_number PadHash ∷ text) e)).1
 
 -- what the own pads post lists is the row
-pads-own : (run : Run) (header : Header) (pads : List (List ℕ)) (own : IsRowOf run (record { header = header; body = Pads pads }))
+pub pads-own : (run : Run) (header : Header) (pads : List (List ℕ)) (own : IsRowOf run (record { header = header; body = Pads pads }))
     → length run.config.message ≤ 65536 → own.row.stage ≡ pad_stage (shape_in run.config)
     → pads ≡ row_pads run.config (contents_of own.row.past)
 unfolding pads_row
@@ -149,27 +149,27 @@ pads-own run header pads own message at =
 -- ---- the slot
 
 -- what opened to the descriptor of a slot
-entry-at : (n : ℕ) (items : List (Option (List ℕ))) (k : ℕ) (d : Description) → slice_index_or (map (option_and_then (descriptor_read n)) items) k None ≡ Some d
+pub entry-at : (n : ℕ) (items : List (Option (List ℕ))) (k : ℕ) (d : Description) → slice_index_or (map (option_and_then (descriptor_read n)) items) k None ≡ Some d
     → (entry : List ℕ) × (slice_get items k ≡ Some (Some entry)) × (descriptor_read n entry ≡ Some d)
 entry-at n [] k d e = absurd cc
 entry-at n (None ∷ items) zero d e = absurd cc
 entry-at n (Some entry ∷ items) zero d e = (entry, refl, e)
 entry-at n (item ∷ items) (suc k) d e = entry-at n items k d e
 
-slot-descriptor : (descriptors : List (Option Description)) (slot : ℕ) (d : Description) → descriptor_at descriptors slot ≡ Some d
+pub slot-descriptor : (descriptors : List (Option Description)) (slot : ℕ) (d : Description) → descriptor_at descriptors slot ≡ Some d
     → slice_index_or descriptors (slot - 1) None ≡ Some d
 slot-descriptor descriptors slot d e = elim (cases_Bool (nat_le 1 slot)) [
   | inl some ↦ sym (cond-true (nat_le 1 slot) (slice_index_or descriptors (slot - 1) None) None some) ∙ e
   | inr none ↦ absurd (let nothing = sym (cond-false (nat_le 1 slot) (slice_index_or descriptors (slot - 1) None) None none) ∙ e in cc)
 ]
 
-opened-at : (shape : Shape) (past : List (List ℕ)) (slot : ℕ) (d : Description) → descriptor_at (descriptors_opened shape past) slot ≡ Some d
+pub opened-at : (shape : Shape) (past : List (List ℕ)) (slot : ℕ) (d : Description) → descriptor_at (descriptors_opened shape past) slot ≡ Some d
     → (entry : List ℕ) × (slice_get (items_opened shape past 1) (slot - 1) ≡ Some (Some entry)) × (descriptor_read shape.members entry ≡ Some d)
 unfolding descriptors_opened
 opened-at shape past slot d e = entry-at shape.members (items_opened shape past 1) (slot - 1) d (slot-descriptor (descriptors_opened shape past) slot d e)
 
 -- the pad of the accused for a slot
-sent-is : (shape : Shape) (accused slot : ℕ) (pads : List (List ℕ)) → 1 ≤ accused → accused ≤ shape.members
+pub sent-is : (shape : Shape) (accused slot : ℕ) (pads : List (List ℕ)) → 1 ≤ accused → accused ≤ shape.members
     → pad_sent (table_of shape accused pads) accused slot ≡ slice_index_or pads (slot - 1) []
 sent-is shape accused slot pads least most =
     ap (λ (row : List (List ℕ)). slice_index_or row (slot - 1) [])
@@ -178,7 +178,7 @@ sent-is shape accused slot pads least most =
 
 -- ---- the own bulk key
 
-bulk-key : (run : Run) (content : Content) (own : IsRowOf run content) → HonestRun run → 1 ≤ own.row.stage
+pub bulk-key : (run : Run) (content : Content) (own : IsRowOf run content) → HonestRun run → 1 ≤ own.row.stage
     → key_for (keys_said (shape_in run.config) (contents_of own.row.past) bulk_place) run.config.number ≡ key_of_seed (own_key_seed run.config bulk_place)
 unfolding said_in
 bulk-key run content own honest least =
@@ -203,7 +203,7 @@ bulk-key run content own honest least =
 -- ---- the two cases
 
 -- the pad of the seed that a capsule opens to
-found-opened : (d : Description) (member : ℕ) (seed s : List ℕ) → opened seed (capsule_for d member) ≡ Some s
+pub found-opened : (d : Description) (member : ℕ) (seed s : List ℕ) → opened seed (capsule_for d member) ≡ Some s
     → hash_of_pad (pad_of s d.length) ≡ pad_hash_for d member → pad_found d member seed ≡ Some (pad_of s d.length)
 unfolding pad_found
 found-opened d member seed s opens hash =
@@ -212,7 +212,7 @@ found-opened d member seed s opens hash =
     ∙ cond-true (bytes_eq (hash_of_pad pad) (pad_hash_for d member)) (Some pad) None ((bytes_eq-Decides (hash_of_pad pad) (pad_hash_for d member)).1 hash)
 
 -- an honest member can make its descriptor
-can-make : (run : Run) (past : List (List ℕ)) → HonestRun run
+pub can-make : (run : Run) (past : List (List ℕ)) → HonestRun run
     → CanMake (shape_in run.config).members (keys_said (shape_in run.config) past bulk_place) (own_pad_seeds run.config) run.config.number run.config.message
 can-make run past honest =
     let c = run.config in
@@ -231,7 +231,7 @@ can-make run past honest =
     }
 
 -- what is read of the own descriptor
-own-read : (run : Run) (past : List (List ℕ)) → HonestRun run
+pub own-read : (run : Run) (past : List (List ℕ)) → HonestRun run
     → descriptor_read (shape_in run.config).members (own_descriptor run.config past) ≡ Some (own_description run.config past)
 unfolding own_descriptor
 own-read run past honest =
@@ -243,7 +243,7 @@ description-same : (a b : Description) → (let told : Description → Option De
 description-same a b e = cc
 
 -- the own pad is among those that the own descriptor asks for
-own-made : (run : Run) → HonestRun run
+pub own-made : (run : Run) → HonestRun run
     → Contains (made_pads (own_pad_seeds run.config) run.config.number run.config.message) (own_pad (own_pad_seeds run.config) run.config.number run.config.message)
 own-made run honest =
     let c = run.config in

@@ -22,10 +22,10 @@ use Rattle.round_spec.specs.Say.{Configuration, own_descriptor, own_item, own_la
 use Rattle.round_spec.specs.Slots.{bulk_place, descriptors_opened, entries_opened, final_stage, inner_place, items_opened, keys_in, keys_said, list_said, pad_stage, pads_in, pads_sent, said_in, seed_in, seeds_revealed, slots_of_past}
 
 -- the front of a past, before a stage
-abbrev front : Shape → List (List ℕ) → ℕ → List (List ℕ)
+abbrev pub front : Shape → List (List ℕ) → ℕ → List (List ℕ)
 front shape past later = take (slots_before shape later) past
 
-said-front : (shape : Shape) (past : List (List ℕ)) (later stage member : ℕ) → is_slot shape stage member ≡ true → stage < later
+pub said-front : (shape : Shape) (past : List (List ℕ)) (later stage member : ℕ) → is_slot shape stage member ≡ true → stage < later
     → said_in shape (front shape past later) stage member ≡ said_in shape past stage member
 unfolding said_in
 said-front shape past later stage member speaks lt =
@@ -34,7 +34,7 @@ said-front shape past later stage member speaks lt =
     ap (λ (bytes : List ℕ). body_of (content_read shape bytes))
     (get_or-take (slots_before shape later) past number [] (omega (arith, within, slots_before-rises shape (stage + 1) later (omega arith))))
 
-map-range : {A : Type 0} (f g : ℕ → A) (a n : ℕ) → ((m : ℕ) → a ≤ m → m < a + n → f m ≡ g m) → map f (range_with_len a n) ≡ map g (range_with_len a n)
+pub map-range : {A : Type 0} (f g : ℕ → A) (a n : ℕ) → ((m : ℕ) → a ≤ m → m < a + n → f m ≡ g m) → map f (range_with_len a n) ≡ map g (range_with_len a n)
 map-range f g a zero each = refl
 map-range f g a (suc n) each = rw (each a (omega arith) (omega arith), map-range f g (a + 1) n (λ m le lt. each m (omega arith) (omega arith))) refl
 
@@ -43,14 +43,14 @@ is-there n member first last = search rules
 
 -- ---- what was said, by member
 
-keys-front : (shape : Shape) (past : List (List ℕ)) (later place : ℕ) → 1 ≤ later → keys_said shape (front shape past later) place ≡ keys_said shape past place
+pub keys-front : (shape : Shape) (past : List (List ℕ)) (later place : ℕ) → 1 ≤ later → keys_said shape (front shape past later) place ≡ keys_said shape past place
 keys-front shape past later place le =
     map-range (λ m. slice_index_or (keys_in (said_in shape (front shape past later) 0 m)) place [])
     (λ m. slice_index_or (keys_in (said_in shape past 0 m)) place []) 1 shape.members
     (λ m least most. ap (λ (b : Body). slice_index_or (keys_in b) place [])
     (said-front shape past later 0 m (ap (λ (o : Option StageKind). speaks shape o m) (keys_is shape 0 refl) ∙ is-there shape.members m least most) (omega arith)))
 
-list-front : (shape : Shape) (past : List (List ℕ)) (later turn : ℕ) → turn + 1 < later → turn ≤ shape.members
+pub list-front : (shape : Shape) (past : List (List ℕ)) (later turn : ℕ) → turn + 1 < later → turn ≤ shape.members
     → list_said shape (front shape past later) 1 turn ≡ list_said shape past 1 turn
 list-front shape past later zero lt few =
     ap (λ (xs : List (List ℕ)). Some xs)
@@ -62,7 +62,7 @@ list-front shape past later (suc turn) lt few =
     ap list_of (said-front shape past later (1 + suc turn) (suc turn)
     (ap (λ (o : Option StageKind). speaks shape o (suc turn)) kind ∙ eq-eqb (suc turn) (suc turn) refl) (omega (arith, lt)))
 
-seeds-front : (shape : Shape) (past : List (List ℕ)) (later : ℕ) → shape.members + 3 < later
+pub seeds-front : (shape : Shape) (past : List (List ℕ)) (later : ℕ) → shape.members + 3 < later
     → seeds_revealed shape (front shape past later) 1 ≡ seeds_revealed shape past 1
 seeds-front shape past later lt =
     let kind = final_a_is shape (final_stage shape 1) (omega arith) in
@@ -70,19 +70,19 @@ seeds-front shape past later lt =
     (λ m least most. ap seed_in
     (said-front shape past later (final_stage shape 1) m (ap (λ (o : Option StageKind). speaks shape o m) kind ∙ is-there shape.members m least most) (omega (arith, lt))))
 
-items-front : (shape : Shape) (past : List (List ℕ)) (later : ℕ) → shape.members + 3 < later
+pub items-front : (shape : Shape) (past : List (List ℕ)) (later : ℕ) → shape.members + 3 < later
     → items_opened shape (front shape past later) 1 ≡ items_opened shape past 1
 unfolding items_opened
 items-front shape past later lt =
     ap (λ (seeds : List (List ℕ)). entries_opened shape seeds (list_said shape (front shape past later) 1 shape.members)) (seeds-front shape past later lt)
     ∙ ap (entries_opened shape (seeds_revealed shape past 1)) (list-front shape past later shape.members (omega (arith, lt)) (omega arith))
 
-descriptors-front : (shape : Shape) (past : List (List ℕ)) (later : ℕ) → shape.members + 3 < later
+pub descriptors-front : (shape : Shape) (past : List (List ℕ)) (later : ℕ) → shape.members + 3 < later
     → descriptors_opened shape (front shape past later) ≡ descriptors_opened shape past
 unfolding descriptors_opened
 descriptors-front shape past later lt = ap (map (option_and_then (descriptor_read shape.members))) (items-front shape past later lt)
 
-pads-front : (shape : Shape) (past : List (List ℕ)) (later : ℕ) → shape.members + 4 < later → pads_sent shape (front shape past later) ≡ pads_sent shape past
+pub pads-front : (shape : Shape) (past : List (List ℕ)) (later : ℕ) → shape.members + 4 < later → pads_sent shape (front shape past later) ≡ pads_sent shape past
 unfolding pads_sent
 pads-front shape past later lt =
     let kind = pad_is shape (pad_stage shape) refl in
@@ -90,7 +90,7 @@ pads-front shape past later lt =
     (λ m least most. ap pads_in
     (said-front shape past later (pad_stage shape) m (ap (λ (o : Option StageKind). speaks shape o m) kind ∙ is-there shape.members m least most) (omega (arith, lt))))
 
-slots-front : (shape : Shape) (past : List (List ℕ)) (later : ℕ) → shape.members + 4 < later
+pub slots-front : (shape : Shape) (past : List (List ℕ)) (later : ℕ) → shape.members + 4 < later
     → slots_of_past shape (front shape past later) ≡ slots_of_past shape past
 unfolding slots_of_past
 slots-front shape past later lt =

@@ -39,12 +39,12 @@ use Rattle.conviction.proofs.Submissions.{own-submitted}
 
 -- ---- rows of votes
 
-go-body : (shape : Shape) (past : List (List ℕ)) (stage shuffle : ℕ) (inner : List ℕ) → kind_of_stage shape stage ≡ Some (Go shuffle)
+pub go-body : (shape : Shape) (past : List (List ℕ)) (stage shuffle : ℕ) (inner : List ℕ) → kind_of_stage shape stage ≡ Some (Go shuffle)
     → IsBody shape stage (go_row shape past stage inner)
 unfolding go_row body_form
 go-body shape past stage shuffle inner kind = (_, ap (λ (o : Option StageKind). form_of shape (slots_before shape stage) o 5) kind, tt)
 
-check-body : (shape : Shape) (past : List (List ℕ)) (stage : ℕ) → kind_of_stage shape stage ≡ Some Check → IsBody shape stage (check_row shape past stage)
+pub check-body : (shape : Shape) (past : List (List ℕ)) (stage : ℕ) → kind_of_stage shape stage ≡ Some Check → IsBody shape stage (check_row shape past stage)
 unfolding check_row body_form
 check-body shape past stage kind = (_, ap (λ (o : Option StageKind). form_of shape (slots_before shape stage) o 9) kind, tt)
 

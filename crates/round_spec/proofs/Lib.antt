@@ -26,3 +26,4 @@ pub mod OwnGrammar
 pub mod AgreedClosings
 pub mod OwnLengths
 pub mod OwnChecks
+pub mod Unheard

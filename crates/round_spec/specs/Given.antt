@@ -1,5 +1,5 @@
 -- Where the first posts of slots come from, and where a verdict's lists are those of a replay.
-use Rattle.std.specs.Prelude.{◌≡◌, ◌≢◌, ℕ, ◌+◌, ◌≤◌, List, length, map, All, Contains, Some, Ok}
+use Rattle.std.specs.Prelude.{◌≡◌, ◌≢◌, ◌↔◌, ℕ, ◌+◌, ◌≤◌, List, length, map, All, Contains, Some, None, Ok}
 use Rattle.std.specs.List.{range_with_len}
 use Rattle.wire_core.specs.Bytes.{IsBytes}
 use Rattle.phase_message.specs.declared.header.Header.{Header}
@@ -14,6 +14,7 @@ use Rattle.go_nogo.specs.Rows.{lists_before}
 use Rattle.shuffle_blame.specs.Replay.{Inquiry, list_after}
 use Rattle.round_spec.specs.Slots.{final_stage, list_said}
 use Rattle.round_spec.specs.Say.{Configuration}
+use Rattle.round_spec.specs.Justified.{IsPostOf}
 use Rattle.round_spec.specs.Reached.{NameSlots}
 use Rattle.round_spec.specs.Result.{first_posts}
 use Rattle.round_spec.specs.Runs.{ChecksIn}
@@ -36,6 +37,12 @@ FirstPostsDelivered = (c : Configuration) (delivered : List (List ℕ)) (slot : 
 -- so first posts name their slots
 abbrev pub FirstPostsName : Type 0
 FirstPostsName = (c : Configuration) (delivered : List (List ℕ)) → All IsBytes delivered → NameSlots c (first_posts c delivered)
+
+-- the post of another member is missing exactly where no delivered string is the post file of its slot
+abbrev pub MissingAreUnheard : Type 0
+MissingAreUnheard = (c : Configuration) (delivered : List (List ℕ)) (slot : Slot) → All IsBytes delivered → slot.sender ≢ c.number →
+    (first_posts c delivered slot ≡ None)
+    ↔ ((bytes : List ℕ) (post : Post) → Contains delivered bytes → IsPostOf c.roster c.round slot bytes post → ⊥)
 
 -- the list after a turn is that which a replay at the end of its shuffle looks at
 abbrev pub ListsAgree : Type 0

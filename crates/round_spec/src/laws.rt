@@ -9,7 +9,13 @@ ghost use Rattle.transcript_form.specs.declared.transcript.Transcript.{Transcrip
 ghost use Rattle.round_spec.specs.Runs.{Run};
 ghost use Rattle.round_spec.specs.Strings.{KeptIsRead, RunHasStrings, TranscriptHasStrings};
 ghost use Rattle.round_spec.specs.Honesty.{OwnPostsCheck, RunAfterIsHonest, SettledRunIsHonest, UnforgedIsSaid};
-ghost use Rattle.round_spec.specs.Given.{FirstPostsDelivered, FirstPostsName, ListsAgree, VotesLookAtLists};
+ghost use Rattle.round_spec.specs.Given.{
+  FirstPostsDelivered,
+  FirstPostsName,
+  ListsAgree,
+  MissingAreUnheard,
+  VotesLookAtLists,
+};
 ghost use Rattle.round_spec.specs.Justified.{FirstBadIsTold, JustifiedExactly, PostsAreFound};
 ghost use Rattle.round_spec.specs.Waiting.{InquiryIsOfLog, OpenRoundsWait};
 ghost use Rattle.round_spec.specs.Settled.{OwnPostsSettled};
@@ -124,10 +130,11 @@ pub fn inquiries_are_of_logs()
 {}
 
 /// The first post of a slot was delivered, checks, and stands in the slot of another member; so first posts name their
-/// slots.
+/// slots. It is missing exactly where no delivered string is the post file of the slot.
 pub fn first_posts_are_delivered()
     ensures delivered { FirstPostsDelivered }
     ensures name { FirstPostsName }
+    ensures missing { MissingAreUnheard }
 {}
 
 /// The list after a turn is that which a replay at the end of its shuffle looks at, and a vote on the shuffle looks at

@@ -1,0 +1,11 @@
+pub mod Endings
+pub mod Naming
+pub mod Kept
+pub mod OnePost
+pub mod Culprits
+pub mod Replays
+pub mod Equivocations
+pub mod Votes
+pub mod Pads
+pub mod PadEvidence
+pub mod Evidence

@@ -1,0 +1,51 @@
+//! Laws of how a round ends. Nobody calls these functions: the contract of each states a law.
+
+ghost use Rattle.accountability.specs.Evidence.{AcceptedFor, EvidenceAccepted, FaultAccepted, VerdictAccepted};
+ghost use Rattle.accountability.specs.Naming.{OpenNames};
+ghost use Rattle.round_spec.specs.Cases.{IsBadLog, IsBadPad, IsEquivocation, IsReplay, IsWrongSeed};
+
+/// An open round names exactly the members whose post for its stage was not delivered, and it names somebody.
+pub fn open_names()
+    ensures { OpenNames }
+{}
+
+/// The post of a member whose closing content is not justified convicts it of a bad log.
+pub fn bad_log_accepted()
+    ensures { AcceptedFor IsBadLog }
+{}
+
+/// The keys of a member and what it revealed at the end of a shuffle convict it, where that is not the seed of its inner
+/// key.
+pub fn wrong_seed_accepted()
+    ensures { AcceptedFor IsWrongSeed }
+{}
+
+/// A delivered string convicts its sender where its body is outside the grammar, or, with the first post of its slot,
+/// where that says another content.
+pub fn fault_accepted()
+    ensures { FaultAccepted }
+{}
+
+/// The closing posts of all members convict whom the replay of what they embed blames.
+pub fn replay_accepted()
+    ensures { AcceptedFor IsReplay }
+{}
+
+/// A post that a justified closing content embeds, and the kept post of its slot, convict the sender of the slot, where
+/// they say different contents.
+pub fn equivocation_accepted()
+    ensures { AcceptedFor IsEquivocation }
+{}
+
+/// All posts before the pads, and the pads of a member, convict it where an accusation that names it holds at the end of
+/// shuffle B.
+pub fn bad_pad_accepted()
+    ensures { AcceptedFor IsBadPad }
+{}
+
+/// Whatever was delivered: where the round ends by a conviction, its transcript is accepted against the member that it
+/// accuses. So it is with every verdict on what an honest run kept. Nothing is asked of signatures or hashes.
+pub fn evidence_accepted()
+    ensures verdict { VerdictAccepted }
+    ensures whole { EvidenceAccepted }
+{}
