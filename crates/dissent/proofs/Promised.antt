@@ -30,7 +30,7 @@ use Rattle.group_roster.specs.declared.refusal.RosterRefusal.TheVariants.{Bad, M
 use Rattle.transcript_form.specs.declared.refusal.Refused.{Refused as JudgeRefusal}
 use Rattle.transcript_form.specs.declared.refusal.Refused.TheVariants.{Check, Memory as JudgeMemory}
 use Rattle.dissent.specs.Refusals.{roster_status, judge_status}
-use Rattle.judge_core.specs.Accepts.{Accepts}
+use Rattle.conviction.specs.Accepts.{Accepts}
 use Rattle.judge_core.specs.Framing.{GivesNoGround, ListsSaid}
 
 -- The statuses that a command may be refused with.

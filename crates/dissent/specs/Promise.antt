@@ -11,7 +11,7 @@ use Rattle.dissent.specs.Outcome.{Input, within, inputs_of, roster_outcome, outc
 use Rattle.group_roster.specs.Toml.{toml_read}
 use Rattle.judge_core.specs.declared.judging.Accepted.{Accepted}
 use Rattle.group_roster.specs.Roster.{Roster, IsRosterFile, roster_spelling, shape_of_roster}
-use Rattle.judge_core.specs.Accepts.{Accepts}
+use Rattle.conviction.specs.Accepts.{Accepts}
 use Rattle.judge_core.specs.Framing.{GivesNoGround, ListsSaid}
 use Rattle.phase_message.specs.declared.content.Content.{Content}
 use Rattle.signed_post.specs.Admission.{IsPostFile}

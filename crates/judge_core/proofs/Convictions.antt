@@ -1,9 +1,9 @@
 -- What the judge accepts convicts, what convicts is accepted, and nobody is framed.
-use Rattle.std.proofs.Common.{◌≡◌, ◌≢◌, ℕ, Bool, true, false, not, ◌&&◌, List, [], ◌∷◌, ◌++◌, length, Option, Some, None, Result, Ok, Err, refl, sym, ap, subst, ◌∙◌, arith}
+use Rattle.std.proofs.Common.{◌≡◌, ◌≢◌, ◌<◌, ℕ, Bool, true, false, not, ◌&&◌, List, [], ◌∷◌, ◌++◌, length, Option, Some, None, Result, Ok, Err, refl, sym, ap, subst, ◌∙◌, arith}
 use Rattle.std.specs.Prelude.{◌==◌, bytes_eq, Contains, is_ok}
 use Rattle.std.specs.List.{AllByRecursion}
 use Rattle.std.specs.Int.{w32, to_be_bytes}
-use Rattle.std.proofs.lemmas.Bool.{eqb-true, eq-eqb, and_parts, both_ways, not-true, not-false, false_from_ne_true}
+use Rattle.std.proofs.lemmas.Bool.{eqb-true, leb-true, eq-eqb, and_parts, both_ways, not-true, not-false, false_from_ne_true}
 use Rattle.std.proofs.lemmas.Slice.Eq.{bytes_eq-Decides}
 use Rattle.wire_core.specs.Bytes.{IsBytes}
 use Rattle.wire_core.proofs.ByteLists.{IsBytes-front, IsBytes-back}
@@ -42,20 +42,22 @@ use Rattle.transcript_form.specs.declared.refusal.Refused.{Refused}
 use Rattle.transcript_form.specs.Refusals.{failure_of_refusal}
 use Rattle.transcript_form.specs.declared.transcript.Transcript.{Transcript}
 use Rattle.transcript_form.specs.Claim.{claim_posts}
+use Rattle.transcript_form.specs.Transcript.{IsTranscript}
 use Rattle.transcript_form.specs.Form.{claim_read, transcript_read}
 use Rattle.transcript_form.proofs.Transcripts.{transcript_read-found, transcript_read-again, claim_read-transcript, transcript-bytes}
 use Rattle.judge_core.specs.declared.failed_check.FailedCheck.{FailedCheck}
 use Rattle.judge_core.specs.declared.failed_check.FailedCheck.TheVariants.{Form, Post as RefusedPost, Slot, Body as FailedBody, Kind, Same, WellFormed, SeedFits, Justified}
 use Rattle.judge_core.specs.declared.judging.Accepted.{Accepted}
-use Rattle.judge_core.specs.Accepts.{Equivocates, SaysMalformed, RevealsWrongSeed, ShowsBadLog, Convicts, Accepts}
+use Rattle.conviction.specs.Accepts.{Equivocates, SaysMalformed, RevealsWrongSeed, ShowsBadLog, Convicts, Accepts, inner_key}
 use Rattle.judge_core.specs.Checks.{content_of, is_decided, undecided, is_asked, is_closing_stage, is_final_stage, is_keys_stage, is_kind_asked, is_of_bodies, is_seed_right, is_slot_asked, heard_of, taken_of, own_failure, conviction_of, judgement_of, printed_judgement_of, AcceptsExactly}
 use Rattle.judge_core.specs.Case.{Case, Said, case_of_transcript}
 use Rattle.judge_core.specs.Pad.{is_reveal}
 use Rattle.std.specs.Prelude.{IsSome, is_some, option_and_then}
 use Rattle.judge_core.specs.Closing.{is_justified_in, is_read_justified}
-use Rattle.judge_core.specs.WrongSeed.{inner_key, is_seed_in, is_seed_of_key}
+use Rattle.judge_core.specs.WrongSeed.{is_seed_in, is_seed_of_key}
 use Rattle.judge_core.specs.Failures.{failure_of_check}
 use Rattle.judge_core.specs.Framing.{EachOfGrammar, GivesNoGround, OnePerSlot, SaidBy, NobodyIsFramed}
+use Rattle.judge_core.proofs.Replays.{replay-again, replay-found}
 use Rattle.judge_core.proofs.Listed.{TakenPost, asked-again, asked-found, both-true, closing-is, file-taken, heard-again, heard-found, plain-claim, says-bytes, taken-found}
 use Rattle.judge_core.proofs.Hearings.{BothHeard, both_heard, two-both, other_contents, other_seed, unborne, is-closing, OneHeard, one_heard, one-heard, unformed, taken-plain, taken-heard, taken-read, taken-again}
 
@@ -335,46 +337,46 @@ log-again roster t is m =
 
 -- ---- by claim
 
-convicts-found : (roster : Roster) (t : Transcript) (claim : Claim) → t.claim ≡ claim → is_decided claim ≡ true → length t.posts ≡ claim_posts (shape_of_roster roster) claim → AllByRecursion IsBytes t.posts
+convicts-found : (roster : Roster) (t : Transcript) (claim : Claim) → 0 < (shape_of_roster roster).members → t.claim ≡ claim → is_decided claim ≡ true → length t.posts ≡ claim_posts (shape_of_roster roster) claim → AllByRecursion IsBytes t.posts
     → conviction_of (case_of_transcript roster t) t.posts ≡ Ok tt → Convicts roster t claim
-convicts-found roster t Equivocation is decided count fits e =
+convicts-found roster t Equivocation some is decided count fits e =
     let two = two_listed t.posts count in
     let bytes : IsBytes two.0 × IsBytes two.1 = two_bytes two.0 two.1 (subst (λ (x : List (List ℕ)). AllByRecursion IsBytes x) two.2 fits) in
     two-found roster t two.0 two.1 is two.2 bytes.0 bytes.1 (both_heard (case_of_transcript roster t) two.0 two.1 (sym (ap (conviction_of (case_of_transcript roster t)) two.2) ∙ e))
   where
     two_bytes : (a b : List ℕ) → AllByRecursion IsBytes (a ∷ b ∷ []) → IsBytes a × IsBytes b
     two_bytes a b fits = (fits.0, fits.1.0)
-convicts-found roster t Malformed is decided count fits e =
+convicts-found roster t Malformed some is decided count fits e =
     let one = one_listed t.posts count in
     let bytes : IsBytes one.0 = only_bytes one.0 (subst (λ (x : List (List ℕ)). AllByRecursion IsBytes x) one.1 fits) in
     one-found roster t one.0 is one.1 bytes (one_heard (case_of_transcript roster t) one.0 (sym (ap (conviction_of (case_of_transcript roster t)) one.1) ∙ e))
   where
     only_bytes : (a : List ℕ) → AllByRecursion IsBytes (a ∷ []) → IsBytes a
     only_bytes a fits = fits.0
-convicts-found roster t WrongSeed is decided count fits e =
+convicts-found roster t WrongSeed some is decided count fits e =
     let two = two_listed t.posts count in
     let bytes : IsBytes two.0 × IsBytes two.1 = two_bytes two.0 two.1 (subst (λ (x : List (List ℕ)). AllByRecursion IsBytes x) two.2 fits) in
     seed-found roster t two.0 two.1 is two.2 bytes.0 bytes.1 (both_heard (case_of_transcript roster t) two.0 two.1 (sym (ap (conviction_of (case_of_transcript roster t)) two.2) ∙ e))
   where
     two_bytes : (a b : List ℕ) → AllByRecursion IsBytes (a ∷ b ∷ []) → IsBytes a × IsBytes b
     two_bytes a b fits = (fits.0, fits.1.0)
-convicts-found roster t BadLog is decided count fits e =
+convicts-found roster t BadLog some is decided count fits e =
     let one = one_listed t.posts count in
     let bytes : IsBytes one.0 = only_bytes one.0 (subst (λ (x : List (List ℕ)). AllByRecursion IsBytes x) one.1 fits) in
     log-found roster t one.0 is one.1 bytes (one_heard (case_of_transcript roster t) one.0 (sym (ap (conviction_of (case_of_transcript roster t)) one.1) ∙ e))
   where
     only_bytes : (a : List ℕ) → AllByRecursion IsBytes (a ∷ []) → IsBytes a
     only_bytes a fits = fits.0
-convicts-found roster t Replay is decided count fits e = absurd cc
-convicts-found roster t Pad is decided count fits e = absurd cc
+convicts-found roster t Replay some is decided count fits e = replay-found roster t is count (omega (arith, some, count)) fits e
+convicts-found roster t Pad some is decided count fits e = absurd cc
 
-convicts-again : (roster : Roster) (t : Transcript) (claim : Claim) → t.claim ≡ claim → AllByRecursion IsBytes t.posts → Convicts roster t claim → (is_decided claim ≡ true) × (conviction_of (case_of_transcript roster t) t.posts ≡ Ok tt)
-convicts-again roster t Equivocation is fits convicts = (refl, two-again roster t is convicts)
-convicts-again roster t Malformed is fits convicts = (refl, one-again roster t is fits convicts)
-convicts-again roster t WrongSeed is fits convicts = (refl, seed-again roster t is convicts)
-convicts-again roster t BadLog is fits convicts = (refl, log-again roster t is convicts)
-convicts-again roster t Replay is fits convicts = absurd convicts
-convicts-again roster t Pad is fits convicts = absurd convicts
+convicts-again : (roster : Roster) (t : Transcript) (claim : Claim) → 0 < (shape_of_roster roster).members → t.claim ≡ claim → AllByRecursion IsBytes t.posts → Convicts roster t claim → (is_decided claim ≡ true) × (conviction_of (case_of_transcript roster t) t.posts ≡ Ok tt)
+convicts-again roster t Equivocation some is fits convicts = (refl, two-again roster t is convicts)
+convicts-again roster t Malformed some is fits convicts = (refl, one-again roster t is fits convicts)
+convicts-again roster t WrongSeed some is fits convicts = (refl, seed-again roster t is convicts)
+convicts-again roster t BadLog some is fits convicts = (refl, log-again roster t is convicts)
+convicts-again roster t Replay some is fits convicts = (refl, replay-again roster t some is convicts)
+convicts-again roster t Pad some is fits convicts = ?
 
 -- ---- the whole
 
@@ -392,6 +394,12 @@ pub decided_claim : (shape : Shape) (bytes : List ℕ) (t : Transcript) (claim :
 decided_claim shape bytes t claim head read decided =
     subst (λ (c : Claim). is_decided c ≡ true) (one_claim claim t.claim (sym head ∙ claim_read-transcript shape bytes t read)) decided
 
+-- a transcript accuses a member, so that there is one
+members-some : (roster : Roster) (t : Transcript) → IsTranscript (shape_of_roster roster) t → 0 < (shape_of_roster roster).members
+members-some roster t form =
+    let parts = and_parts _ _ form.accused in
+    omega (arith, leb-true _ _ parts.0, leb-true _ _ parts.1)
+
 pub judgement-found : (roster : Roster) (bytes : List ℕ) (a : Accepted) → IsBytes bytes → judgement_of roster bytes ≡ Ok a → Accepts roster bytes a.accused a.claim
 unfolding judgement_of
 judgement-found roster bytes a fits e =
@@ -405,7 +413,7 @@ judgement-found roster bytes a fits e =
     let decided = decided_claim (shape_of_roster roster) bytes t head.0 (fault_as_ok (λ failed. Form failed) (claim_read bytes) head.0 head.1) found passed in
     let spelled = transcript_read-found (shape_of_roster roster) bytes t fits found in
     let posts = transcript-bytes t (subst (λ (x : List ℕ). IsBytes x) spelled.1 fits) in
-    let convicts = convicts-found roster t t.claim refl decided spelled.0.count posts convicted.1 in
+    let convicts = convicts-found roster t t.claim (members-some roster t spelled.0) refl decided spelled.0.count posts convicted.1 in
     let made : Accepted = record { accused = t.accused; claim = t.claim } in
     let same : made ≡ a = (let e : accepted_ok made ≡ accepted_ok a = convicted.2 in cc) in
     subst (λ (a : Accepted). Accepts roster bytes a.accused a.claim) same
@@ -422,7 +430,7 @@ judgement-again roster bytes accused claim form fits accepts =
     let shape = shape_of_roster roster in
     let is_shape : IsShape shape.version shape.members = record { first = form.version; least = form.least; most = form.most } in
     let read : transcript_read shape bytes ≡ Ok t = ap (transcript_read shape) accepts.spelled ∙ transcript_read-again shape t is_shape accepts.form in
-    let convicts = convicts-again roster t claim accepts.claim_is (transcript-bytes t (subst (λ (x : List ℕ). IsBytes x) accepts.spelled fits)) accepts.convicts in
+    let convicts = convicts-again roster t claim (omega (arith, form.least)) accepts.claim_is (transcript-bytes t (subst (λ (x : List ℕ). IsBytes x) accepts.spelled fits)) accepts.convicts in
     let decided : is_decided t.claim ≡ true = ap is_decided accepts.claim_is ∙ convicts.0 in
     judges roster bytes t (claim_read-transcript shape bytes t read) decided read convicts.1
     ∙ ap (λ (m : ℕ). ok m t.claim) accepts.accused_is

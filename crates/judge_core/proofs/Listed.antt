@@ -52,7 +52,6 @@ use Rattle.judge_core.specs.Case.{Case, Said, case_of_transcript}
 use Rattle.judge_core.specs.Pad.{is_reveal}
 use Rattle.std.specs.Prelude.{IsSome, is_some, option_and_then}
 use Rattle.judge_core.specs.Closing.{is_justified_in, is_read_justified}
-use Rattle.judge_core.specs.WrongSeed.{inner_key, is_seed_in, is_seed_of_key}
 use Rattle.judge_core.specs.Failures.{failure_of_check}
 use Rattle.judge_core.proofs.Hearings.{taken-heard, taken-read, taken-again}
 

@@ -28,7 +28,7 @@ use Rattle.judge_core.specs.declared.failed_check.FailedCheck.TheVariants.{Form,
 use Rattle.judge_core.specs.declared.failed_check.Unjudged.{Unjudged}
 use Rattle.judge_core.specs.declared.failed_check.Unjudged.TheVariants.{Failed, Memory}
 use Rattle.judge_core.specs.declared.judging.Accepted.{Accepted}
-use Rattle.judge_core.specs.Accepts.{Accepts}
+use Rattle.conviction.specs.Accepts.{Accepts}
 use Rattle.judge_core.specs.Failures.{failure_of_check}
 use Rattle.judge_core.specs.Case.{Case, Said, case_of_transcript, shape_in}
 use Rattle.judge_core.specs.Closing.{is_justified_in}
@@ -38,12 +38,13 @@ use Rattle.judge_core.specs.WrongSeed.{is_seed_of_key}
 
 -- ---- the claims that are decided
 
--- whether a claim is decided: Replay and Pad are not so far
+-- whether a claim is decided: Pad is not so far
 abbrev pub is_decided : Claim → Bool
 is_decided Equivocation = true
 is_decided Malformed = true
 is_decided WrongSeed = true
 is_decided BadLog = true
+is_decided Replay = true
 is_decided claim = false
 
 -- any other claim fails the form, at its byte

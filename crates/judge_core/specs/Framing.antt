@@ -11,7 +11,7 @@ use Rattle.transcript_form.specs.declared.claim.Claim.{Claim}
 use Rattle.transcript_form.specs.declared.claim.Claim.TheVariants.{Equivocation, Malformed}
 use Rattle.transcript_form.specs.declared.transcript.Transcript.{Transcript}
 use Rattle.transcript_form.specs.Transcript.{IsTranscript, transcript_spelling}
-use Rattle.judge_core.specs.Accepts.{Accepts}
+use Rattle.conviction.specs.Accepts.{Accepts}
 
 -- a member's contents, of which no two stand in one slot of one round
 abbrev pub OnePerSlot : List (List ℕ) → Type 0

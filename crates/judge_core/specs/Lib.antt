@@ -1,4 +1,3 @@
-pub mod Accepts
 pub mod Case
 pub mod Checks
 pub mod Closing

@@ -1,5 +1,5 @@
 -- When a revealed seed is that of the key that its member said.
-use Rattle.std.specs.Prelude.{ℕ, List, [], Bool, true, bytes_eq, Option, Some, Result, Ok, slice_index_or}
+use Rattle.std.specs.Prelude.{Bool, true, bytes_eq, Option, Some, Result, Ok}
 use Rattle.phase_message.specs.declared.content.Body.{Body}
 use Rattle.phase_message.specs.declared.content.Body.TheVariants.{Keys, Reveal}
 use Rattle.phase_message.specs.declared.content.Content.{Content}
@@ -7,11 +7,7 @@ use Rattle.phase_message.specs.declared.stage.StageKind.{StageKind}
 use Rattle.phase_message.specs.declared.stage.StageKind.TheVariants.{Final}
 use Rattle.phase_message.specs.declared.offence.Offence.{Offence}
 use Rattle.ring_encrypt.specs.Capsule.{key_of_seed}
-use Rattle.round_spec.specs.Slots.{inner_place}
-
--- the inner key of a shuffle
-abbrev pub inner_key : ℕ → List (List ℕ) → List ℕ
-inner_key shuffle keys = slice_index_or keys (inner_place shuffle) []
+use Rattle.conviction.specs.Accepts.{inner_key}
 
 -- whether a seed that is revealed at the end of a shuffle is that of the inner key
 abbrev pub is_seed_in : Option StageKind → Body → Body → Bool

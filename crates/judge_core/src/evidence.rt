@@ -318,7 +318,6 @@ fn undecided_claims(rt: &impl Abort, alloc: Global, roster: &Roster) {
         at: 5,
     };
     for bytes in [
-        b"DSTR\x01\x05",
         b"DSTR\x01\x06",
         b"DSTR\x01\x07",
         b"DSTR\x01\0",

@@ -8,7 +8,7 @@ ghost use Rattle.phase_message.specs.Stages.{shape_of};
 ghost use Rattle.group_roster.specs.Roster.{shape_of_roster};
 ghost use Rattle.transcript_form.specs.Claim.{claim_posts};
 ghost use Rattle.transcript_form.specs.Refusals.{failure_of_refusal};
-ghost use Rattle.judge_core.specs.Accepts.{Accepts};
+ghost use Rattle.conviction.specs.Accepts.{Accepts};
 ghost use Rattle.judge_core.specs.Checks.{JudgingWantsMemory, WantsMemory, conviction_of, failed_of, is_decided, judgement_of, printed_judgement_of};
 ghost use Rattle.judge_core.specs.Case.{case_of};
 ghost use Rattle.judge_core.specs.Framing.{GivesNoGround, ListsSaid};
@@ -16,6 +16,7 @@ ghost use Rattle.judge_core.specs.Framing.{GivesNoGround, ListsSaid};
 use crate::bad_log::bad_log;
 use crate::failed_check::{FailedCheck, Unjudged};
 use crate::hearing::{Case, hear};
+use crate::replaying::replaying;
 use crate::wrong_seed::wrong_seed;
 use group_roster::Roster;
 use phase_message::{Shape, first_offence};
@@ -31,13 +32,13 @@ pub struct Accepted {
 }
 
 /// Whom the bytes of a transcript convict under a roster, and of what. `Check` names the first check
-/// that they fail, as `FailedCheck` has them. Replay and Pad are not decided so far: they fail check 2 at 5, before what
+/// that they fail, as `FailedCheck` has them. Pad is not decided so far: it fails check 2 at 5, before what
 /// follows it is looked at. Nothing of the bytes is copied before all listed posts pass the checks 1 to 7, and out of
 /// memory hides none of these.
 ///
 /// It stands on no premise: what convicts is accepted, whoever wrote it down, and nothing else is. A
 /// member whose contents give no ground for a claim is not convicted of it, unless its signature was forged; of
-/// WrongSeed and BadLog that is not promised yet.
+/// WrongSeed, BadLog and Replay that is not promised yet.
 pub fn judge(alloc: Global, roster: &Roster, bytes: &[u8]) -> Result<Accepted, Refused>
     requires few { length bytes.now < 2 ^ 32 }
     ensures exact { Gives failure_of_refusal (λ a. a) result (printed_judgement_of (roster_of roster.now) bytes.now) }
@@ -88,7 +89,11 @@ fn is_decided(claim: Claim) -> bool
 {
     matches!(
         claim,
-        Claim::Equivocation | Claim::Malformed | Claim::WrongSeed | Claim::BadLog
+        Claim::Equivocation
+            | Claim::Malformed
+            | Claim::WrongSeed
+            | Claim::BadLog
+            | Claim::Replay
     )
 }
 
@@ -104,6 +109,7 @@ fn convict(alloc: Global, case: Case<'_>, posts: ListedPosts<'_>) -> Result<(), 
         Claim::Malformed => Ok(malformed(case, posts)?),
         Claim::WrongSeed => wrong_seed(alloc, case, posts),
         Claim::BadLog => bad_log(alloc, case, posts),
+        Claim::Replay => replaying(alloc, case, posts),
         _ => unreachable!(),
     }
 }
