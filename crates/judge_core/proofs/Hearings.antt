@@ -16,7 +16,7 @@ use Rattle.transcript_form.specs.declared.claim.Claim.{Claim}
 use Rattle.transcript_form.specs.declared.claim.Claim.TheVariants.{Equivocation, Malformed, WrongSeed, BadLog}
 use Rattle.judge_core.specs.declared.failed_check.FailedCheck.{FailedCheck}
 use Rattle.judge_core.specs.declared.failed_check.FailedCheck.TheVariants.{Body as FailedBody, Same, WellFormed, SeedFits, Justified, Post as RefusedPost, Slot}
-use Rattle.judge_core.specs.Checks.{WantsMemory, content_of, conviction_of, heard_of, hearing_of, is_asked, is_closing_stage, is_of_bodies, is_seed_right, is_slot_asked, own_failure, taken_of}
+use Rattle.judge_core.specs.Checks.{WantsMemory, content_of, conviction_of, heard_of, hearing_of, is_asked, is_closing_stage, is_of_bodies, is_of_logs, is_seed_right, is_slot_asked, own_failure, taken_of}
 use Rattle.std.proofs.Common.{subst}
 use Rattle.std.specs.Prelude.{IsSome, is_some, option_and_then}
 use Rattle.std.proofs.lemmas.Bool.{not-false}
@@ -219,14 +219,10 @@ taken-grammar case first number bytes said bodies e =
     let read = bind_ok (fault_as (λ offence. FailedBody number offence.at) (content_read (shape_of_roster case.roster) said.content)) _ looked.0 looked.1 in
     ok_is (content_read (shape_of_roster case.roster) said.content) read.0 (fault_as_ok (λ offence. FailedBody number offence.at) (content_read (shape_of_roster case.roster) said.content) read.0 read.1)
 
--- where both posts are taken, all are
-pub two-wants : (case : Case) (first second : List ℕ) (a b : Said) → is_of_bodies case.claim ≡ true → taken_of case None 1 first ≡ Ok a → taken_of case (Some a.header) 2 second ≡ Ok b → WantsMemory case (first ∷ second ∷ [])
+-- where the only post is taken, all are
+pub one-wants : (case : Case) (only : List ℕ) (a : Said) → is_of_logs case.claim ≡ true → taken_of case None 1 only ≡ Ok a → WantsMemory case (only ∷ [])
 unfolding hearing_of
-two-wants case first second a b bodies e1 e2 = (bodies, rw (e1, e2) refl)
-
-pub one-wants : (case : Case) (only : List ℕ) (a : Said) → is_of_bodies case.claim ≡ true → taken_of case None 1 only ≡ Ok a → WantsMemory case (only ∷ [])
-unfolding hearing_of
-one-wants case only a bodies e = (bodies, rw e refl)
+one-wants case only a logs e = (logs, rw e refl)
 
 -- what BadLog asks of what it says
 pub borne_out : (case : Case) (a : Said) → case.claim ≡ BadLog → is_justified_in case a ≡ true → verdict (own_failure case.claim case (a ∷ [])) ≡ Err Justified

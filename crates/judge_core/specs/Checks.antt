@@ -194,9 +194,16 @@ judgement_of roster bytes = do
   convicts ← conviction_of (case_of_transcript roster t) t.posts
   Ok (record { accused = t.accused; claim = t.claim })
 
--- the claim's own checks want memory: the claim looks at bodies, and all posts are taken
+-- whether a claim makes a log of the posts that it lists or that these embed
+abbrev pub is_of_logs : Claim → Bool
+is_of_logs BadLog = true
+is_of_logs Replay = true
+is_of_logs Pad = true
+is_of_logs claim = false
+
+-- the claim's own checks want memory: the claim makes a log, and all posts are taken
 abbrev pub WantsMemory : Case → List (List ℕ) → Type 0
-WantsMemory case posts = IsTrue (is_of_bodies case.claim) × IsOk (hearing_of case None 1 posts)
+WantsMemory case posts = IsTrue (is_of_logs case.claim) × IsOk (hearing_of case None 1 posts)
 
 -- the same of the posts of the transcript that bytes spell
 abbrev pub JudgingWantsMemory : Roster → List ℕ → Type 0

@@ -107,7 +107,7 @@ fn convict(alloc: Global, case: Case<'_>, posts: ListedPosts<'_>) -> Result<(), 
     match case.claim {
         Claim::Equivocation => Ok(equivocation(case, posts)?),
         Claim::Malformed => Ok(malformed(case, posts)?),
-        Claim::WrongSeed => wrong_seed(alloc, case, posts),
+        Claim::WrongSeed => Ok(wrong_seed(case, posts)?),
         Claim::BadLog => bad_log(alloc, case, posts),
         Claim::Replay => replaying(alloc, case, posts),
         _ => unreachable!(),

@@ -7,7 +7,7 @@ use Rattle.transcript_form.specs.Claim.{claim_posts}
 use Rattle.judge_core.specs.declared.failed_check.FailedCheck.{FailedCheck}
 use Rattle.judge_core.specs.declared.hearing.Said.{Said as GivenSaid}
 use Rattle.judge_core.specs.Case.{Said, case_of, said_of}
-use Rattle.judge_core.specs.Checks.{failed_of, is_of_bodies}
+use Rattle.judge_core.specs.Checks.{failed_of, is_of_logs}
 use Rattle.judge_core.specs.Replay.{replay_answer}
 use Rattle.judge_core.specs.Showing.{AreOfOneStage}
 use Rattle.judge_core.proofs.Hearings.{ok_is}
@@ -42,4 +42,4 @@ returns-clause-exact c =
     subst (λ (r : Result (Unit {0}) FailedCheck). Gives failed_of (λ x. x) c.check_all.result r) (same ∙ sym come) c.check_all.ensures
 
 pub returns-clause-memory : goal.returns-clause-memory
-returns-clause-memory c = λ e. (ap is_of_bodies c.requires.claim, ok_is _ _ c.in_ok-said.ensures.exact)
+returns-clause-memory c = λ e. (ap is_of_logs c.requires.claim, ok_is _ _ c.in_ok-said.ensures.exact)
