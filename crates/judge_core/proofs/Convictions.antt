@@ -58,6 +58,7 @@ use Rattle.judge_core.specs.WrongSeed.{is_seed_in, is_seed_of_key}
 use Rattle.judge_core.specs.Failures.{failure_of_check}
 use Rattle.judge_core.specs.Framing.{EachOfGrammar, GivesNoGround, OnePerSlot, SaidBy, NobodyIsFramed}
 use Rattle.judge_core.proofs.Replays.{replay-again, replay-found}
+use Rattle.judge_core.proofs.SeedPlaces.{is-keys, keys_body, reveal_body, seed-right}
 use Rattle.judge_core.proofs.Listed.{TakenPost, asked-again, asked-found, both-true, closing-is, file-taken, heard-again, heard-found, plain-claim, says-bytes, taken-found}
 use Rattle.judge_core.proofs.Hearings.{BothHeard, both_heard, two-both, other_contents, other_seed, unborne, is-closing, OneHeard, one_heard, one-heard, unformed, taken-plain, taken-heard, taken-read, taken-again}
 
@@ -119,17 +120,6 @@ two-again roster t is e =
 
 -- ---- WrongSeed
 
-is-keys : (kind : Option StageKind) → is_keys_stage kind ≡ true → kind ≡ Some AtKeys
-is-keys (Some AtKeys) e = refl
-is-keys None e = absurd cc
-is-keys (Some (AtSubmit shuffle)) e = absurd cc
-is-keys (Some (AtShuffle shuffle k)) e = absurd cc
-is-keys (Some (AtGo shuffle)) e = absurd cc
-is-keys (Some (AtFinal shuffle)) e = absurd cc
-is-keys (Some AtPad) e = absurd cc
-is-keys (Some AtCheck) e = absurd cc
-is-keys (Some AtConfirm) e = absurd cc
-
 is-final : (kind : Option StageKind) → is_final_stage kind ≡ true → (shuffle : ℕ) × (kind ≡ Some (AtFinal shuffle))
 is-final (Some (AtFinal shuffle)) e = (shuffle, refl)
 is-final None e = absurd cc
@@ -140,47 +130,6 @@ is-final (Some (AtGo shuffle)) e = absurd cc
 is-final (Some AtPad) e = absurd cc
 is-final (Some AtCheck) e = absurd cc
 is-final (Some AtConfirm) e = absurd cc
-
--- at the stage of keys a body of the grammar is one of keys
-no_keys : {F : Type 0} (o : Option StageKind) (form : Option StageKind → Option F) (f : F) → o ≡ Some AtKeys → form (Some AtKeys) ≡ None → form o ≡ Some f → ⊥
-no_keys {F} o form f e other is = never (form o) f (ap form e ∙ other) is
-  where
-    never : (o : Option F) (x : F) → o ≡ None → o ≡ Some x → ⊥
-    never None x none some = absurd cc
-    never (Some y) x none some = absurd cc
-
-keys_body : (shape : Shape) (stage : ℕ) (body : Body) → kind_of_stage shape stage ≡ Some AtKeys → IsBody shape stage body → (keys : List (List ℕ)) × (body ≡ Keys keys)
-unfolding body_form
-keys_body shape stage (Keys keys) e is = (keys, refl)
-keys_body shape stage (Submit ciphertext) e is = absurd (no_keys (kind_of_stage shape stage) (λ o. form_of shape (slots_before shape stage) o 2) is.0 e refl is.1)
-keys_body shape stage (Shuffled list) e is = absurd (no_keys (kind_of_stage shape stage) (λ o. form_of shape (slots_before shape stage) o 3) is.0 e refl is.1)
-keys_body shape stage Abort e is = absurd (no_keys (kind_of_stage shape stage) (λ o. form_of shape (slots_before shape stage) o 4) is.0 e refl is.1)
-keys_body shape stage (Go vote) e is = absurd (no_keys (kind_of_stage shape stage) (λ o. form_of shape (slots_before shape stage) o 5) is.0 e refl is.1)
-keys_body shape stage (Reveal votes seed) e is = absurd (no_keys (kind_of_stage shape stage) (λ o. form_of shape (slots_before shape stage) o 6) is.0 e refl is.1)
-keys_body shape stage (Dispute posts seed opening) e is = absurd (no_keys (kind_of_stage shape stage) (λ o. form_of shape (slots_before shape stage) o 7) is.0 e refl is.1)
-keys_body shape stage (Pads pads) e is = absurd (no_keys (kind_of_stage shape stage) (λ o. form_of shape (slots_before shape stage) o 8) is.0 e refl is.1)
-keys_body shape stage (Check vote) e is = absurd (no_keys (kind_of_stage shape stage) (λ o. form_of shape (slots_before shape stage) o 9) is.0 e refl is.1)
-keys_body shape stage (Confirm votes) e is = absurd (no_keys (kind_of_stage shape stage) (λ o. form_of shape (slots_before shape stage) o 10) is.0 e refl is.1)
-keys_body shape stage (Differ posts) e is = absurd (no_keys (kind_of_stage shape stage) (λ o. form_of shape (slots_before shape stage) o 11) is.0 e refl is.1)
-
-reveal_body : (body : Body) → is_reveal body ≡ true → (votes : List (List ℕ)) × (seed : List ℕ) × (body ≡ Reveal votes seed)
-reveal_body (Reveal votes seed) e = (votes, seed, refl)
-reveal_body (Keys keys) e = absurd cc
-reveal_body (Submit ciphertext) e = absurd cc
-reveal_body (Shuffled list) e = absurd cc
-reveal_body Abort e = absurd cc
-reveal_body (Go vote) e = absurd cc
-reveal_body (Dispute posts seed opening) e = absurd cc
-reveal_body (Pads pads) e = absurd cc
-reveal_body (Check vote) e = absurd cc
-reveal_body (Confirm votes) e = absurd cc
-reveal_body (Differ posts) e = absurd cc
-
--- what is right of a seed, of contents that are read
-seed-right : (kind : Option StageKind) (first last : Result Content Offence) (a b : Content) (shuffle : ℕ) (keys votes : List (List ℕ)) (seed : List ℕ)
-    → kind ≡ Some (AtFinal shuffle) → first ≡ Ok a → last ≡ Ok b → a.body ≡ Keys keys → b.body ≡ Reveal votes seed → is_seed_of_key kind first last ≡ bytes_eq (key_of_seed seed) (inner_key shuffle keys)
-seed-right kind first last a b shuffle keys votes seed e1 e2 e3 e4 e5 =
-    rw (e1, e2, e3) (ap (λ (body : Body). is_seed_in (Some (AtFinal shuffle)) body b.body) e4 ∙ ap (λ (body : Body). is_seed_in (Some (AtFinal shuffle)) (Keys keys) body) e5)
 
 -- a content by its header and its body
 same_content : (c : Content) (header : Header) (body : Body) → c.header ≡ header → c.body ≡ body → c ≡ record { header = header; body = body }

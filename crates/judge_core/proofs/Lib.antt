@@ -9,6 +9,7 @@ pub mod Objections
 pub mod Showings
 pub mod Unlike
 pub mod Takings
+pub mod SeedPlaces
 pub mod Listed
 pub mod Replays
 pub mod Convictions

@@ -5,7 +5,7 @@ use Rattle.phase_message.specs.Stages.{kind_of_stage}
 use Rattle.transcript_form.specs.declared.claim.Claim.TheVariants.{BadLog}
 use Rattle.std.proofs.lemmas.Result.{err_from_is_err_and}
 use Rattle.judge_core.specs.Case.{Case, Said, case_of, said_of, shape_in}
-use Rattle.judge_core.specs.Checks.{WantsMemory, conviction_of, is_closing_stage, is_of_bodies}
+use Rattle.judge_core.specs.Checks.{WantsMemory, conviction_of, is_closing_stage, is_of_bodies, is_of_logs}
 use Rattle.judge_core.proofs.Hearings.{borne_out, one_post, one-heard, one-unheard, one-wants, asked-as, closing-post, unborne}
 use Rattle.judge_core.proofs.bad_log.bad_log.Goals as goal
 
@@ -25,7 +25,7 @@ is_justified-requires-clause-closing c =
 pub returns-in_err-is_justified-clause-memory : goal.returns-in_err-is_justified-clause-memory
 returns-in_err-is_justified-clause-memory c = λ e.
     let posts = one_post c.args.posts _ c.in-Some.post.now c.in-Some.ensures.steps c.requires.one in
-    subst (WantsMemory (case_of c.args.case)) (sym posts) (one-wants (case_of c.args.case) _ (said_of c.in_ok-said.said) (ap is_of_bodies c.requires.claim) c.in_ok-said.ensures.exact)
+    subst (WantsMemory (case_of c.args.case)) (sym posts) (one-wants (case_of c.args.case) _ (said_of c.in_ok-said.said) (ap is_of_logs c.requires.claim) c.in_ok-said.ensures.exact)
 
 pub returns-then-branch-clause-exact : goal.returns-then-branch-clause-exact
 returns-then-branch-clause-exact c =
