@@ -148,6 +148,7 @@ pub record Spans (shape : Shape) (content : Content) : Type 0 where
   pub slots_long : length (slots_embedded shape content) ≡ count
   pub posts_long : length (posts_embedded content.body) ≡ count
   pub within : first_embedded shape content + count ≤ slot_count shape
+  pub objects : is_assent content.body ≡ false → (count ≡ slots_before shape content.header.stage) × (first_embedded shape content ≡ 0)
 
 -- how many posts a closing body embeds, by whether it assents
 counts : (shape : Shape) (stage : ℕ) (kind : StageKind) (body : Body) → IsClosingBody shape stage kind body
@@ -198,7 +199,7 @@ votes_long shape stage kind vote e closes =
     all_vote AtCheck vote e = absurd cc
 
 -- the two kinds of a closing stage
-closing_kind : (o : Option StageKind) → IsSome (option_and_then vote_of o) → (kind : StageKind) × (vote : StageKind) × (o ≡ Some kind) × (vote_of kind ≡ Some vote)
+pub closing_kind : (o : Option StageKind) → IsSome (option_and_then vote_of o) → (kind : StageKind) × (vote : StageKind) × (o ≡ Some kind) × (vote_of kind ≡ Some vote)
 closing_kind None is = absurd cc
 closing_kind (Some (AtFinal shuffle)) is = (AtFinal shuffle, AtGo shuffle, refl, refl)
 closing_kind (Some AtConfirm) is = (AtConfirm, AtCheck, refl, refl)
@@ -232,6 +233,7 @@ spans shape content grammar closing =
             slots_long = ap (λ (s : List Slot). length s) is ∙ length-take-le shape.members (drop (first_embedded shape content) all) (omega (arith, length-drop (first_embedded shape content) all, length-slots_of shape, most, votes, first));
             posts_long = assents.1;
             within = omega (arith, most, votes, first);
+            objects = λ e. absurd (let both = sym assents.0 ∙ e in cc);
           }
       | inr objects ↦
           let n : ℕ = slots_before shape stage in
@@ -245,6 +247,7 @@ spans shape content grammar closing =
             slots_long = ap (λ (s : List Slot). length s) own ∙ length-take-le n all (omega (arith, length-slots_of shape, most));
             posts_long = objects.1;
             within = omega (arith, most, first);
+            objects = λ e. (refl, first);
           }
     ]
 

@@ -3,5 +3,10 @@ pub mod BodyKinds
 pub mod EmbeddedLogs
 pub mod EmbeddedPosts
 pub mod Justified
+pub mod Blaming
+pub mod Comparisons
+pub mod Objections
+pub mod Showings
+pub mod Unlike
 pub mod Takings
 pub mod Convictions

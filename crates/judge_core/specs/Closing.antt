@@ -39,10 +39,6 @@ abbrev pub shown_by : Body → Option Shown
 shown_by (Dispute posts seed opening) = Some (record { outer_seed = seed; outer_opening = opening })
 shown_by body = None
 
-abbrev pub shown_read : Result Content Offence → Option Shown
-shown_read (Ok content) = shown_by content.body
-shown_read (Err offence) = None
-
 -- a listed post that was taken, of a closing stage
 pub record IsClosingPost (case : Case) (said : Said) : Type 0 where
   pub grammar : IsOk (read_of case said)

@@ -7,4 +7,5 @@ pub mod Failures
 pub mod Framing
 pub mod Pad
 pub mod Replay
+pub mod Showing
 pub mod WrongSeed

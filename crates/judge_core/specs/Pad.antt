@@ -45,18 +45,18 @@ abbrev pub table_of : Case → List (List ℕ) → List (List (List ℕ))
 table_of case pads =
     by_member (shape_in case) (λ member. if member == case.accused then pads else replicate (shape_in case).members [])
 
--- check 17: the accusation names another member than the accused, or it does not hold
+-- check 17: there is no accusation, it names another member than the accused, or it does not hold
 abbrev pub accusation_failure : Case → List (List ℕ) → List (List ℕ) → Option Accusation → Option FailedCheck
-accusation_failure case past pads None = None
+accusation_failure case past pads None = Some OtherMember
 accusation_failure case past pads (Some a) = first_some (
     fault_unless (a.member == case.accused) OtherMember
     ∷ option_map (λ refusal. Refuted refusal)
     (refusal_of a (descriptors_opened (shape_in case) past) (table_of case pads) (keys_said (shape_in case) past bulk_place))
     ∷ [])
 
--- the first of these checks that fails, of a log and a post of pads
+-- the first of these checks that fails, of a log and a post of pads; where there is none, it carries no view
 abbrev pub pad_failure_of : Case → List (List ℕ) → Option Said → Option FailedCheck
-pad_failure_of case past None = None
+pad_failure_of case past None = Some (View (count_before_pads (shape_in case) + 1))
 pad_failure_of case past (Some pad) = first_some (
     view_failure (shape_in case) past pad
     ∷ opening_failure (shape_in case) past

@@ -10,6 +10,7 @@ mod hearing;
 mod judging;
 mod laws;
 mod reading;
+mod replaying;
 #[cfg(test)]
 mod stored_evidence;
 mod wrong_seed;
