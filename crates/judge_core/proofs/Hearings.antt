@@ -43,7 +43,7 @@ said_ok said = Ok said
 abbrev list_ok : List Said → Result (List Said) FailedCheck
 list_ok said = Ok said
 
-list_is : (a b : List Said) → list_ok a ≡ list_ok b → a ≡ b
+pub list_is : (a b : List Said) → list_ok a ≡ list_ok b → a ≡ b
 list_is a b e = cc
 
 -- ---- two posts

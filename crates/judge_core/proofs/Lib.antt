@@ -9,4 +9,6 @@ pub mod Objections
 pub mod Showings
 pub mod Unlike
 pub mod Takings
+pub mod Listed
+pub mod Replays
 pub mod Convictions

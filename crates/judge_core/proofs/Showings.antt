@@ -138,7 +138,7 @@ same_header : (a b : Header) → header_ok a ≡ header_ok b → a ≡ b
 same_header a b e = cc
 
 -- what is read has the header that was heard
-read-header : (case : Case) (said : Said) (content : Content) → header_of said.content ≡ Ok said.header → read_of case said ≡ Ok content → said.header ≡ content.header
+pub read-header : (case : Case) (said : Said) (content : Content) → header_of said.content ≡ Ok said.header → read_of case said ≡ Ok content → said.header ≡ content.header
 read-header case said content header read = same_header said.header content.header (sym header ∙ content-header (shape_in case) said.content content read)
 
 -- and is a closing content
