@@ -12,3 +12,5 @@ pub mod Takings
 pub mod Listed
 pub mod Replays
 pub mod Convictions
+pub mod PadSlots
+pub mod PadReadings
