@@ -2,6 +2,7 @@ use super::*;
 use ring_encrypt::public_of;
 use std::alloc::Global;
 use std::test::Fail;
+use wire_core::{Register, Tag};
 
 #[test]
 fn a_layer_opens_to_what_was_sealed(rt: HostRuntime) -> Result<(), Fail> {
@@ -23,6 +24,41 @@ fn a_layer_opens_to_what_was_sealed(rt: HostRuntime) -> Result<(), Fail> {
         }
     }
     assert!(rt; matches!(peel(alloc, &seed, &[0; 2271])?, Peeled::NoLayer));
+    Ok(())
+}
+
+// A seed whose layers another program made, and what they carry sealed.
+const SEED: [u8; 32] = [
+    34, 118, 51, 173, 229, 236, 148, 216, 32, 208, 25, 163, 133, 134, 187, 68, 174, 93, 27, 168,
+    247, 126, 156, 141, 81, 196, 87, 249, 84, 9, 250, 29,
+];
+
+const CARRIED: [u8; 32] = [
+    172, 11, 137, 44, 189, 251, 37, 228, 69, 172, 70, 114, 254, 62, 157, 155, 243, 82, 232, 210,
+    78, 175, 241, 23, 161, 237, 193, 45, 123, 92, 61, 208,
+];
+
+// The hash of the other program's layer of 65,536 bytes 0x5a.
+const LONG_LAYER: [u8; 32] = [
+    54, 159, 205, 0, 115, 226, 74, 0, 140, 228, 67, 101, 248, 14, 162, 200, 84, 64, 98, 117, 70,
+    11, 218, 244, 58, 70, 64, 209, 3, 224, 198, 249,
+];
+
+#[test]
+fn a_long_layer_is_that_of_another_program(rt: HostRuntime) -> Result<(), Fail> {
+    let alloc = rt.alloc();
+    let layer = seal(alloc, &public_of(&SEED), &CARRIED, &[0x5a; 65_536])?;
+    assert_eq!(rt; layer.len(), 67_808);
+    let mut register = Register::new(Tag::View);
+    register.piece(&layer);
+    assert_eq!(rt; register.end(), LONG_LAYER);
+    match peel(alloc, &SEED, &layer)? {
+        Peeled::Layer { m, body } => {
+            assert_eq!(rt; m, CARRIED);
+            assert_eq!(rt; body.items().as_slice(), [0x5a; 65_536].as_slice());
+        }
+        Peeled::NoLayer => return Err(Fail::from("no layer")),
+    }
     Ok(())
 }
 

@@ -12,3 +12,4 @@ pub mod Whole
 pub mod Lengths
 pub mod Written
 pub mod Read
+pub mod BodyKinds

@@ -133,19 +133,23 @@ content-form shape bytes c e =
 
 -- ---- closing stages
 
+-- the form under one number
+pub only-form : (number : ℕ) (form : BodyForm) (kind : ℕ) (found : BodyForm) → only number form kind ≡ Some found → found ≡ form
+only-form number form kind found e = by-test (kind == number) e
+  where
+    by-test : (b : Bool) → (if b then Some form else None) ≡ Some found → found ≡ form
+    by-test true e = cc
+    by-test false e = absurd cc
+
 -- one of two forms
-either-form : (number : ℕ) (form : BodyForm) (other_number : ℕ) (other : BodyForm) (kind : ℕ) (found : BodyForm) → either number form other_number other kind ≡ Some found → (found ≡ form) ⊎ (found ≡ other)
+pub either-form : (number : ℕ) (form : BodyForm) (other_number : ℕ) (other : BodyForm) (kind : ℕ) (found : BodyForm) → either number form other_number other kind ≡ Some found → (found ≡ form) ⊎ (found ≡ other)
 either-form number form other_number other kind found e = elim (cases_Bool (kind == number)) [
   | inl is ↦ inl (same _ _ (sym e ∙ cond-true (kind == number) (Some form) (only other_number other kind) is))
-  | inr not_it ↦ inr (only-form (kind == other_number) (sym (cond-false (kind == number) (Some form) (only other_number other kind) not_it) ∙ e))
+  | inr not_it ↦ inr (only-form other_number other kind found (sym (cond-false (kind == number) (Some form) (only other_number other kind) not_it) ∙ e))
 ]
   where
     same : (x y : BodyForm) → (let told : BodyForm → Option BodyForm = λ z. Some z in told x ≡ told y) → x ≡ y
     same x y e = cc
-
-    only-form : (b : Bool) → (if b then Some other else None) ≡ Some found → found ≡ other
-    only-form true e = sym (same _ _ e)
-    only-form false e = absurd cc
 
 -- what stands at the end of a shuffle, and what stands behind the checks
 final-forms : (shape : Shape) (stage shuffle kind : ℕ) (form : BodyForm) → kind_of_stage shape stage ≡ Some (AtFinal shuffle) → body_form shape stage kind ≡ Some form

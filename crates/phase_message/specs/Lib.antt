@@ -7,3 +7,4 @@ pub mod Post
 pub mod Offence
 pub mod Grammar
 pub mod Closing
+pub mod Kinds

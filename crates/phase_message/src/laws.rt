@@ -10,6 +10,7 @@ ghost use Rattle.phase_message.specs.declared.stage.StageKind.{StageKind};
 ghost use Rattle.phase_message.specs.declared.stage.StageKind.TheVariants.{Pad, Shuffle};
 ghost use Rattle.phase_message.specs.Body.{length_rule, level};
 ghost use Rattle.phase_message.specs.Closing.{ClosingsAreRead};
+ghost use Rattle.phase_message.specs.Kinds.{BodiesAreOfKinds};
 ghost use Rattle.phase_message.specs.Shape.{Shape};
 ghost use Rattle.phase_message.specs.Stages.{is_slot, kind_of_stage, vote_of};
 ghost use Rattle.phase_message.specs.Slots.{slot_at, slot_count, slot_number, slots_before, slots_of, stage_count};
@@ -102,4 +103,9 @@ pub fn contents_have_lengths()
 /// and embeds a post of each slot before it.
 pub fn closings_are_read()
     ensures { ClosingsAreRead }
+{}
+
+/// The bodies of the grammar at a stage are exactly those of its kind.
+pub fn bodies_are_of_kinds()
+    ensures { BodiesAreOfKinds }
 {}

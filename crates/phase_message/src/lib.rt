@@ -20,9 +20,9 @@ pub use encoding::encode;
 pub use form::length_rule;
 pub use header::{Header, read_header};
 pub use laws::{
-    closings_are_read, closings_follow_votes, contents_are_spelled, contents_have_lengths,
-    headers_agree, headers_are_spelled, slot_numbers_rise, slots_are_numbered,
-    slots_are_of_members, spelled_contents_are_read, stages_are_counted,
+    bodies_are_of_kinds, closings_are_read, closings_follow_votes, contents_are_spelled,
+    contents_have_lengths, headers_agree, headers_are_spelled, slot_numbers_rise,
+    slots_are_numbered, slots_are_of_members, spelled_contents_are_read, stages_are_counted,
 };
 pub use look::first_offence;
 pub use offence::Offence;

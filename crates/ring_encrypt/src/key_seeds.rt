@@ -1,6 +1,6 @@
 //! Seeds of keys, and opening by them.
 
-ghost use Rattle.std.specs.Prelude.{◌≡◌, ◌↔◌, ◌∷◌, [], ◌≢◌, IsTrue, IfSome, IfNone, ℕ, List};
+ghost use Rattle.std.specs.Prelude.{◌≡◌, ◌↔◌, ◌∷◌, [], ◌≢◌, IsTrue, IfSome, IfNone, bytes_eq, ℕ, List};
 ghost use Rattle.wire_core.specs.Hash.{hash_of};
 ghost use Rattle.ring_encrypt.specs.Capsule.{key_of_seed, capsule_of};
 ghost use Rattle.ring_encrypt.specs.Opening.{opened, decoded, IsMessage};
@@ -66,11 +66,7 @@ impl KeySeed {
     {
         let m = self.read(c)?;
         let again = seal_seed(&self.public, &m);
-        if c.bytes() == again.bytes() {
-            Some(m)
-        } else {
-            None
-        }
+        if is_same(c, &again) { Some(m) } else { None }
     }
 
     // What the seed reads in a capsule. `None` where the capsule has a coefficient that is too large,
@@ -139,6 +135,13 @@ pub fn open_seed(seed: &[u8; 32], c: &Capsule) -> Option<[u8; 32]>
     let m = key.open_with(c);
     key.destroy();
     m
+}
+
+// Whether two capsules are one.
+fn is_same(c: &Capsule, other: &Capsule) -> bool
+    ensures { result ≡ bytes_eq c.now other.now }
+{
+    c.bytes() == other.bytes()
 }
 
 // The hash of a seed under a tag.

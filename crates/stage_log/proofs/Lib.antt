@@ -7,3 +7,4 @@ pub mod Steps
 pub mod Views
 pub mod Fronts
 pub mod EqualViews
+pub mod Sights

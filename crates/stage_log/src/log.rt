@@ -163,10 +163,12 @@ impl StageLog {
         copies(alloc, &self.posts[..end])
     }
 
-    // The places of a stage's slots, by sender.
-    fn row(&self, stage: u8) -> &[Option<Post>]
+    /// The places of a stage's slots, by sender: the post of each, where one is kept. A stage that the round does not
+    /// have has no places.
+    pub fn row(&self, stage: u8) -> &[Option<Post>]
         ensures posts { result.now ≡ posts_in self.now stage }
         ensures kept { AreKept result.now }
+        ensures form { IsLog self.now }
     {
         let first = slots_before(self.shape, stage) as usize;
         let end = slots_before(self.shape, stage.saturating_add(1)) as usize;
@@ -213,7 +215,7 @@ fn no_posts(alloc: Global, count: u32) -> Mem<Vec<Option<Post>>>
 }
 
 // Carries a view on over the places of a stage.
-fn carry(running: &mut RunningView, places: &[Option<Post>])
+pub(crate) fn carry(running: &mut RunningView, places: &[Option<Post>])
     requires { AreKept places.now }
     ensures { (view : List ℕ) → Carries running.old view [] →
         Carries running.new (hash_of View (view ∷ contents_in places.now)) [] }
@@ -236,7 +238,7 @@ fn say(running: &mut RunningView, kept: &Option<Post>)
 }
 
 // The first of the places of a stage whose content does not carry a view.
-fn first_unlike(view: &[u8; 32], places: &[Option<Post>]) -> Option<usize>
+pub(crate) fn first_unlike(view: &[u8; 32], places: &[Option<Post>]) -> Option<usize>
     requires { AreKept places.now }
     ensures { result ≡ first_below (length places.now) (unlike_at view.now places.now) }
 {

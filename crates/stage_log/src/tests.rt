@@ -86,6 +86,19 @@ fn views(log: &StageLog, stage: u8) -> Option<([u8; 32], Option<Slot>)> {
     Some((log.view(stage), log.wrong_views(stage)))
 }
 
+// What is seen of so many stages of a log, one after the other: the view behind them, and whether all slots carry
+// theirs.
+fn seen(log: &StageLog, stages: u8) -> Option<([u8; 32], bool)> {
+    let mut seen = Seen::new(TWO);
+    for stage in 0..stages {
+        if !log.complete(stage) {
+            return None;
+        }
+        seen.pass(log, stage);
+    }
+    Some((seen.view(), seen.all_right()))
+}
+
 // What the log tells of the places of stage 0.
 fn places(log: &StageLog) -> (u32, bool, Option<u8>) {
     (log.missing(0), log.complete(0), log.first_incomplete())
@@ -149,6 +162,10 @@ fn views_of_two(rt: HostRuntime) -> Result<(), Fail> {
     assert!(rt; views(&log, 3).is_none());
     assert!(rt; log.first_incomplete() == Some(2));
     assert!(rt; carried(&log) == view_at(2));
+    assert!(rt; seen(&log, 2) == Some((view_at(2), true)));
+    assert!(rt; seen(&log, 3).is_none());
+    assert!(rt; seen(&wrong, 1) == Some((view_at(1), true)));
+    assert!(rt; seen(&wrong, 2).is_some_and(|(_, right)| !right));
     let last = Some(Slot {
         stage: 1,
         sender: 1,
