@@ -13,3 +13,5 @@ pub mod SeedPlaces
 pub mod Listed
 pub mod Replays
 pub mod Convictions
+pub mod PadSlots
+pub mod PadReadings

@@ -5,6 +5,7 @@ pub mod Embedding
 pub mod Failures
 pub mod Framing
 pub mod Pad
+pub mod PadLog
 pub mod Replay
 pub mod Showing
 pub mod WrongSeed

@@ -9,6 +9,8 @@ mod failed_check;
 mod hearing;
 mod judging;
 mod laws;
+mod listed_log;
+mod pad;
 mod reading;
 mod replaying;
 #[cfg(test)]
