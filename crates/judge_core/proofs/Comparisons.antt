@@ -8,16 +8,18 @@ use Rattle.std.proofs.lemmas.List.{get_or-map, length-map}
 use Rattle.wire_core.specs.Answers.{first_some}
 use Rattle.phase_message.specs.declared.stage.StageKind.{StageKind}
 use Rattle.phase_message.specs.declared.stage.StageKind.TheVariants.{Keys as AtKeys, Submit as AtSubmit, Shuffle as AtShuffle, Go as AtGo, Final as AtFinal, Pad as AtPad, Check as AtCheck, Confirm as AtConfirm}
+use Rattle.phase_message.specs.Shape.{Shape}
 use Rattle.phase_message.specs.Stages.{kind_of_stage}
+use Rattle.stage_log.specs.Table.{Log}
 use Rattle.shuffle_blame.specs.declared.fault.Shown.{Shown}
 use Rattle.judge_core.specs.declared.failed_check.FailedCheck.{FailedCheck}
-use Rattle.judge_core.specs.declared.failed_check.FailedCheck.TheVariants.{NotJustified}
+use Rattle.judge_core.specs.declared.failed_check.FailedCheck.TheVariants.{LogsDiffer, NotJustified}
 use Rattle.judge_core.specs.declared.hearing.Said.{Said as GivenSaid}
 use Rattle.judge_core.specs.declared.replaying.Shows.{Shows}
 use Rattle.judge_core.specs.Case.{Case, Said, said_of, shape_in}
-use Rattle.judge_core.specs.Closing.{is_justified_in}
-use Rattle.judge_core.specs.Replay.{parts_shown, unjustified_from, unlike_from, unlike_log}
-use Rattle.judge_core.specs.Showing.{IsShown, IsUnjustified, ShowsNothing}
+use Rattle.judge_core.specs.Closing.{is_justified_in, past_in}
+use Rattle.judge_core.specs.Replay.{parts_shown, unjustified_from, unlike_from, unlike_log, unlike_place}
+use Rattle.judge_core.specs.Showing.{AreObjections, IsShown, IsUnjustified, KeepsPast, ShowsNothing}
 
 -- the posts before a place are justified, the first difference among them is found, and their parts are told
 pub record ComparesTo (case : Case) (past : List (List ℕ)) (kind : Option StageKind) (first : Said) (others : List Said) (place : ℕ) (difference : Option FailedCheck) (told : List Shown) : Type 0 where
@@ -116,26 +118,42 @@ compares-all case past kind first others place difference told so is =
 -- ---- the same of what the code holds
 
 -- what stands at a place
-pub given-at : (others : List GivenSaid) (place : ℕ) (one : GivenSaid) → place < length others → one ≡ get_or others place one → (place < length (map said_of others)) × (get_or (map said_of others) place (said_of one) ≡ said_of one)
-given-at others place one lt is = (omega (arith, lt, length-map others said_of), get_or-map said_of others place one (said_of one) lt ∙ ap said_of (sym is))
+given-at : (others : List GivenSaid) (place : ℕ) (d : GivenSaid) → place < length others
+    → (place < length (map said_of others)) × (get_or (map said_of others) place (said_of (get_or others place d)) ≡ said_of (get_or others place d))
+given-at others place d lt = (omega (arith, lt, length-map others said_of), get_or-map said_of others place d (said_of (get_or others place d)) lt)
 
 -- one that shows nothing ends it
-pub fails-at : (case : Case) (past : List (List ℕ)) (kind : Option StageKind) (first : Said) (others : List GivenSaid) (place : ℕ) (difference : Option FailedCheck) (told : List Shown) (one : GivenSaid) (failed : Option FailedCheck)
-    → ComparesTo case past kind first (map said_of others) place difference told → place < length others → one ≡ get_or others place one → ShowsNothing case (place + 2) (said_of one) failed → IsUnjustified case (map said_of others) failed
-fails-at case past kind first others place difference told one None so lt is nothing = tt
-fails-at case past kind first others place difference told one (Some failed) so lt is nothing =
-    let at = given-at others place one lt is in
-    compares-fails case past kind first (map said_of others) place difference told (said_of one) so at.0 at.1 nothing.1 ∙ ap (λ (f : FailedCheck). some f) (sym nothing.0)
+pub fails-at : (case : Case) (past : List (List ℕ)) (kind : Option StageKind) (first : Said) (others : List GivenSaid) (place : ℕ) (d : GivenSaid) (difference : Option FailedCheck) (told : List Shown)
+    (failed : Option FailedCheck) → ComparesTo case past kind first (map said_of others) place difference told → place < length others
+    → ShowsNothing case (place + 2) (said_of (get_or others place d)) failed → IsUnjustified case (map said_of others) failed
+fails-at case past kind first others place d difference told None so lt nothing = tt
+fails-at case past kind first others place d difference told (Some failed) so lt nothing =
+    let at = given-at others place d lt in
+    compares-fails case past kind first (map said_of others) place difference told (said_of (get_or others place d)) so at.0 at.1 nothing.1 ∙ ap (λ (f : FailedCheck). some f) (sym nothing.0)
   where
     some : FailedCheck → Option FailedCheck
     some f = Some f
 
+-- how the first log differs from another, as a search for the least slot finds it
+abbrev FindsUnlike : ℕ → Log → Log → Option FailedCheck → Type 0
+FindsUnlike number log other unlike = (stage : ℕ) (past others : List (List ℕ)) → KeepsPast log.shape stage past log → KeepsPast log.shape stage others other
+    → unlike ≡ option_map (λ slot. LogsDiffer number slot) (unlike_place past others)
+
 -- one that shows a log and its part goes on
-pub goes-at : (case : Case) (past : List (List ℕ)) (first : Said) (others : List GivenSaid) (place : ℕ) (difference now : Option FailedCheck) (told more : List Shown) (one : GivenSaid) (shows : Shows)
-    → ComparesTo case past (kind_of_stage (shape_in case) first.header.stage) first (map said_of others) place difference told → place < length others → one ≡ get_or others place one → IsShown case (said_of one) shows
-    → one.header.stage ≡ first.header.stage → now ≡ option_or difference (unlike_log case past (place + 2) (said_of one)) → more ≡ told ++ option_to_list shows.shown
-    → ComparesTo case past (kind_of_stage (shape_in case) first.header.stage) first (map said_of others) (place + 1) now more
-goes-at case past first others place difference now told more one shows so lt is shown stage differs tells =
-    let at = given-at others place one lt is in
+pub goes-at : (case : Case) (first : Said) (own : Shows) (others : List GivenSaid) (place : ℕ) (d : GivenSaid) (difference now unlike : Option FailedCheck) (told more : List Shown) (shows : Shows)
+    → IsShown case first own → AreObjections case own.stage others
+    → ComparesTo case (past_in case first) (kind_of_stage (shape_in case) first.header.stage) first (map said_of others) place difference told → place < length others
+    → IsShown case (said_of (get_or others place d)) shows → FindsUnlike (place + 2) own.log shows.log unlike → now ≡ option_or difference unlike → more ≡ told ++ option_to_list shows.shown
+    → ComparesTo case (past_in case first) (kind_of_stage (shape_in case) first.header.stage) first (map said_of others) (place + 1) now more
+goes-at case first own others place d difference now unlike told more shows s objects so lt shown finds is tells =
+    let one : GivenSaid = get_or others place d in
+    let stage : one.header.stage ≡ first.header.stage = (objects place d lt).0.at ∙ s.stage in
+    let shape : own.log.shape ≡ shape_in case = ap (λ (l : Log). l.shape) s.keeps.keeps in
+    let other = subst (λ (n : ℕ). KeepsPast (shape_in case) n (past_in case (said_of one)) shows.log) stage shown.keeps in
+    let found = finds first.header.stage (past_in case first) (past_in case (said_of one))
+        (subst (λ (x : Shape). KeepsPast x first.header.stage (past_in case first) own.log) (sym shape) s.keeps)
+        (subst (λ (x : Shape). KeepsPast x first.header.stage (past_in case (said_of one)) shows.log) (sym shape) other) in
+    let at = given-at others place d lt in
     let part = shown.told ∙ ap (λ (n : ℕ). parts_shown case (kind_of_stage (shape_in case) n) (said_of one ∷ [])) stage in
-    compares-next case past (kind_of_stage (shape_in case) first.header.stage) first (map said_of others) place difference now told more (option_to_list shows.shown) (said_of one) so at.0 at.1 shown.justified differs part tells
+    compares-next case (past_in case first) (kind_of_stage (shape_in case) first.header.stage) first (map said_of others) place difference now told more (option_to_list shows.shown) (said_of one)
+    so at.0 at.1 shown.justified (is ∙ ap (option_or difference) found) part tells

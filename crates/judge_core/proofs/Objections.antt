@@ -106,12 +106,11 @@ first-object case stage all first others split each =
     }
 
 -- what stands at a place of them
-pub object-at : (case : Case) (stage : ℕ) (all : List GivenSaid) (place : ℕ) (one : GivenSaid) → AreObjections case stage all → place < length all → one ≡ get_or all place one
-    → IsObjection case one.header.stage (said_of one) × (length one.content.now < 2 ^ 32)
-object-at case stage all place one each lt is =
-    let here = each place one lt in
-    let own : IsObjection case stage (said_of one) × (length one.content.now < 2 ^ 32) = subst (λ (x : GivenSaid). IsObjection case stage (said_of x) × (length x.content.now < 2 ^ 32)) (sym is) here in
-    (record { post = own.0.post; dissents = own.0.dissents; at = refl }, own.1)
+pub object-at : (case : Case) (stage : ℕ) (all : List GivenSaid) (place : ℕ) (d : GivenSaid) → AreObjections case stage all → place < length all
+    → IsObjection case (get_or all place d).header.stage (said_of (get_or all place d))
+object-at case stage all place d each lt =
+    let here = (each place d lt).0 in
+    record { post = here.post; dissents = here.dissents; at = refl }
 
 -- ---- what the transcript comes to
 
@@ -125,7 +124,3 @@ unheard case posts (Some failed) fault = rw fault refl
 pub heard : (case : Case) (posts : List (List ℕ)) (said : List Said) → case.claim ≡ Replay → hearing_of case None 1 posts ≡ Ok said → conviction_of case posts ≡ replay_answer case said
 unfolding conviction_of
 heard case posts said is e = rw e (ap (λ (claim : Claim). value_unless (own_failure claim case said) (tt {0})) is)
-
--- and its stage
-pub one-stage : (case : Case) (stage : ℕ) (all : List GivenSaid) (place : ℕ) (one : GivenSaid) → AreObjections case stage all → place < length all → one ≡ get_or all place one → one.header.stage ≡ stage
-one-stage case stage all place one each lt is = ap (λ (x : GivenSaid). x.header.stage) is ∙ (each place one lt).0.at

@@ -9,6 +9,8 @@ mod failed_check;
 mod hearing;
 mod judging;
 mod laws;
+#[cfg(test)]
+mod made_evidence;
 mod listed_log;
 mod pad;
 mod reading;

@@ -10,7 +10,7 @@ use Rattle.judge_core.specs.Case.{Case, case_of, said_of, shape_in}
 use Rattle.judge_core.specs.Closing.{past_in}
 use Rattle.judge_core.specs.Showing.{KeepsPast}
 use Rattle.judge_core.proofs.Comparisons.{compares-all, compares-none, fails-at, goes-at}
-use Rattle.judge_core.proofs.Objections.{object-at, one-stage}
+use Rattle.judge_core.proofs.Objections.{object-at}
 use Rattle.judge_core.proofs.replaying.compare_all.Goals as goal
 
 pub loop-place-init : goal.loop-place-init
@@ -22,28 +22,19 @@ show-requires-clause-short c = (c.requires.objections c.loop-place.place _ (omeg
 
 pub show-requires-clause-objection : goal.show-requires-clause-objection
 show-requires-clause-objection c =
-    (object-at (case_of c.args.case) c.args.first.now.stage c.args.others.now c.loop-place.place c.index-others-place.result c.requires.objections (omega (arith, c.loop-place-test.true)) c.index-others-place.is).0
+    object-at (case_of c.args.case) c.args.first.now.stage c.args.others.now c.loop-place.place _ c.requires.objections (omega (arith, c.loop-place-test.true))
 
 pub returns-in_err-shows : goal.returns-in_err-shows
 returns-in_err-shows c = λ said s.
     let p = err_from_is_err_and c.from_residual-in_err-shows.result c.from_residual-in_err-shows.ensures.1 in
-    rw (p.1, p.2) (fails-at (case_of c.args.case) (past_in (case_of c.args.case) said) (kind_of_stage (shape_in (case_of c.args.case)) said.header.stage) said c.args.others.now c.loop-place.place c.loop-place.difference c.loop-place.told.items
-    c.index-others-place.result _ (c.loop-place.invariant said s) (omega (arith, c.loop-place-test.true)) c.index-others-place.is c.in_err-shows.ensures)
+    rw (p.1, p.2) (fails-at (case_of c.args.case) (past_in (case_of c.args.case) said) (kind_of_stage (shape_in (case_of c.args.case)) said.header.stage) said c.args.others.now c.loop-place.place _
+    c.loop-place.difference c.loop-place.told.items _ (c.loop-place.invariant said s) (omega (arith, c.loop-place-test.true)) c.in_err-shows.ensures)
 
 pub loop-place-preserved : goal.loop-place-preserved
 loop-place-preserved c = λ said s.
-    let case : Case = case_of c.args.case in
-    let within : c.loop-place.place < length c.args.others.now = omega (arith, c.loop-place-test.true) in
-    let stage : c.index-others-place.result.header.stage ≡ said.header.stage = (one-stage case c.args.first.now.stage c.args.others.now c.loop-place.place c.index-others-place.result c.requires.objections within c.index-others-place.is) ∙ s.stage in
-    let own = s.keeps in
-    let other = subst (λ (n : ℕ). KeepsPast (shape_in case) n (past_in case (said_of c.index-others-place.result)) c.in_ok-shows.shows.log) stage c.in_ok-shows.ensures.keeps in
-    let shape : c.args.first.now.log.shape ≡ shape_in case = ap (λ (l : Log). l.shape) own.keeps in
-    let unlike = c.unlike_log.ensures said.header.stage (past_in case said) (past_in case (said_of c.index-others-place.result))
-        (subst (λ (x : Shape). KeepsPast x said.header.stage (past_in case said) c.args.first.now.log) (sym shape) own)
-        (subst (λ (x : Shape). KeepsPast x said.header.stage (past_in case (said_of c.index-others-place.result)) c.in_ok-shows.shows.log) (sym shape) other) in
-    goes-at case (past_in case said) said c.args.others.now c.loop-place.place c.loop-place.difference c.or-difference.result c.loop-place.told.items c.tell-in-loop-place.new.told.items c.index-others-place.result c.in_ok-shows.shows
-    (c.loop-place.invariant said s) within c.index-others-place.is c.in_ok-shows.ensures stage
-    (c.or-difference.ensures ∙ ap (option_or c.loop-place.difference) unlike) c.in_ok-tell-2.ensures
+    goes-at (case_of c.args.case) said c.args.first.now c.args.others.now c.loop-place.place _ c.loop-place.difference c.or-difference.result c.unlike_log.result c.loop-place.told.items
+    c.tell-in-loop-place.new.told.items c.in_ok-shows.shows s c.requires.objections (c.loop-place.invariant said s) (omega (arith, c.loop-place-test.true)) c.in_ok-shows.ensures
+    c.unlike_log.ensures c.or-difference.ensures c.in_ok-tell-2.ensures
 
 pub returns : goal.returns
 returns c = λ said s.
