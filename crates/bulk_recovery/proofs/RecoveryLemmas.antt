@@ -49,20 +49,32 @@ find_more p a (suc i) m at none fails =
 abbrev pub is_unfit : Description → List (List ℕ) → ℕ → Bool
 is_unfit d pads member = not (fits d member (get_or pads (member - 1) []))
 
-pub unfit_found : (d : Description) (pads : List (List ℕ)) (i : ℕ) (pad : List ℕ) (r : Bool) → i < length pads → find (is_unfit d pads) (range_with_len 1 i) ≡ None → pad ≡ get_or pads i [] → r ≡ fits d (i + 1) pad → r ≡ false
-    → Some (i + 1) ≡ first_unfit d pads
-unfolding first_unfit
-unfit_found d pads i pad r h none is told fails =
-    let place : i + 1 - 1 ≡ i = omega arith in
-    let here : fits d (i + 1) (get_or pads (i + 1 - 1) []) ≡ false = ap (λ (k : ℕ). fits d (i + 1) (get_or pads k [])) place ∙ ap (fits d (i + 1)) (sym is) ∙ sym told ∙ fails in
-    sym (find_first (is_unfit d pads) 1 (length pads) i (i + 1) h (omega arith) none (not_from_false (fits d (i + 1) (get_or pads (i + 1 - 1) [])) here))
+-- what is found at one place
+unfit_here : (fits : Bool) (r : Option ℕ) (place member : ℕ) → r ≡ cond fits None (Some place) → r ≡ Some member → (fits ≡ false) × (member ≡ place)
+unfit_here true r place member told some = absurd (cc)
+unfit_here false r place member told some = (refl, cc)
 
-pub fit_so_far : (d : Description) (pads : List (List ℕ)) (i : ℕ) (pad : List ℕ) (r : Bool) → find (is_unfit d pads) (range_with_len 1 i) ≡ None → pad ≡ get_or pads i [] → r ≡ fits d (i + 1) pad → r ≡ true
-    → find (is_unfit d pads) (range_with_len 1 (i + 1)) ≡ None
-fit_so_far d pads i pad r none is told passes =
+fits_here : (fits : Bool) (r : Option ℕ) (place : ℕ) → r ≡ cond fits None (Some place) → r ≡ None → fits ≡ true
+fits_here true r place told none = refl
+fits_here false r place told none = absurd (cc)
+
+pub unfit_found : (d : Description) (pads : List (List ℕ)) (i member : ℕ) (r : Option ℕ) → i < length pads → find (is_unfit d pads) (range_with_len 1 i) ≡ None
+    → r ≡ cond (fits d (i + 1) (get_or pads i [])) None (Some (i + 1)) → r ≡ Some member → Some member ≡ first_unfit d pads
+unfolding first_unfit
+unfit_found d pads i member r h none told some =
+    let here = unfit_here (fits d (i + 1) (get_or pads i [])) r (i + 1) member told some in
     let place : i + 1 - 1 ≡ i = omega arith in
-    let here : fits d (i + 1) (get_or pads (i + 1 - 1) []) ≡ true = ap (λ (k : ℕ). fits d (i + 1) (get_or pads k [])) place ∙ ap (fits d (i + 1)) (sym is) ∙ sym told ∙ passes in
-    find_more (is_unfit d pads) 1 i (i + 1) (omega arith) none (ap not here)
+    let fails : fits d (i + 1) (get_or pads (i + 1 - 1) []) ≡ false = ap (λ (k : ℕ). fits d (i + 1) (get_or pads k [])) place ∙ here.0 in
+    ap (λ (m : ℕ). Some m) here.1
+    ∙ sym (find_first (is_unfit d pads) 1 (length pads) i (i + 1) h (omega arith) none (not_from_false (fits d (i + 1) (get_or pads (i + 1 - 1) [])) fails))
+
+pub fit_so_far : (d : Description) (pads : List (List ℕ)) (i : ℕ) (r : Option ℕ) → find (is_unfit d pads) (range_with_len 1 i) ≡ None
+    → r ≡ cond (fits d (i + 1) (get_or pads i [])) None (Some (i + 1)) → r ≡ None → find (is_unfit d pads) (range_with_len 1 (i + 1)) ≡ None
+fit_so_far d pads i r none told fits_all =
+    let place : i + 1 - 1 ≡ i = omega arith in
+    let passes : fits d (i + 1) (get_or pads (i + 1 - 1) []) ≡ true =
+    ap (λ (k : ℕ). fits d (i + 1) (get_or pads k [])) place ∙ fits_here (fits d (i + 1) (get_or pads i [])) r (i + 1) told fits_all in
+    find_more (is_unfit d pads) 1 i (i + 1) (omega arith) none (ap not passes)
 
 pub all_fit : (d : Description) (pads : List (List ℕ)) (i : ℕ) → i ≡ length pads → find (is_unfit d pads) (range_with_len 1 i) ≡ None → None ≡ first_unfit d pads
 unfolding first_unfit

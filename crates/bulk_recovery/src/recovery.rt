@@ -1,7 +1,8 @@
 //! The states of slots.
 
-ghost use Rattle.std.specs.Prelude.{◌≡◌, ◌<◌, ◌≤◌, length, map, All, IfOk, IfSome};
+ghost use Rattle.std.specs.Prelude.{◌≡◌, ◌+◌, ◌<◌, ◌≤◌, [], length, map, slice_index_or, if◌then◌else◌, All, IfOk, IfSome, Some, None};
 ghost use Rattle.std.specs.Option.{option_map};
+ghost use Rattle.bulk_descriptor.specs.Descriptor.{fits};
 ghost use Rattle.bulk_descriptor.specs.Fields.{description_of};
 ghost use Rattle.bulk_descriptor.specs.SlotState.{first_unfit, joined_state, joined_pads, slot_state, slot_states, pads_for, AreSlots};
 
@@ -60,11 +61,34 @@ fn first_unfit(descriptor: &Descriptor, pads: &PadTable, slot: usize) -> Option<
     requires pads { All (λ row. slot < length row) pads.now.members }
     ensures { result ≡ first_unfit (description_of descriptor.now) (pads_for pads.now.members slot) }
 {
-    for (place, row) in pads.members.items().iter().enumerate() {
-        let member = place as u8 + 1;
-        if !descriptor.fits(member, row.items()[slot].items()) {
+    for place in 0..pads.members.items().len() {
+        if let Some(member) = unfit_at(descriptor, pads, slot, place) {
             return Some(member);
         }
     }
     None
+}
+
+// The member at a place of the table, if its pad for a slot does not fit its descriptor.
+fn unfit_at(descriptor: &Descriptor, pads: &PadTable, slot: usize, place: usize) -> Option<u8>
+    requires members { length descriptor.now.pad_hashes ≡ length pads.now.members }
+    requires pads { All (λ row. slot < length row) pads.now.members }
+    requires place { place < length pads.now.members }
+    ensures { result ≡ (if fits (description_of descriptor.now) (place + 1) (slice_index_or (pads_for pads.now.members slot) place [])
+        then None else Some (place + 1)) }
+{
+    let member = place as u8 + 1;
+    if descriptor.fits(member, pad_of(pads, slot, place)) {
+        return None;
+    }
+    Some(member)
+}
+
+// The pad for a slot of the member at a place of the table.
+fn pad_of<'a>(pads: &'a PadTable, slot: usize, place: usize) -> &'a [u8]
+    requires pads { All (λ row. slot < length row) pads.now.members }
+    requires place { place < length pads.now.members }
+    ensures { result.now ≡ slice_index_or (pads_for pads.now.members slot) place [] }
+{
+    pads.members.items()[place].items()[slot].items()
 }

@@ -52,6 +52,13 @@ rise_of key image secret failed content at total round n view found chose read l
   enough = enough;
 }
 
+-- the slot that is raised
+pub slot_is_chosen : (key : KeyState) (image : List ℕ) (secret : SecretState) (failed : Bool) (content : KeyContent) (at total : ℕ)
+    → ◌≡◌ {A = KeyState} record { parts = secret.parts; image = image; failed = failed } key → IsOf key secret content → total ≡ made_leaves content.height
+    → at ≡ chosen total image → at ≡ chosen (leaves_of key) key.image
+slot_is_chosen key image secret failed content at total view of found chose =
+    chose ∙ ap (λ (m : ℕ). chosen m image) (found ∙ sym of.total) ∙ ap (λ (l : List ℕ). chosen (leaves_of key) l) (ap (λ (k : KeyState). k.image) view)
+
 pub raised_midway : (Run : KeyContent → ℕ → Type 0) (key : KeyState) (image : List ℕ) (secret : SecretState) (failed : Bool) (content : KeyContent) (at total round n : ℕ)
     → ◌≡◌ {A = KeyState} record { parts = secret.parts; image = image; failed = failed } key → IsOf key secret content → total ≡ made_leaves content.height
     → at ≡ chosen total image → key_read image ≡ Ok content → content.kept.round < round → content.kept.next + n ≤ made_leaves content.height → 0 < n
@@ -59,8 +66,7 @@ pub raised_midway : (Run : KeyContent → ℕ → Type 0) (key : KeyState) (imag
     → IfOk (key_read key.image) (λ content. IsPaired key.image → Run content (chosen (leaves_of key) key.image))
 raised_midway Run key image secret failed content at total round n view of found chose read later enough some run =
     let same : image ≡ key.image = ap (λ (k : KeyState). k.image) view in
-    let place : at ≡ chosen (leaves_of key) key.image =
-    chose ∙ ap (λ (m : ℕ). chosen m image) (found ∙ sym of.total) ∙ ap (λ (l : List ℕ). chosen (leaves_of key) l) same in
+    let place : at ≡ chosen (leaves_of key) key.image = slot_is_chosen key image secret failed content at total view of found chose in
     subst (λ (r : Result KeyContent ℕ). IfOk r (λ content. IsPaired key.image → Run content (chosen (leaves_of key) key.image))) (sym (sym (ap key_read same) ∙ read))
     (λ paired. subst (Run content) place (run (rise_of key image secret failed content at total round n view found chose read later enough some paired)))
 

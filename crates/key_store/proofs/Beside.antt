@@ -1,6 +1,6 @@
 -- What stands under other names than the chosen one.
-use Rattle.std.proofs.Common.{◌≡◌, ◌≢◌, List, ℕ, Option, Some, None, refl, sym, ◌∙◌, subst}
-use Rattle.key_store.specs.Names.{KeepsOthers, Names, StaysBeside}
+use Rattle.std.proofs.Common.{Option, Some, None, refl, sym, ◌∙◌, subst}
+use Rattle.key_store.specs.Names.{Names, StaysBeside}
 
 pub beside_itself : (told : Option Names) → StaysBeside told told
 beside_itself None = refl

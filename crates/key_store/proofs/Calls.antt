@@ -1,5 +1,5 @@
 -- What each call on a key file makes sure of, for all that happens to the file over time.
-use Rattle.std.proofs.Common.{◌≡◌, ℕ, ◌+◌, ◌<◌, ◌≤◌, Bool, false, List, Option, Some, None, IfSome, Result, Ok, Err, IfOk, take, refl, sym, ap, ◌∙◌, subst, arith}
+use Rattle.std.proofs.Common.{◌≡◌, ℕ, ◌+◌, ◌<◌, ◌≤◌, Bool, false, List, Option, Some, None, IfSome, Result, Ok, take, refl, sym, ap, ◌∙◌, subst, arith}
 use Rattle.std.specs.Prelude.{IsSome}
 use Rattle.lms_tree.specs.States.{RunState, SecretState, made_leaves}
 use Rattle.key_store.specs.declared.layout.Standing.{Standing}

@@ -7,6 +7,8 @@ pub mod Beside
 pub mod Torn
 pub mod Kept
 pub mod Midway
+pub mod TornSlot
+pub mod Making
 pub mod Begun
 pub mod Moments
 pub mod Overwrites

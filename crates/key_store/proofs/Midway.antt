@@ -19,6 +19,7 @@ use Rattle.key_store.proofs.Raised.{kept_read, slot_within, was_read}
 use Rattle.key_store.proofs.Keys.{few_leaves}
 use Rattle.key_store.proofs.Slots.{long-written, same_byte, same_long, same_word, word-written}
 use Rattle.key_store.proofs.Torn.{length-torn, part-torn, torn_front, torn_more, torn_wider}
+use Rattle.key_store.proofs.TornSlot.{size_of_numbers, written_torn}
 
 -- what a file that may be raised says of its slots
 pub record IsReady (content : KeyContent) (file : List ℕ) (at : ℕ) : Type 0 where
@@ -105,19 +106,6 @@ writing_keeps content file image at round next whole rise torn =
     same_byte image (closed file at) at (part-torn (closed file at) image (at + 1) 12 at 1 torn (inl (omega arith))) ∙ byte-written file at 0 (omega (arith, within)) in
     keeps-torn content file image at whole is.slot rise.read is.other
     (torn_wider file (closed file at) image at 13 (at + 1) 12 first torn (omega arith) (omega arith)) (λ gate. absurd (gate (gate_at image at ∙ zero)))
-
-size_of_numbers : (round next : ℕ) → length (numbers round next) ≡ 12
-size_of_numbers round next = refl
-
--- a file with its slot closed and written differs in the slot alone
-written_torn : (file : List ℕ) (at round next : ℕ) → at + 13 ≤ length file → IsTorn file at 13 (written (closed file at) at round next)
-written_torn file at round next within =
-    let size : length (closed file at) ≡ length file = length-torn file (closed file at) at 1 (overwritten_torn file at (0 ∷ []) (omega arith)) (omega arith) in
-    torn_wider file (closed file at) (written (closed file at) at round next) at 13 (at + 1) 12
-    (torn_more file (closed file at) at 1 13 (overwritten_torn file at (0 ∷ []) (omega arith)) (omega arith))
-    (subst (λ (n : ℕ). IsTorn (closed file at) (at + 1) n (written (closed file at) at round next)) (size_of_numbers round next)
-    (overwritten_torn (closed file at) (at + 1) (numbers round next) (omega (arith, size))))
-    (omega arith) (omega arith)
 
 opening_keeps : (content : KeyContent) (file image : List ℕ) (at round next : ℕ) → length file ≡ 128 → round < 2 ^ 64 → IsRise content file at round next
     → IsTorn (written (closed file at) at round next) at 1 image → Keeps content image

@@ -1,6 +1,6 @@
 -- The names of a disk in memory.
-use Rattle.std.proofs.Common.{◌≡◌, ◌≢◌, ◌⊎◌, inl, inr, ℕ, ◌+◌, ◌<◌, ◌≤◌, Bool, true, false, List, [], ◌∷◌, ◌++◌, Option, Some, None, length, refl, sym, ap, ◌∙◌, subst, arith}
-use Rattle.std.specs.Prelude.{nat_le, ◌&&◌, ◌||◌, not, if◌then◌else◌, IsSome, IsTrue, bytes_eq}
+use Rattle.std.proofs.Common.{◌≡◌, ◌≢◌, ℕ, Bool, true, false, List, [], Option, Some, None, length, refl, sym, ap, ◌∙◌, subst}
+use Rattle.std.specs.Prelude.{nat_le, ◌&&◌, ◌||◌, not, if◌then◌else◌, IsTrue, bytes_eq}
 use Rattle.std.proofs.lemmas.Slice.Eq.{bytes_eq-Decides}
 use Rattle.key_store.specs.declared.disk.DiskAnswer.{DiskAnswer}
 use Rattle.key_store.specs.declared.disk.DiskAnswer.TheVariants.{Done, Failed}
@@ -8,9 +8,9 @@ use Rattle.key_store.specs.declared.naming.Naming.{Naming}
 use Rattle.key_store.specs.declared.steps_taken.Step.{Step}
 use Rattle.key_store.specs.declared.steps_taken.Step.TheVariants.{Emptied}
 use Rattle.key_store.specs.Disk.{Elapses}
-use Rattle.key_store.specs.Memory.{DiskState, LeftSince, MayLeave, after_call, after_change, after_choice, after_doing, after_fault, after_look, after_steps, answer_of, choosing, contents_of, fails_change, fails_choice, fails_look, fails_step, file_of, looks, moment_of, names_of, synced, unchosen}
-use Rattle.key_store.specs.Names.{Chooses, IsAnswered, IsChosen, IsRefused, IsUnchosen, KeepsOthers, Names, StaysBeside}
-use Rattle.key_store.specs.Naming.{allows, chosen_as, is_chosen, is_named, names_told}
+use Rattle.key_store.specs.Memory.{DiskState, LeftSince, MayLeave, after_call, after_change, after_choice, after_doing, after_fault, after_look, answer_of, choosing, contents_of, fails_change, fails_choice, fails_look, fails_step, file_of, looks, moment_of, names_of, unchosen}
+use Rattle.key_store.specs.Names.{Chooses, IsChosen, IsRefused, IsUnchosen, KeepsOthers, StaysBeside}
+use Rattle.key_store.specs.Naming.{allows, chosen_as, is_chosen, names_told}
 use Rattle.key_store.proofs.Disks.{file-push, passes_call, passes_look}
 
 -- names that differ

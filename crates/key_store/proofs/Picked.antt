@@ -1,5 +1,5 @@
 -- The images of a disk in memory that a crash may be told to leave.
-use Rattle.std.proofs.Common.{◌≡◌, inl, inr, ℕ, ◌+◌, ◌≤◌, List, [], ◌∷◌, ◌++◌, length, take, refl, sym, ap, ◌∙◌, subst, arith}
+use Rattle.std.proofs.Common.{◌≡◌, inl, inr, ℕ, ◌≤◌, List, [], ◌∷◌, ◌++◌, length, take, refl, sym, ap, ◌∙◌, subst, arith}
 use Rattle.std.specs.Prelude.{replicate}
 use Rattle.std.proofs.lemmas.List.{length-replicate, length-take-le, take-replicate}
 use Rattle.key_store.specs.declared.images.Images.{Images}
@@ -8,7 +8,7 @@ use Rattle.key_store.specs.declared.steps_taken.Step.TheVariants.{Wrote, Synced,
 use Rattle.key_store.specs.declared.steps_taken.Pick.{Pick}
 use Rattle.key_store.specs.declared.steps_taken.Pick.TheVariants.{Old, New, Ones}
 use Rattle.key_store.specs.Disk.{IsTorn, overwritten}
-use Rattle.key_store.specs.Memory.{Contents, DiskState, IsImage, IsTornIn, MayLeave, Range, StepFits, after_look, after_step, after_steps, contents_of, file_of, filled_in, image_of, picked, synced}
+use Rattle.key_store.specs.Memory.{Contents, DiskState, IsTornIn, MayLeave, Range, StepFits, after_look, after_step, after_steps, contents_of, file_of, filled_in, image_of, picked, synced}
 use Rattle.key_store.specs.Picks.{AreImagesOf, after_step_of, image_in, same_images}
 use Rattle.key_store.proofs.Disks.{after_steps-push}
 use Rattle.key_store.proofs.Files.{overwritten_torn}

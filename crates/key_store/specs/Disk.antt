@@ -45,9 +45,13 @@ Every images P = (image : List ℕ) → images image → P image
 abbrev pub Only : List ℕ → (List ℕ → Type 0) → Type 0
 Only file images = Every images (λ image. image ≡ file)
 
+-- one of these images, with any bytes in a range of n
+abbrev pub IsTornOf : (images : List ℕ → Type 0) (at n : ℕ) → List ℕ → Type 0
+IsTornOf images at n image = (earlier : List ℕ) × images earlier × IsTorn earlier at n image
+
 -- each image is an earlier one, with any bytes in a range of n
 abbrev pub ImagesTear : (old new : List ℕ → Type 0) (at n : ℕ) → Type 0
-ImagesTear old new at n = Every new (λ image. (earlier : List ℕ) × old earlier × IsTorn earlier at n image)
+ImagesTear old new at n = Every new (IsTornOf old at n)
 
 -- Time goes on: a crash since a moment might have left what it might have left before, or what it may leave now.
 pub record Elapses (before now : ℕ) (past since : ℕ → List ℕ → Type 0) (images : List ℕ → Type 0) : Type 0 where

@@ -46,21 +46,21 @@ pub data Event (D : Type 0) : Type 0 where
   cut_off : D → D → Event D
   crashed : D → Event D
 
--- a crash leaves a disk with one of these images
-abbrev pub IsLeft : {D : Type 0} → (may_leave : D → List ℕ → Type 0) → (images : List ℕ → Type 0) → D → Type 0
-IsLeft may_leave images left = (image : List ℕ) × images image × Only image (may_leave left)
+-- a crash leaves a disk that tells one of these images, and of which a crash leaves no other
+abbrev pub IsLeft : {D : Type 0} → (told : D → Option (List ℕ)) (may_leave : D → List ℕ → Type 0) → (images : List ℕ → Type 0) → D → Type 0
+IsLeft told may_leave images left = (image : List ℕ) × images image × (told left ≡ Some image) × Only image (may_leave left)
 
 -- each of these happened to the disk that the one before left
-abbrev pub Happened : {D : Type 0} → (may_leave : D → List ℕ → Type 0) (moment : D → ℕ) (left_since : D → ℕ → List ℕ → Type 0)
+abbrev pub Happened : {D : Type 0} → (told : D → Option (List ℕ)) (may_leave : D → List ℕ → Type 0) (moment : D → ℕ) (left_since : D → ℕ → List ℕ → Type 0)
     → (old : D) → List (Event D) → Type 0
-Happened may_leave moment left_since old [] = Unit {0}
-Happened may_leave moment left_since old (returned new handed ∷ events) =
-    IsCall may_leave moment left_since old new handed × Happened may_leave moment left_since new events
-Happened may_leave moment left_since old (cut_off new left ∷ events) =
+Happened told may_leave moment left_since old [] = Unit {0}
+Happened told may_leave moment left_since old (returned new handed ∷ events) =
+    IsCall may_leave moment left_since old new handed × Happened told may_leave moment left_since new events
+Happened told may_leave moment left_since old (cut_off new left ∷ events) =
     (handed : Option Handed) × IsCall may_leave moment left_since old new handed
-    × IsLeft may_leave (left_since new (moment old)) left × Happened may_leave moment left_since left events
-Happened may_leave moment left_since old (crashed left ∷ events) =
-    IsLeft may_leave (may_leave old) left × Happened may_leave moment left_since left events
+    × IsLeft told may_leave (left_since new (moment old)) left × Happened told may_leave moment left_since left events
+Happened told may_leave moment left_since old (crashed left ∷ events) =
+    IsLeft told may_leave (may_leave old) left × Happened told may_leave moment left_since left events
 
 -- the disk in the end
 abbrev pub disk_after : {D : Type 0} → D → List (Event D) → D
@@ -85,9 +85,9 @@ raised_to_last least (h ∷ handed) = raised_to_last (raised_to least h) handed
 -- From a disk of which every image is a key file, whatever happens: rounds rise strictly, the leaves of each come behind
 -- those of all earlier ones, so none is handed out twice, and every image stays a key file of the same key that stands
 -- for what was handed out last.
-abbrev pub IsUsedOnce : {D : Type 0} → (may_leave : D → List ℕ → Type 0) (moment : D → ℕ) (left_since : D → ℕ → List ℕ → Type 0) → Type 0
-IsUsedOnce {D} may_leave moment left_since =
+abbrev pub IsUsedOnce : {D : Type 0} → (told : D → Option (List ℕ)) (may_leave : D → List ℕ → Type 0) (moment : D → ℕ) (left_since : D → ℕ → List ℕ → Type 0) → Type 0
+IsUsedOnce {D} told may_leave moment left_since =
     (least : KeyContent) (start : D) (events : List (Event D)) → Every (may_leave start) (KeepsFront least)
-    → Happened may_leave moment left_since start events
+    → Happened told may_leave moment left_since start events
     → AllPairs IsBefore (all_handed events)
     × Every (may_leave (disk_after start events)) (KeepsFront (raised_to_last least (all_handed events)))

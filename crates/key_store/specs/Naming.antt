@@ -1,5 +1,5 @@
 -- The name of the one file of a disk in memory.
-use Rattle.std.specs.Prelude.{◌≡◌, ℕ, nat_le, ◌&&◌, if◌then◌else◌, Bool, true, false, not, List, [], length, Option, Some, None, bytes_eq}
+use Rattle.std.specs.Prelude.{ℕ, nat_le, ◌&&◌, if◌then◌else◌, Bool, true, false, not, List, [], length, Some, None, bytes_eq}
 use Rattle.key_store.specs.declared.naming.Naming.{Naming}
 use Rattle.key_store.specs.Names.{Names}
 

@@ -1,5 +1,5 @@
 -- A key file as its callers see it, and what its calls answer.
-use Rattle.std.specs.Prelude.{◌≡◌, ℕ, Bool, false, List, take, Option, Some, None, IfSome, Result, Ok, Err}
+use Rattle.std.specs.Prelude.{◌≡◌, ℕ, Bool, false, List, take, Option, Some, None, IfSome, Result, Ok, Err, IsOk}
 use Rattle.lms_tree.specs.Secret.{SecretParts, leaves}
 use Rattle.lms_tree.specs.States.{RunState, SecretState}
 use Rattle.key_store.specs.declared.layout.Standing.{Standing}
@@ -42,18 +42,18 @@ IsLoaded (Err at) image key = ⊥
 abbrev pub IsFault : StoreRefusal → (before now : ℕ) → Type 0
 IsFault refusal before now = (refusal ≡ DiskFault) × Rose before now
 
--- why a file was not loaded
+-- why a file was not loaded; memory was short only where it is a key file
 abbrev pub LoadRefused : StoreRefusal → Option (List ℕ) → (before now : ℕ) → Type 0
 LoadRefused (NotKeyFile at) told before now = IfSome told (λ file. key_read (take 128 file) ≡ Err at)
 LoadRefused DiskFault told before now = Rose before now
-LoadRefused Memory told before now = Unit {0}
+LoadRefused Memory told before now = IfSome told (λ file. IsOk (key_read (take 128 file)))
 LoadRefused (OldRound kept) told before now = ⊥
 LoadRefused (Exhausted next) told before now = ⊥
 
 -- why bytes that were read so gave no key file
 abbrev pub FrontRefused : StoreRefusal → Result KeyContent ℕ → Type 0
 FrontRefused (NotKeyFile at) read = read ≡ Err at
-FrontRefused Memory read = Unit {0}
+FrontRefused Memory read = IsOk read
 FrontRefused DiskFault read = ⊥
 FrontRefused (OldRound kept) read = ⊥
 FrontRefused (Exhausted next) read = ⊥

@@ -9,7 +9,7 @@ use crate::disk::Disk;
 /// Over every list of calls that each make sure of what `load` and `begin_round` do, and of crashes at any moment of a call
 /// or between two: rounds rise strictly, no leaf is handed out twice, and every image stays a key file of this key.
 pub fn leaves_are_used_once<D: Disk>()
-    ensures { IsUsedOnce D.may_leave D.moment D.left_since }
+    ensures { IsUsedOnce D.file D.may_leave D.moment D.left_since }
 {}
 
 /// A file that stays may be said to be torn anywhere.

@@ -1,5 +1,5 @@
 //! A disk in memory, with one file of at most 128 bytes, of which calls fail by a plan, and which may crash.
-ghost use Rattle.std.specs.Prelude.{◌≡◌, ◌⊎◌, ◌≤◌, ◌↔◌, ℕ, List, [], length, Some, None, option_map, IfOk, IsSome, IsTrue, if◌then◌else◌, string_bytes, true};
+ghost use Rattle.std.specs.Prelude.{◌≡◌, ◌⊎◌, ◌-◌, ◌≤◌, ◌↔◌, ℕ, List, [], length, min, Some, None, option_map, IfOk, IsSome, IsTrue, if◌then◌else◌, string_bytes, true};
 ghost use Rattle.outside.specs.Plans.{plan_of};
 ghost use Rattle.key_store.specs.Naming.{chosen_as, no_file};
 ghost use Rattle.key_store.specs.Memory.{after_call, after_change, after_choice, after_fault, after_look, answer_of, fails_change, fails_choice, fails_look, fails_read, fails_step, fails_sync, fails_write, file_of, image_of, looks, MayLeave, new_disk, StepFits, unchosen, write_step};
@@ -105,7 +105,14 @@ impl MemoryDisk {
         self.images.picked(Pick::New)
     }
 
-    /// After this number of further calls that pass, whatever they are, each call fails.
+    /// The number of calls so far, those that failed among them.
+    pub fn calls(&self) -> u64
+        ensures { result ≡ self.now.plan.calls }
+    {
+        self.plan.calls()
+    }
+
+    /// After this number of further calls, whatever they are and whether they fail, each call fails.
     pub fn stop_after(&mut self, calls: u32)
         ensures { self.new ≡ record self.old { passing = Some calls } }
     {
@@ -284,6 +291,7 @@ impl Disk for MemoryDisk {
 
         ensures bounded { IfRead result (λ taken. taken ≤ length into.old) }
         ensures filled { IfRead result (λ taken. IsFilled (file_of self.old) at taken into.old into.new) }
+        ensures taken { IfRead result (λ taken. taken ≡ min (length into.old) (length (file_of self.old) - at)) }
         ensures ended { result ≡ DiskRead.Read 0 → (length into.old ≡ 0) ⊎ (length (file_of self.old) ≤ at) }
         ensures kept { Some (file_of self.new) ≡ Some (file_of self.old) }
         ensures images { (image : List ℕ) → MayLeave self.new image → MayLeave self.old image }

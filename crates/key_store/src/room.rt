@@ -1,5 +1,5 @@
 //! The bytes of a file in memory, in room that was taken before.
-ghost use Rattle.std.specs.Prelude.{◌≡◌, ◌⊎◌, ◌+◌, ◌<◌, ◌≤◌, [], length, IfOk};
+ghost use Rattle.std.specs.Prelude.{◌≡◌, ◌⊎◌, ◌+◌, ◌-◌, ◌<◌, ◌≤◌, [], length, min, IfOk};
 ghost use Rattle.key_store.specs.Disk.{IsFilled, overwritten};
 ghost use Rattle.key_store.specs.Memory.{fits};
 
@@ -73,6 +73,7 @@ impl Room {
     pub fn read(&self, at: u32, into: &mut [u8]) -> u32
         ensures bounded { result ≤ length into.old }
         ensures filled { IsFilled self.now at result into.old into.new }
+        ensures taken { result ≡ min (length into.old) (length self.now - at) }
         ensures ended { result ≡ 0 → (length into.old ≡ 0) ⊎ (length self.now ≤ at) }
     {
         read_from(self.bytes(), at, into)
@@ -111,6 +112,7 @@ fn read_from(file: &[u8], at: u32, into: &mut [u8]) -> u32
     requires { length file.now ≤ 128 }
     ensures bounded { result ≤ length into.old }
     ensures filled { IsFilled file.now at result into.old into.new }
+    ensures taken { result ≡ min (length into.old) (length file.now - at) }
     ensures ended { result ≡ 0 → (length into.old ≡ 0) ⊎ (length file.now ≤ at) }
 {
     let at = at as usize;

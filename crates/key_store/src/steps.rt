@@ -119,6 +119,7 @@ pub fn raise<D: Disk>(
     ensures image { result ≡ DiskAnswer.Done → image.new ≡ raised image.old at round next }
     ensures moments { (content : KeyContent) → IsRise content image.old at round next
         → LeavesOf D.moment D.left_since (D.file disk.old) disk.old disk.new (IsMidway content at) }
+    ensures beside_slot { LeavesOf D.moment D.left_since (D.file disk.old) disk.old disk.new (λ file. IsTorn file at 13) }
     ensures told { IsSome (D.file disk.old) → IsSome (D.file disk.new) }
     ensures current { result ≡ DiskAnswer.Done → IsAtRest (D.file disk.new) (D.may_leave disk.new) image.new }
     ensures failed { result ≡ DiskAnswer.Failed → Rose (D.faults disk.old) (D.faults disk.new) }

@@ -5,7 +5,7 @@ ghost use Rattle.lms_tree.specs.States.{made_leaves, made_type};
 ghost use Rattle.key_store.specs.declared.refusals.StoreRefusal.TheVariants.{DiskFault, Memory};
 ghost use Rattle.outside.specs.Faults.{Rose};
 ghost use Rattle.key_store.specs.Crashes.{Keeps, KeepsFront};
-ghost use Rattle.key_store.specs.Disk.{Every, Only};
+ghost use Rattle.key_store.specs.Disk.{Every, IsTornOf, LeavesOnly, Only};
 ghost use Rattle.key_store.specs.KeyFiles.{IsAtRest, Mirrors, key_read, made, new_content, opened, parts_in};
 ghost use Rattle.key_store.specs.Names.{StaysBeside};
 ghost use Rattle.key_store.specs.Store.{FrontRefused, IsLoaded};
@@ -37,6 +37,8 @@ pub fn create<D: Disk>(
     ensures keeps { IfOk result (λ _. IfSome (D.file disk.new) (λ _. Every (D.may_leave disk.new) (KeepsFront (new_content height width master.now)))) }
     ensures refused { IfErr result (λ e. ((e ≡ DiskFault) × Rose (D.faults disk.old) (D.faults disk.new))
         ⊎ ((e ≡ Memory) × (disk.new ≡ disk.old))) }
+    // At every moment of the call, whatever it answers, no image differs behind its first 128 bytes from one before.
+    ensures moments { IfSome (D.file disk.old) (λ _. LeavesOnly D.moment D.left_since disk.old disk.new (IsTornOf (D.may_leave disk.old) 0 128)) }
     ensures beside { StaysBeside (D.names disk.old) (D.names disk.new) }
     ensures no_fall { D.faults disk.old ≤ D.faults disk.new }
 {
@@ -107,6 +109,7 @@ fn write_made<D: Disk>(disk: &mut D, content: &KeyContent) -> DiskAnswer
     ensures keeps { result ≡ DiskAnswer.Done → Keeps record content.now { kept = record { round = 0; next = 0 } } (opened (made (parts_in content.now)) 64) }
     ensures reads { result ≡ DiskAnswer.Done → IfSome (D.file disk.new) (λ file.
         key_read (take 128 file) ≡ Ok record content.now { kept = record { round = 0; next = 0 } }) }
+    ensures moments { IfSome (D.file disk.old) (λ _. LeavesOnly D.moment D.left_since disk.old disk.new (IsTornOf (D.may_leave disk.old) 0 128)) }
     ensures failed { result ≡ DiskAnswer.Failed → Rose (D.faults disk.old) (D.faults disk.new) }
     ensures beside { StaysBeside (D.names disk.old) (D.names disk.new) }
     ensures no_fall { D.faults disk.old ≤ D.faults disk.new }
@@ -148,7 +151,7 @@ impl KeyFile {
     ghost use Rattle.key_store.specs.declared.layout.KeyContent.{KeyContent};
     ghost use Rattle.key_store.specs.declared.refusals.StoreRefusal.TheVariants.{DiskFault, Exhausted, Memory, NotKeyFile, OldRound};
     ghost use Rattle.key_store.specs.Crashes.{IsMidway, IsPaired, Keeps, KeepsFront};
-    ghost use Rattle.key_store.specs.Disk.{Every, LeavesOf, LeavesOnly};
+    ghost use Rattle.key_store.specs.Disk.{Every, IsTorn, LeavesOf, LeavesOnly};
     ghost use Rattle.key_store.specs.History.{IsCall};
     ghost use Rattle.key_store.specs.KeyFiles.{chosen, key_read, raised};
     ghost use Rattle.key_store.specs.Names.{StaysBeside};
@@ -242,6 +245,9 @@ impl KeyFile {
         ensures moments { self.old.failed ≡ false → 0 < leaves → IfOk (key_read self.old.image) (λ content. IsPaired self.old.image
             → LeavesOf D.moment D.left_since (D.file disk.old) disk.old disk.new
             (IsMidway content (chosen (leaves_of self.old) self.old.image))) }
+        // It differs in no other place also where no leaf is asked for, and where the slots are not paired.
+        ensures beside_slot { self.old.failed ≡ false → LeavesOf D.moment D.left_since (D.file disk.old) disk.old disk.new
+            (λ file. IsTorn file (chosen (leaves_of self.old) self.old.image) 13) }
         ensures paired { IfOk result (λ _. 0 < leaves → IsPaired self.old.image → IsPaired self.new.image) }
         // So whatever was handed out before, this is later and behind it, and stays so whenever a crash comes.
         ensures used { 0 < leaves → IfSome (D.file disk.old) (λ _. IsSome (D.file disk.new)

@@ -1,5 +1,6 @@
 ghost use Rattle.key_store.specs.Store.{IsCurrent};
 
+use crate::layout::blank;
 use crate::{Disk, DiskAnswer, KeyFile, MemoryDisk, Pick, StoreRefusal, create};
 use lms_tree::{MadeHeight, OtsType};
 use std::alloc::Global;
@@ -182,6 +183,70 @@ fn a_crash_at_any_call_leaves_what_was_begun(rt: HostRuntime) -> Result<(), Fail
         assert!(rt; left(alloc, &disk, Pick::Old)? == old);
         assert!(rt; left(alloc, &disk, Pick::New)? == new);
         assert!(rt; left(alloc, &disk, Pick::Ones)? == ones);
+    }
+    Ok(())
+}
+
+// A file with this head, and with slots of these gates, rounds and next leaves.
+fn file_with(head: &[u8], slots: [(u8, u8, u8); 2]) -> [u8; 128] {
+    let mut file = blank();
+    let size = head.len().min(64);
+    file[..size].copy_from_slice(&head[..size]);
+    for (at, (gate, round, next)) in [64, 96].into_iter().zip(slots) {
+        file[at] = gate;
+        file[at + 8] = round;
+        file[at + 12] = next;
+    }
+    file
+}
+
+// A disk that held zeros, of which this call of two rounds fails; they make 17.
+fn failed(alloc: Global, failing: u64) -> Result<MemoryDisk, Fail> {
+    let mut disk = MemoryDisk::holding(alloc, b"key", &[0; 128], 40, vec![in alloc; failing]?)?;
+    let ended = two_rounds(alloc, &mut disk);
+    let expected = if failing > 17 {
+        Ok(())
+    } else {
+        Err(StoreRefusal::DiskFault)
+    };
+    if ended != expected || disk.calls() != failing.min(17) {
+        return Err(Fail::from("ended too early or too late"));
+    }
+    Ok(disk)
+}
+
+#[test]
+fn a_fault_of_any_call_leaves_what_was_written_before(rt: HostRuntime) -> Result<(), Fail> {
+    let alloc = rt.alloc();
+    let whole = failed(alloc, 18)?;
+    // The call that fails, how many bytes of the head are written, and both slots: gate, round, next leaf.
+    for (failing, head, slots) in [
+        (1, 0, [(0, 0, 0), (0, 0, 0)]),
+        (2, 64, [(0, 0, 0), (0, 0, 0)]),
+        (3, 64, [(0, 0, 0), (0, 0, 0)]),
+        (4, 64, [(1, 0, 0), (0, 0, 0)]),
+        (5, 64, [(1, 0, 0), (0, 0, 0)]),
+        (6, 64, [(1, 0, 0), (0, 0, 0)]),
+        (7, 64, [(1, 0, 0), (0, 0, 0)]),
+        (8, 64, [(1, 0, 0), (0, 0, 0)]),
+        (9, 64, [(1, 0, 0), (0, 1, 12)]),
+        (10, 64, [(1, 0, 0), (0, 1, 12)]),
+        (11, 64, [(1, 0, 0), (1, 1, 12)]),
+        (12, 64, [(1, 0, 0), (1, 1, 12)]),
+        (13, 64, [(0, 0, 0), (1, 1, 12)]),
+        (14, 64, [(0, 0, 0), (1, 1, 12)]),
+        (15, 64, [(0, 2, 24), (1, 1, 12)]),
+        (16, 64, [(0, 2, 24), (1, 1, 12)]),
+        (17, 64, [(1, 2, 24), (1, 1, 12)]),
+        (18, 64, [(1, 2, 24), (1, 1, 12)]),
+    ] {
+        let disk = failed(alloc, failing)?;
+        let head = whole.file().get(..head).unwrap_or(&[]);
+        assert_eq!(rt;
+            disk.file(),
+            file_with(head, slots).as_slice(),
+            "at {failing}"
+        );
     }
     Ok(())
 }

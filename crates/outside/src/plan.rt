@@ -32,6 +32,13 @@ impl FaultPlan {
         }
     }
 
+    /// The number of calls so far, those that failed among them.
+    pub fn calls(&self) -> u64
+        ensures { result ≡ self.now.calls }
+    {
+        self.calls
+    }
+
     /// Counts a call, says whether it is one that fails, and counts the fault where it is.
     pub fn fails(&mut self) -> bool
         ensures answer { result ≡ fails_next self.old }

@@ -1,6 +1,6 @@
-use Rattle.std.proofs.Common.{◌≡◌, ◌++◌, ◌∷◌, [], List, ℕ, length, false, sym, ap, ◌∙◌, subst, arith}
+use Rattle.std.proofs.Common.{◌≡◌, ◌++◌, ◌∷◌, [], List, length, false, ap, ◌∙◌, arith}
 use Rattle.key_store.specs.declared.steps_taken.Step.{Step}
-use Rattle.key_store.specs.Memory.{DiskState, StepFits, fails_step, file_of}
+use Rattle.key_store.specs.Memory.{DiskState, fails_step}
 use Rattle.key_store.proofs.Disks.{no_step_fails, stepped}
 use Rattle.key_store.proofs.Named.{look_passes}
 use Rattle.key_store.proofs.Picked.{fits_still, images_push}

@@ -1,10 +1,11 @@
-use Rattle.std.proofs.Common.{◌+◌, sym, refl, subst, arith}
+use Rattle.std.proofs.Common.{ℕ, ◌+◌, sym, refl, subst, arith}
 use Rattle.key_store.proofs.Keys.{HasBegun, IsOf, enough_left, has_begun, raised_state, reserved_run, is_of, not_enough, not_later, not_old, not_short, same_exhausted, same_old}
 use Rattle.key_store.specs.Crashes.{IsMidway, IsPaired, IsRise}
-use Rattle.key_store.specs.Disk.{LeavesOf}
-use Rattle.key_store.proofs.Begun.{begun_paired, raised_midway, still_midway}
+use Rattle.key_store.specs.Disk.{IsTorn, LeavesOf}
+use Rattle.key_store.proofs.Begun.{begun_paired, raised_midway, slot_is_chosen, still_midway}
 use Rattle.key_store.proofs.Calls.{handed_is, if_told, is_told, raise_hands, raise_keeps, rest_seen, rises}
 use Rattle.key_store.proofs.Midway.{raised_paired}
+use Rattle.key_store.proofs.TornSlot.{slot_stays}
 use Rattle.key_store.proofs.store.KeyFile.begin_round.Goals as goal
 
 pub returns-then-round-kept-clause-old_round : goal.returns-then-round-kept-clause-old_round
@@ -225,3 +226,33 @@ returns-in-Done-clause-used g c = λ some.
           c.in-Ok.ensures.whole (omega (arith, c.ranges.round.fits)) (rise paired)))
           c.if-round-kept.false (handed_is c.args.round c.args.leaves c.in-Ok-reserve.run' c.self.inside.secret c.in-Ok.content c.in-Ok-reserve.ensures.reserved of.secret_is) said),
     ))
+
+pub returns-then-round-kept-clause-beside_slot : goal.returns-then-round-kept-clause-beside_slot
+returns-then-round-kept-clause-beside_slot g c = λ works.
+    slot_stays g.D.Disk.file g.D.Disk.may_leave g.D.Disk.moment g.D.Disk.left_since g.met.D.Disk.only_now c.args.disk.now c.args.self.now.image _ (c.requires works)
+
+pub returns-then-leaves-total-clause-beside_slot : goal.returns-then-leaves-total-clause-beside_slot
+returns-then-leaves-total-clause-beside_slot g c = λ works.
+    slot_stays g.D.Disk.file g.D.Disk.may_leave g.D.Disk.moment g.D.Disk.left_since g.met.D.Disk.only_now c.args.disk.now c.args.self.now.image _ (c.requires works)
+
+pub returns-in-Err-clause-beside_slot : goal.returns-in-Err-clause-beside_slot
+returns-in-Err-clause-beside_slot g c = λ works.
+    slot_stays g.D.Disk.file g.D.Disk.may_leave g.D.Disk.moment g.D.Disk.left_since g.met.D.Disk.only_now c.args.disk.now c.args.self.now.image _ (c.requires works)
+
+pub returns-in-Done-clause-beside_slot : goal.returns-in-Done-clause-beside_slot
+returns-in-Done-clause-beside_slot g c = λ works.
+    let of : IsOf c.args.self.now c.self.inside.secret c.in-Ok.content =
+    is_of c.args.self.now c.self.inside.image c.self.inside.secret c.self.inside.failed c.in-Ok.content c.self.view_is
+    (c.self.invariant c.if-self.false) (sym c.in-Ok.ensures.value) in
+    subst (λ (at : ℕ). LeavesOf g.D.Disk.moment g.D.Disk.left_since (g.D.Disk.file c.args.disk.now) c.args.disk.now c.raise.new.disk (λ file. IsTorn file at 13))
+    (slot_is_chosen c.args.self.now c.self.inside.image c.self.inside.secret c.self.inside.failed c.in-Ok.content c.chosen-at.result c.leaves-total.result
+    c.self.view_is of c.leaves-total.ensures c.chosen-at.ensures.value) c.raise.ensures.beside_slot
+
+pub returns-in-Failed-clause-beside_slot : goal.returns-in-Failed-clause-beside_slot
+returns-in-Failed-clause-beside_slot g c = λ works.
+    let of : IsOf c.args.self.now c.self.inside.secret c.in-Ok.content =
+    is_of c.args.self.now c.self.inside.image c.self.inside.secret c.self.inside.failed c.in-Ok.content c.self.view_is
+    (c.self.invariant c.if-self.false) (sym c.in-Ok.ensures.value) in
+    subst (λ (at : ℕ). LeavesOf g.D.Disk.moment g.D.Disk.left_since (g.D.Disk.file c.args.disk.now) c.args.disk.now c.raise.new.disk (λ file. IsTorn file at 13))
+    (slot_is_chosen c.args.self.now c.self.inside.image c.self.inside.secret c.self.inside.failed c.in-Ok.content c.chosen-at.result c.leaves-total.result
+    c.self.view_is of c.leaves-total.ensures c.chosen-at.ensures.value) c.raise.ensures.beside_slot
