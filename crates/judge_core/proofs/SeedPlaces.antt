@@ -12,13 +12,12 @@ use Rattle.ring_encrypt.specs.Capsule.{key_of_seed}
 use Rattle.phase_message.specs.declared.content.Body.{Body}
 use Rattle.phase_message.specs.declared.content.Body.TheVariants.{Keys, Submit, Shuffled, Abort, Go, Reveal, Dispute, Pads, Check, Confirm, Differ}
 use Rattle.phase_message.specs.declared.content.Content.{Content}
-use Rattle.phase_message.specs.declared.form.BodyForm.{BodyForm}
-use Rattle.phase_message.specs.declared.form.BodyForm.TheVariants.{Reveal as OfReveal}
 use Rattle.phase_message.specs.declared.header.Header.{Header}
 use Rattle.phase_message.specs.declared.offence.Offence.{Offence}
 use Rattle.phase_message.specs.declared.stage.StageKind.{StageKind}
 use Rattle.phase_message.specs.declared.stage.StageKind.TheVariants.{Keys as AtKeys, Submit as AtSubmit, Shuffle as AtShuffle, Go as AtGo, Final as AtFinal, Pad as AtPad, Check as AtCheck, Confirm as AtConfirm}
-use Rattle.phase_message.specs.Grammar.{Fits, IsBody, body_text, header_text, kind_number}
+use Rattle.phase_message.specs.Grammar.{IsBody, body_text, header_text, kind_number}
+use Rattle.phase_message.specs.Body.{body_form, form_of}
 use Rattle.phase_message.specs.Kinds.{IsBodyAt}
 use Rattle.phase_message.specs.Offence.{content_read}
 use Rattle.phase_message.specs.Shape.{Shape}
@@ -185,9 +184,24 @@ keys-laid shape bytes fits k =
 
 -- ---- the seed
 
-seed-fits : (form : BodyForm) (votes : List (List ℕ)) (seed : List ℕ) → Fits form (Reveal votes seed) → length seed ≡ 32
-seed-fits (OfReveal count) votes seed fits = fits.1
-seed-fits _ votes seed fits = absurd fits
+-- a body of the grammar stands at a stage of some kind
+kind-some : {F : Type 0} (o : Option StageKind) (form : Option StageKind → Option F) (f : F) → form None ≡ None → form o ≡ Some f → (kind : StageKind) × (o ≡ Some kind)
+kind-some {F} (Some kind) form f none some = (kind, refl)
+kind-some {F} None form f none some = absurd (never (form None) none some)
+  where
+    never : (o : Option F) → o ≡ None → o ≡ Some f → ⊥
+    never None none some = absurd cc
+    never (Some x) none some = absurd cc
+
+seed-at : (shape : Shape) (before : ℕ) (kind : StageKind) (votes : List (List ℕ)) (seed : List ℕ) → IsBodyAt shape before kind (Reveal votes seed) → length seed ≡ 32
+seed-at shape before (AtFinal shuffle) votes seed is = is.1
+seed-at shape before _ votes seed is = absurd is
+
+seed-long : (shape : Shape) (stage : ℕ) (votes : List (List ℕ)) (seed : List ℕ) → IsBody shape stage (Reveal votes seed) → length seed ≡ 32
+unfolding body_form
+seed-long shape stage votes seed is =
+    let kind = kind-some (kind_of_stage shape stage) (λ o. form_of shape (slots_before shape stage) o 6) is.0 refl is.1 in
+    seed-at shape (slots_before shape stage) kind.0 votes seed ((bodies_are_of_kinds shape stage kind.0 (Reveal votes seed) kind.1).0 is)
 
 pub record SeedLaid (bytes seed : List ℕ) : Type 0 where
   pub long : length seed ≡ 32
@@ -198,7 +212,7 @@ pub seed-laid : (shape : Shape) (bytes : List ℕ) → IsBytes bytes → (r : Re
 seed-laid shape bytes fits r =
     let c : Content = record { header = r.header; body = Reveal r.votes r.seed } in
     let found = content-is_spelled shape bytes c fits r.reads in
-    let long = seed-fits found.1.1.0 r.votes r.seed found.1.1.2 in
+    let long = seed-long shape r.header.stage r.votes r.seed found.1.1 in
     let votes : List ℕ = 6 ∷ flat_map prefixed r.votes in
     let front : List ℕ = header_text r.header ++ votes in
     let text : bytes ≡ front ++ r.seed = found.0 ∙ sym (append_assoc (header_text r.header) votes r.seed) in

@@ -41,7 +41,7 @@ fn put_sized(out: &mut Vec<u8>, bytes: &[u8]) -> Mem<()> {
 }
 
 // What a member says in a stage, under a view: the number of the kind, and the body. It signs with the leaf of the stage.
-fn sent(
+fn said_in(
     alloc: Global,
     group: Group,
     slot: (u8, u8),
@@ -100,18 +100,18 @@ fn past(alloc: Global, group: Group) -> Mem<Vec<Sent>> {
     let entry = zeros(alloc, 2, 36 + 6816 * usize::from(group.members))?;
     let mut all = Vec::new(alloc);
     for member in 0..group.members {
-        all.push(sent(alloc, group, (0, member + 1), &view, &keys)?)?;
+        all.push(said_in(alloc, group, (0, member + 1), &view, &keys)?)?;
     }
     for member in 0..group.members {
-        all.push(sent(alloc, group, (1, member + 1), &view, &entry)?)?;
+        all.push(said_in(alloc, group, (1, member + 1), &view, &entry)?)?;
     }
     for member in 0..group.members % 8 {
-        all.push(sent(alloc, group, (member + 2, member + 1), &view, &[4])?)?;
+        all.push(said_in(alloc, group, (member + 2, member + 1), &view, &[4])?)?;
     }
     for member in 0..group.members % 8 {
         let vote = u8::from(member + 1 < group.members);
         let slot = (group.members % 8 + 2, member + 1);
-        all.push(sent(alloc, group, slot, &view, &[5, vote])?)?;
+        all.push(said_in(alloc, group, slot, &view, &[5, vote])?)?;
     }
     Ok(all)
 }
@@ -147,7 +147,7 @@ fn dispute(
     }
     put_bytes(&mut body, &[0; 64])?;
     let slot = (group.members % 8 + 3, member);
-    Ok(sent(alloc, group, slot, view, &body)?.post)
+    Ok(said_in(alloc, group, slot, view, &body)?.post)
 }
 
 // What is to come of a transcript: who is convicted, or the check, the post and the place.
@@ -199,7 +199,7 @@ fn seeds_are_judged(
     let view = [9; 32];
     let mut reveal = zeros(alloc, 6, 8)?;
     put_bytes(&mut reveal, &SEED)?;
-    let last = sent(alloc, group, (5, 1), &view, &reveal)?;
+    let last = said_in(alloc, group, (5, 1), &view, &reveal)?;
     let mut right = vec![in alloc; 1]?;
     put_bytes(&mut right, public_of(&SEED).bytes())?;
     put_bytes(&mut right, zeros(alloc, 0, 4 * 1824 - 1)?.as_slice())?;
@@ -207,7 +207,7 @@ fn seeds_are_judged(
         (zeros(alloc, 1, 9120)?, accused(1, Claim::WrongSeed)),
         (right, failed(10, 2, 0)),
     ] {
-        let first = sent(alloc, group, (0, 1), &view, &keys)?;
+        let first = said_in(alloc, group, (0, 1), &view, &keys)?;
         let posts = vec![in alloc; first.post, last.post.clone()?]?;
         let bytes = transcript(alloc, 3, 1, posts.as_slice())?;
         assert!(rt; bytes.len() < 1 << 24);
@@ -226,14 +226,14 @@ fn logs_are_judged(
     let view = [9; 32];
     let mut right = vec![in alloc; 6]?;
     for member in [1, 2] {
-        put_sized(&mut right, &sent(alloc, group, (4, member), &view, &[5, 1])?.post)?;
+        put_sized(&mut right, &said_in(alloc, group, (4, member), &view, &[5, 1])?.post)?;
     }
     put_bytes(&mut right, &SEED)?;
     for (body, judgement) in [
         (zeros(alloc, 6, 8 + 32)?, accused(1, Claim::BadLog)),
         (right, failed(11, 1, 0)),
     ] {
-        let last = sent(alloc, group, (5, 1), &view, &body)?;
+        let last = said_in(alloc, group, (5, 1), &view, &body)?;
         let posts = vec![in alloc; last.post]?;
         let bytes = transcript(alloc, 4, 1, posts.as_slice())?;
         assert!(rt; bytes.len() < 1 << 24);
@@ -252,7 +252,7 @@ fn replays_are_judged(
     let all = past(alloc, group)?;
     let mut other = past(alloc, group)?;
     other.pop();
-    other.push(sent(alloc, group, (4, 2), &[8; 32], &[5, 0])?)?;
+    other.push(said_in(alloc, group, (4, 2), &[8; 32], &[5, 0])?)?;
     let view = view_behind(all.as_slice(), 5);
     let first = dispute(alloc, group, 1, &view, all.as_slice())?;
     let same = dispute(alloc, group, 2, &view, all.as_slice())?;
@@ -284,7 +284,7 @@ fn unjustified_comes_first(
     let first = dispute(alloc, group, 1, &view, all.as_slice())?;
     let third = dispute(alloc, group, 3, &[0; 32], all.as_slice())?;
     all.pop();
-    all.push(sent(alloc, group, (5, 3), &[8; 32], &[5, 0])?)?;
+    all.push(said_in(alloc, group, (5, 3), &[8; 32], &[5, 0])?)?;
     let second = dispute(alloc, group, 2, &view_behind(all.as_slice(), 6), all.as_slice())?;
     let posts = vec![in alloc; first, second, third]?;
     let bytes = transcript(alloc, 5, 1, posts.as_slice())?;
