@@ -1,6 +1,6 @@
--- What the judge accepts convicts, what convicts is accepted, and nobody is framed.
+-- What the judge accepts convicts, and what convicts is accepted.
 use Rattle.std.proofs.Common.{◌≡◌, ◌≢◌, ◌<◌, ℕ, Bool, true, false, not, ◌&&◌, List, [], ◌∷◌, ◌++◌, length, Option, Some, None, Result, Ok, Err, refl, sym, ap, subst, ◌∙◌, arith}
-use Rattle.std.specs.Prelude.{◌==◌, bytes_eq, Contains, is_ok}
+use Rattle.std.specs.Prelude.{◌==◌, bytes_eq, is_ok, nat_le}
 use Rattle.std.specs.List.{AllByRecursion}
 use Rattle.std.specs.Int.{w32, to_be_bytes}
 use Rattle.std.proofs.lemmas.Bool.{eqb-true, leb-true, eq-eqb, and_parts, both_ways, not-true, not-false, false_from_ne_true}
@@ -56,7 +56,6 @@ use Rattle.std.specs.Prelude.{IsSome, is_some, option_and_then}
 use Rattle.judge_core.specs.Closing.{is_justified_in, is_read_justified}
 use Rattle.judge_core.specs.WrongSeed.{is_seed_in, is_seed_of_key}
 use Rattle.judge_core.specs.Failures.{failure_of_check}
-use Rattle.judge_core.specs.Framing.{EachOfGrammar, GivesNoGround, OnePerSlot, SaidBy, NobodyIsFramed}
 use Rattle.judge_core.proofs.Replays.{replay-again, replay-found}
 use Rattle.judge_core.proofs.SeedPlaces.{is-keys, keys_body, reveal_body, seed-right}
 use Rattle.judge_core.proofs.Listed.{TakenPost, asked-again, asked-found, both-true, closing-is, file-taken, heard-again, heard-found, plain-claim, says-bytes, taken-found}
@@ -346,8 +345,9 @@ decided_claim shape bytes t claim head read decided =
 -- a transcript accuses a member, so that there is one
 members-some : (roster : Roster) (t : Transcript) → IsTranscript (shape_of_roster roster) t → 0 < (shape_of_roster roster).members
 members-some roster t form =
-    let parts = and_parts _ _ form.accused in
-    omega (arith, leb-true _ _ parts.0, leb-true _ _ parts.1)
+    let n : ℕ = (shape_of_roster roster).members in
+    let parts = and_parts (nat_le 1 t.accused) (nat_le t.accused n) form.accused in
+    omega (arith, leb-true 1 t.accused parts.0, leb-true t.accused n parts.1)
 
 pub judgement-found : (roster : Roster) (bytes : List ℕ) (a : Accepted) → IsBytes bytes → judgement_of roster bytes ≡ Ok a → Accepts roster bytes a.accused a.claim
 unfolding judgement_of
@@ -397,36 +397,3 @@ pub answered-only : (roster : Roster) (bytes : List ℕ) (result : Result Accept
     → Gives failure_of_refusal (λ a. a) result (printed_judgement_of roster bytes) → Accepts roster bytes accused claim → Gives failure_of_refusal (λ a. a) result (Ok (record { accused = accused; claim = claim }))
 answered-only roster bytes result accused claim form fits gives accepts =
     subst (λ (r : Result Accepted FailedCheck). Gives failure_of_refusal (λ a. a) result (fault_as failure_of_check r)) (judgement-again roster bytes accused claim form fits accepts) gives
-
--- ---- no framing
-
-nobody_equivocates : (roster : Roster) (t : Transcript) (sent : List (List ℕ)) → OnePerSlot sent → SaidBy roster t.round t.accused t.posts sent → Equivocates roster t → ⊥
-nobody_equivocates roster t sent one said e =
-    let first_listed : Contains t.posts e.first = subst (λ (p : List (List ℕ)). Contains p e.first) (sym e.listed) (0, omega arith, refl) in
-    let second_listed : Contains t.posts e.second = subst (λ (p : List (List ℕ)). Contains p e.second) (sym e.listed) (1, omega arith, refl) in
-    let first_sent = said e.first e.first_content e.first_header first_listed e.first_says e.first_sender in
-    let second_sent = said e.second e.second_content e.second_header second_listed e.second_says e.second_sender in
-    e.differ (one e.first_content e.second_content e.first_header e.second_header first_sent second_sent
-    e.first_says.admitted.reads e.second_says.admitted.reads
-    (e.first_says.admitted.this_round ∙ sym e.second_says.admitted.this_round) (sym e.one_stage)
-    (e.first_sender ∙ sym e.second_sender))
-
-nobody_malforms : (roster : Roster) (t : Transcript) (sent : List (List ℕ)) → EachOfGrammar (shape_of_roster roster) sent → SaidBy roster t.round t.accused t.posts sent → SaysMalformed roster t → ⊥
-nobody_malforms roster t sent each said m =
-    let listed : Contains t.posts m.post = subst (λ (p : List (List ℕ)). Contains p m.post) (sym m.listed) (0, omega arith, refl) in
-    let content = each m.content (said m.post m.content m.header listed m.says m.sender) in
-    m.outside content.0 content.1 content.2
-
-framed_by : (roster : Roster) (t : Transcript) (claim : Claim) (sent : List (List ℕ)) → GivesNoGround (shape_of_roster roster) claim sent → SaidBy roster t.round t.accused t.posts sent → Convicts roster t claim → ⊥
-framed_by roster t Equivocation sent ground said convicts = nobody_equivocates roster t sent ground said convicts
-framed_by roster t Malformed sent ground said convicts = nobody_malforms roster t sent ground said convicts
-framed_by roster t WrongSeed sent ground said convicts = ground
-framed_by roster t BadLog sent ground said convicts = ground
-framed_by roster t Replay sent ground said convicts = ground
-framed_by roster t Pad sent ground said convicts = ground
-
-pub nobody_is_framed : NobodyIsFramed
-nobody_is_framed roster bytes accused claim sent ground lists accepts =
-    let t = accepts.transcript in
-    let said : SaidBy roster t.round t.accused t.posts sent = subst (λ (n : ℕ). SaidBy roster t.round n t.posts sent) (sym accepts.accused_is) (lists t accepts.form accepts.spelled) in
-    framed_by roster t claim sent ground said accepts.convicts

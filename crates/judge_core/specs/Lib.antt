@@ -3,7 +3,6 @@ pub mod Checks
 pub mod Closing
 pub mod Embedding
 pub mod Failures
-pub mod Framing
 pub mod Pad
 pub mod PadLog
 pub mod Replay

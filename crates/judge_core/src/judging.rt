@@ -9,9 +9,9 @@ ghost use Rattle.group_roster.specs.Roster.{shape_of_roster};
 ghost use Rattle.transcript_form.specs.Claim.{claim_posts};
 ghost use Rattle.transcript_form.specs.Refusals.{failure_of_refusal};
 ghost use Rattle.conviction.specs.Accepts.{Accepts};
+ghost use Rattle.conviction.specs.Framing.{HasNoHonestRun, NoRunsSaid};
 ghost use Rattle.judge_core.specs.Checks.{JudgingWantsMemory, WantsMemory, conviction_of, failed_of, is_decided, judgement_of, printed_judgement_of};
 ghost use Rattle.judge_core.specs.Case.{case_of};
-ghost use Rattle.judge_core.specs.Framing.{GivesNoGround, ListsSaid};
 
 use crate::bad_log::bad_log;
 use crate::failed_check::{FailedCheck, Unjudged};
@@ -34,11 +34,10 @@ pub struct Accepted {
 /// Whom the bytes of a transcript convict under a roster, and of what. `Check` names the first check
 /// that they fail, as `FailedCheck` has them. Pad is not decided so far: it fails check 2 at 5, before what
 /// follows it is looked at. Nothing of the bytes is copied before all listed posts pass the checks 1 to 7, and out of
-/// memory hides none of these.
+/// memory hides none of these; in Equivocation, Malformed and WrongSeed it hides nothing.
 ///
 /// It stands on no premise: what convicts is accepted, whoever wrote it down, and nothing else is. A
-/// member whose contents give no ground for a claim is not convicted of it, unless its signature was forged; of
-/// WrongSeed, BadLog and Replay that is not promised yet.
+/// member that follows the rules is not convicted, unless its signature was forged or two hashed strings collide.
 pub fn judge(alloc: Global, roster: &Roster, bytes: &[u8]) -> Result<Accepted, Refused>
     requires few { length bytes.now < 2 ^ 32 }
     ensures exact { Gives failure_of_refusal (λ a. a) result (printed_judgement_of (roster_of roster.now) bytes.now) }
@@ -49,9 +48,10 @@ pub fn judge(alloc: Global, roster: &Roster, bytes: &[u8]) -> Result<Accepted, R
     ensures only { (accused : ℕ) (claim : Claim) → Accepts (roster_of roster.now) bytes.now accused claim →
         Gives failure_of_refusal (λ a. a) result (Ok record { accused = accused; claim = claim }) }
 
-    // Whoever sent each listed post that is its own, and no content that gives ground for the claim, is not accused.
-    ensures no_framing { IfOk result (λ a. (sent : List (List ℕ)) → GivesNoGround (shape_of_roster (roster_of roster.now)) a.claim sent →
-        ListsSaid (roster_of roster.now) bytes.now a.accused sent → ⊥) }
+    // Nobody honest is accused: no honest run is of the accused, unless a signature was forged or two hashed strings collide;
+    // and no honest runs said what is listed of it, unless two hashed strings collide.
+    ensures honest { IfOk result (λ a. HasNoHonestRun (roster_of roster.now) bytes.now a.accused) }
+    ensures no_framing { IfOk result (λ a. NoRunsSaid (roster_of roster.now) bytes.now a.accused) }
 {
     match judgement(alloc, roster, bytes) {
         Ok(accepted) => Ok(accepted),

@@ -2,15 +2,8 @@
 //! contract of each states a law, and its proof is a lemma in proofs/.
 
 ghost use Rattle.judge_core.specs.Checks.{AcceptsExactly};
-ghost use Rattle.judge_core.specs.Framing.{NobodyIsFramed};
 
 /// The checks refuse exactly what does not convict.
 pub fn checks_are_exact()
     ensures { AcceptsExactly }
-{}
-
-/// Nothing convicts a member of which every listed post is one that it sent, with one content for each
-/// slot of a round.
-pub fn nobody_is_framed()
-    ensures { NobodyIsFramed }
 {}

@@ -22,4 +22,4 @@ mod wrong_seed;
 pub use embedding::{EmbeddedRefusal, embedded};
 pub use failed_check::FailedCheck;
 pub use judging::{Accepted, judge};
-pub use laws::{checks_are_exact, nobody_is_framed};
+pub use laws::checks_are_exact;

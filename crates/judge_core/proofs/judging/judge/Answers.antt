@@ -1,5 +1,6 @@
 use Rattle.group_roster.specs.Given.{roster_of}
 use Rattle.std.proofs.Common.{◌≡◌, arith, sym, ap, subst, Result, Ok, Err}
+use Rattle.wire_core.specs.Bytes.{IsBytes}
 use Rattle.wire_core.specs.Answers.{Gives, fault_as}
 use Rattle.judge_core.specs.declared.judging.Accepted.{Accepted}
 use Rattle.judge_core.specs.declared.failed_check.FailedCheck.{FailedCheck}
@@ -8,7 +9,8 @@ use Rattle.transcript_form.specs.declared.refusal.Refused.TheVariants.{Check}
 use Rattle.transcript_form.specs.Refusals.{failure_of_refusal}
 use Rattle.judge_core.specs.Checks.{judgement_of}
 use Rattle.judge_core.specs.Failures.{failed_number, failed_post, failed_at, failure_of_check}
-use Rattle.judge_core.proofs.Convictions.{judgement-found, nobody_is_framed, answered-only}
+use Rattle.conviction.proofs.Framings.{no_framing, nobody_honest_is_convicted}
+use Rattle.judge_core.proofs.Convictions.{judgement-found, answered-only}
 use Rattle.judge_core.proofs.judging.judge.Goals as goal
 
 abbrev refusal : Refused → Result Accepted Refused
@@ -18,10 +20,17 @@ pub returns-in-Ok-clause-accepted : goal.returns-in-Ok-clause-accepted
 returns-in-Ok-clause-accepted c =
     judgement-found (roster_of c.args.roster.now) c.args.bytes.now c.in-Ok.accepted (λ i. omega (arith, c.type_inv.bytes i)) c.in-Ok.ensures.exact
 
+pub returns-in-Ok-clause-honest : goal.returns-in-Ok-clause-honest
+returns-in-Ok-clause-honest c =
+    let fits : IsBytes c.args.bytes.now = λ i. omega (arith, c.type_inv.bytes i) in
+    nobody_honest_is_convicted (roster_of c.args.roster.now) c.args.bytes.now c.in-Ok.accepted.accused c.in-Ok.accepted.claim fits
+    (judgement-found (roster_of c.args.roster.now) c.args.bytes.now c.in-Ok.accepted fits c.in-Ok.ensures.exact)
+
 pub returns-in-Ok-clause-no_framing : goal.returns-in-Ok-clause-no_framing
-returns-in-Ok-clause-no_framing c = λ sent ground lists.
-    nobody_is_framed (roster_of c.args.roster.now) c.args.bytes.now c.in-Ok.accepted.accused c.in-Ok.accepted.claim sent ground lists
-    (judgement-found (roster_of c.args.roster.now) c.args.bytes.now c.in-Ok.accepted (λ i. omega (arith, c.type_inv.bytes i)) c.in-Ok.ensures.exact)
+returns-in-Ok-clause-no_framing c =
+    let fits : IsBytes c.args.bytes.now = λ i. omega (arith, c.type_inv.bytes i) in
+    no_framing (roster_of c.args.roster.now) c.args.bytes.now c.in-Ok.accepted.accused c.in-Ok.accepted.claim fits
+    (judgement-found (roster_of c.args.roster.now) c.args.bytes.now c.in-Ok.accepted fits c.in-Ok.ensures.exact)
 
 pub returns-in-Ok-clause-only : goal.returns-in-Ok-clause-only
 returns-in-Ok-clause-only c = λ accused claim accepts.
