@@ -64,7 +64,8 @@ abbrev row_pads : Configuration → List (List ℕ) → List (List ℕ)
 row_pads c past = map (pad_for c (own_descriptor c past)) (items_opened (shape_in c) past 1)
 
 -- a pad by a capsule is as long as the descriptor says
-found-short : (n : ℕ) (member : ℕ) (seed entry : List ℕ) (o : Option Description) → descriptor_read n entry ≡ o → length (unwrap_or (option_and_then (λ d. pad_found d member seed) o) []) ≤ 65536
+found-short : (n : ℕ) (member : ℕ) (seed entry : List ℕ) (o : Option Description) → descriptor_read n entry ≡ o
+    → length (unwrap_or (option_and_then (λ d. pad_found d member seed) o) []) ≤ 65536
 unfolding pad_found
 found-short n member seed entry None e = omega arith
 found-short n member seed entry (Some d) e = by_seed (opened seed (capsule_for d member))
@@ -86,16 +87,19 @@ found-short n member seed entry (Some d) e = by_seed (opened seed (capsule_for d
 row-apart : (n : ℕ) (own kept : List ℕ) (member : ℕ) (seed entry : List ℕ) → bytes_eq entry own ≡ false
     → pad_row n own kept member seed entry ≡ unwrap_or (option_and_then (λ d. pad_found d member seed) (descriptor_read n entry)) []
 unfolding pad_row
-row-apart n own kept member seed entry apart = cond-false (bytes_eq entry own) kept (unwrap_or (option_and_then (λ d. pad_found d member seed) (descriptor_read n entry)) []) apart
+row-apart n own kept member seed entry apart =
+    cond-false (bytes_eq entry own) kept (unwrap_or (option_and_then (λ d. pad_found d member seed) (descriptor_read n entry)) []) apart
 
 pad-short : (c : Configuration) (own : List ℕ) (item : Option (List ℕ)) → length c.message ≤ 65536 → length (pad_for c own item) ≤ 65536
 pad-short c own None message = omega arith
 pad-short c own (Some entry) message = elim (cases_Bool (bytes_eq entry own)) [
   | inl same ↦
-      let kept : pad_for c own (Some entry) ≡ own_pad (own_pad_seeds c) c.number c.message = pad_row-own (shape_in c).members own _ c.number (own_key_seed c bulk_place) entry same in
+      let kept : pad_for c own (Some entry) ≡ own_pad (own_pad_seeds c) c.number c.message =
+      pad_row-own (shape_in c).members own _ c.number (own_key_seed c bulk_place) entry same in
       omega (arith, message, ap length kept, length-own_pad (own_pad_seeds c) c.number c.message)
   | inr apart ↦
-      let found : pad_for c own (Some entry) ≡ unwrap_or (option_and_then (λ d. pad_found d c.number (own_key_seed c bulk_place)) (descriptor_read (shape_in c).members entry)) [] = row-apart (shape_in c).members own _ c.number (own_key_seed c bulk_place) entry apart in
+      let found : pad_for c own (Some entry) ≡ unwrap_or (option_and_then (λ d. pad_found d c.number (own_key_seed c bulk_place)) (descriptor_read (shape_in c).members entry)) [] =
+      row-apart (shape_in c).members own _ c.number (own_key_seed c bulk_place) entry apart in
       omega (arith, ap length found, found-short (shape_in c).members c.number (own_key_seed c bulk_place) entry (descriptor_read (shape_in c).members entry) refl)
 ]
 
@@ -113,11 +117,13 @@ unfolding hashed
 texts-same xs ys short short' e = (hashed_determines PadHash PadHash xs ys short short' (ap (λ (text : List ℕ). magic ++ tag_number PadHash ∷ text) e)).1
 
 -- what the own pads post lists is the row
-pads-own : (run : Run) (header : Header) (pads : List (List ℕ)) (own : IsRowOf run (record { header = header; body = Pads pads })) → length run.config.message ≤ 65536 → own.row.stage ≡ pad_stage (shape_in run.config)
+pads-own : (run : Run) (header : Header) (pads : List (List ℕ)) (own : IsRowOf run (record { header = header; body = Pads pads }))
+    → length run.config.message ≤ 65536 → own.row.stage ≡ pad_stage (shape_in run.config)
     → pads ≡ row_pads run.config (contents_of own.row.past)
 unfolding pads_row
 pads-own run header pads own message at =
-    texts-same pads (row_pads c (contents_of own.row.past)) (pieces-short pads fits.0) (all-short c (own_descriptor c (contents_of own.row.past)) (items_opened (shape_in c) (contents_of own.row.past) 1) message)
+    texts-same pads (row_pads c (contents_of own.row.past)) (pieces-short pads fits.0)
+    (all-short c (own_descriptor c (contents_of own.row.past)) (items_opened (shape_in c) (contents_of own.row.past) 1) message)
     (ap body_text (sym body) ∙ (row-text run own.text own.row).text ∙ ap body_text due)
   where
     c : Configuration
@@ -150,7 +156,8 @@ entry-at n (None ∷ items) zero d e = absurd cc
 entry-at n (Some entry ∷ items) zero d e = (entry, refl, e)
 entry-at n (item ∷ items) (suc k) d e = entry-at n items k d e
 
-slot-descriptor : (descriptors : List (Option Description)) (slot : ℕ) (d : Description) → descriptor_at descriptors slot ≡ Some d → slice_index_or descriptors (slot - 1) None ≡ Some d
+slot-descriptor : (descriptors : List (Option Description)) (slot : ℕ) (d : Description) → descriptor_at descriptors slot ≡ Some d
+    → slice_index_or descriptors (slot - 1) None ≡ Some d
 slot-descriptor descriptors slot d e = elim (cases_Bool (nat_le 1 slot)) [
   | inl some ↦ sym (cond-true (nat_le 1 slot) (slice_index_or descriptors (slot - 1) None) None some) ∙ e
   | inr none ↦ absurd (let nothing = sym (cond-false (nat_le 1 slot) (slice_index_or descriptors (slot - 1) None) None none) ∙ e in cc)
@@ -162,7 +169,8 @@ unfolding descriptors_opened
 opened-at shape past slot d e = entry-at shape.members (items_opened shape past 1) (slot - 1) d (slot-descriptor (descriptors_opened shape past) slot d e)
 
 -- the pad of the accused for a slot
-sent-is : (shape : Shape) (accused slot : ℕ) (pads : List (List ℕ)) → 1 ≤ accused → accused ≤ shape.members → pad_sent (table_of shape accused pads) accused slot ≡ slice_index_or pads (slot - 1) []
+sent-is : (shape : Shape) (accused slot : ℕ) (pads : List (List ℕ)) → 1 ≤ accused → accused ≤ shape.members
+    → pad_sent (table_of shape accused pads) accused slot ≡ slice_index_or pads (slot - 1) []
 sent-is shape accused slot pads least most =
     ap (λ (row : List (List ℕ)). slice_index_or row (slot - 1) [])
     (get_or_from_slice_get (table_of shape accused pads) (accused - 1) _ [] (by-member (λ m. if m == accused then pads else []) shape.members accused least most)
@@ -195,7 +203,8 @@ bulk-key run content own honest least =
 -- ---- the two cases
 
 -- the pad of the seed that a capsule opens to
-found-opened : (d : Description) (member : ℕ) (seed s : List ℕ) → opened seed (capsule_for d member) ≡ Some s → hash_of_pad (pad_of s d.length) ≡ pad_hash_for d member → pad_found d member seed ≡ Some (pad_of s d.length)
+found-opened : (d : Description) (member : ℕ) (seed s : List ℕ) → opened seed (capsule_for d member) ≡ Some s
+    → hash_of_pad (pad_of s d.length) ≡ pad_hash_for d member → pad_found d member seed ≡ Some (pad_of s d.length)
 unfolding pad_found
 found-opened d member seed s opens hash =
     let pad : List ℕ = pad_of s d.length in
@@ -203,7 +212,8 @@ found-opened d member seed s opens hash =
     ∙ cond-true (bytes_eq (hash_of_pad pad) (pad_hash_for d member)) (Some pad) None ((bytes_eq-Decides (hash_of_pad pad) (pad_hash_for d member)).1 hash)
 
 -- an honest member can make its descriptor
-can-make : (run : Run) (past : List (List ℕ)) → HonestRun run → CanMake (shape_in run.config).members (keys_said (shape_in run.config) past bulk_place) (own_pad_seeds run.config) run.config.number run.config.message
+can-make : (run : Run) (past : List (List ℕ)) → HonestRun run
+    → CanMake (shape_in run.config).members (keys_said (shape_in run.config) past bulk_place) (own_pad_seeds run.config) run.config.number run.config.message
 can-make run past honest =
     let c = run.config in
     let shape = shape_in c in
@@ -221,7 +231,8 @@ can-make run past honest =
     }
 
 -- what is read of the own descriptor
-own-read : (run : Run) (past : List (List ℕ)) → HonestRun run → descriptor_read (shape_in run.config).members (own_descriptor run.config past) ≡ Some (own_description run.config past)
+own-read : (run : Run) (past : List (List ℕ)) → HonestRun run
+    → descriptor_read (shape_in run.config).members (own_descriptor run.config past) ≡ Some (own_description run.config past)
 unfolding own_descriptor
 own-read run past honest =
     let c = run.config in
@@ -232,7 +243,8 @@ description-same : (a b : Description) → (let told : Description → Option De
 description-same a b e = cc
 
 -- the own pad is among those that the own descriptor asks for
-own-made : (run : Run) → HonestRun run → Contains (made_pads (own_pad_seeds run.config) run.config.number run.config.message) (own_pad (own_pad_seeds run.config) run.config.number run.config.message)
+own-made : (run : Run) → HonestRun run
+    → Contains (made_pads (own_pad_seeds run.config) run.config.number run.config.message) (own_pad (own_pad_seeds run.config) run.config.number run.config.message)
 own-made run honest =
     let c = run.config in
     let seeds : List (List ℕ) = own_pad_seeds c in
@@ -245,7 +257,8 @@ own-made run honest =
 
 -- ---- the law
 
-frame-pad : (run : Run) (runs : List Run) (t : Transcript) → Contains runs run → OneRun t run → IsTranscript (shape_in run.config) t → IsBytes (transcript_spelling t) → NoneCollide run.config.roster runs (transcript_spelling t)
+frame-pad : (run : Run) (runs : List Run) (t : Transcript) → Contains runs run → OneRun t run → IsTranscript (shape_in run.config) t
+    → IsBytes (transcript_spelling t) → NoneCollide run.config.roster runs (transcript_spelling t)
     → ShowsBadPad run.config.roster t → ⊥
 frame-pad run runs t listed one form bytes none e = held.2.other (sent ∙ either)
   where
@@ -319,18 +332,21 @@ frame-pad run runs t listed one form bytes none e = held.2.other (sent ∙ eithe
         let sealed : capsule_for d c.number ≡ capsule_of (key_of_seed seed) a.seed =
         subst (λ (m : ℕ). capsule_for d m ≡ capsule_of (key_for keys m) a.seed) number held.2.sealed
         ∙ ap (λ (key : List ℕ). capsule_of key a.seed) (bulk-key run _ own one.honest (let some : pad_stage shape ≡ shape.members + 4 = refl in omega (arith, at, some))) in
-        let opens : opened seed (capsule_for d c.number) ≡ Some a.seed = (opens_exactly seed (capsule_for d c.number) a.seed).1 (seed-message t a bytes e.detail long, sealed) in
+        let opens : opened seed (capsule_for d c.number) ≡ Some a.seed =
+        (opens_exactly seed (capsule_for d c.number) a.seed).1 (seed-message t a bytes e.detail long, sealed) in
         pad_row-other shape.members own_bytes kept c.number seed item.0 pad d apart item.2 (found-opened d c.number seed a.seed opens hash)
 
     -- for its own it sends its own pad, and no other has the hash
     of_own : item.0 ≡ own_bytes → pad_row shape.members own_bytes kept c.number seed item.0 ≡ pad
     of_own is =
         let can = can-make run past one.honest in
-        let made : d ≡ own_description c past = description-same d (own_description c past) (sym item.2 ∙ ap (descriptor_read shape.members) is ∙ own-read run past one.honest) in
+        let made : d ≡ own_description c past =
+        description-same d (own_description c past) (sym item.2 ∙ ap (descriptor_read shape.members) is ∙ own-read run past one.honest) in
         let size : d.length ≡ length c.message = ap (λ (x : Description). x.length) made ∙ length_of-made keys (own_pad_seeds c) c.number c.message in
         let message = one.honest.config.message in
         pad_row-own shape.members own_bytes kept c.number seed item.0 ((bytes_eq-Decides item.0 own_bytes).1 is)
-        ∙ fits_determines (strings_of_runs runs ++ strings_of_evidence c.roster (transcript_spelling t)) d c.number kept pad (omega (arith, size, message)) none of_run of_accusation
+        ∙ fits_determines (strings_of_runs runs ++ strings_of_evidence c.roster (transcript_spelling t)) d c.number kept pad
+        (omega (arith, size, message)) none of_run of_accusation
         (subst (λ (x : Description). fits x c.number kept ≡ true) (sym made) (own_pad_fits shape.members keys (own_pad_seeds c) c.number c.message can))
         (fits_from d c.number pad (length-pad_of a.seed d.length) hash)
       where

@@ -64,8 +64,10 @@ row-text run content row =
     one-body row.read (content_due run content row) (row-header run content row) (sym row.spelled ∙ due-text run content row)
 
 -- where that is a body of the grammar, it is what is read
-pub row-is : (run : Run) (content : List ℕ) (row : IsOwnRow run content) → IsBody (shape_in run.config) row.stage (body_due run content row) → row.read ≡ content_due run content row
+pub row-is : (run : Run) (content : List ℕ) (row : IsOwnRow run content) → IsBody (shape_in run.config) row.stage (body_due run content row)
+    → row.read ≡ content_due run content row
 row-is run content row is =
-    let header : IsHeader (shape_in run.config) (own_header run.config row.past row.stage) = subst (IsHeader (shape_in run.config)) (row-header run content row) row.grammar.0 in
+    let header : IsHeader (shape_in run.config) (own_header run.config row.past row.stage) =
+    subst (IsHeader (shape_in run.config)) (row-header run content row) row.grammar.0 in
     contents-same row.read (content_due run content row) (content_read (shape_in run.config) content) (row-reads run content row)
     (ap (content_read (shape_in run.config)) (due-text run content row) ∙ content-is_read (shape_in run.config) (content_due run content row) (header, is))

@@ -92,7 +92,8 @@ own-justified run stage past content is embeds justified =
 
 -- ---- closing bodies are of the grammar
 
-all-written : (xs : List Post) → ((k : ℕ) (post : Post) → slice_get xs k ≡ Some post → length (post_spelling post) < 2 ^ 32) → AllByRecursion (λ item. length item < 2 ^ 32) (written xs)
+all-written : (xs : List Post) → ((k : ℕ) (post : Post) → slice_get xs k ≡ Some post → length (post_spelling post) < 2 ^ 32)
+    → AllByRecursion (λ item. length item < 2 ^ 32) (written xs)
 all-written [] short = tt
 all-written (x ∷ xs) short = (short 0 x refl, all-written xs (λ k post at. short (suc k) post at))
 
@@ -104,7 +105,8 @@ stage-short shape posts stage short =
     all-written (posts_at shape posts stage) (λ k post at. short (a + k) post (sym (get_drop posts a k) ∙ (take-get (drop a posts) (b - a) k post at).1))
 
 -- as many votes as members stand before a closing stage
-votes-count : (shape : Shape) (posts : List Post) (stage : ℕ) (kind vote : StageKind) → kind_of_stage shape stage ≡ Some kind → vote_of kind ≡ Some vote → senders_of shape vote ≡ shape.members
+votes-count : (shape : Shape) (posts : List Post) (stage : ℕ) (kind vote : StageKind) → kind_of_stage shape stage ≡ Some kind → vote_of kind ≡ Some vote
+    → senders_of shape vote ≡ shape.members
     → length posts ≡ slots_before shape stage → length (written (posts_at shape posts (stage - 1))) ≡ shape.members
 votes-count shape posts stage kind vote at closes all whole =
     let follows = closing-follows shape stage kind vote at closes in
@@ -118,22 +120,30 @@ votes-count shape posts stage kind vote at closes all whole =
     ∙ length-take-le (b - a) (drop a posts) (omega (arith, whole, end, next, length-drop a posts))
     ∙ omega (arith, next, all)
 
-pub final-body : (shape : Shape) (posts : List Post) (stage shuffle : ℕ) (inner outer opening : List ℕ) → kind_of_stage shape stage ≡ Some (Final shuffle) → length posts ≡ slots_before shape stage
-    → ((k : ℕ) (post : Post) → slice_get posts k ≡ Some post → length (post_spelling post) < 2 ^ 32) → length inner ≡ 32 → length outer ≡ 32 → length opening ≡ 32
+pub final-body : (shape : Shape) (posts : List Post) (stage shuffle : ℕ) (inner outer opening : List ℕ) → kind_of_stage shape stage ≡ Some (Final shuffle)
+    → length posts ≡ slots_before shape stage
+    → ((k : ℕ) (post : Post) → slice_get posts k ≡ Some post → length (post_spelling post) < 2 ^ 32) → length inner ≡ 32 → length outer ≡ 32
+    → length opening ≡ 32
     → IsBody shape stage (final_row shape posts stage inner outer opening)
 unfolding final_row body_form
 final-body shape posts stage shuffle inner outer opening kind whole short i o p =
     elim (cases_Bool (votes_agree shape (contents_of posts) stage)) [
-      | inl agree ↦ subst (IsBody shape stage) (sym (cond-true (votes_agree shape (contents_of posts) stage) (Reveal (written (posts_at shape posts (stage - 1))) inner) (Dispute (written posts) outer opening) agree)) (
-        _,
-        ap (λ (k : Option StageKind). form_of shape (slots_before shape stage) k 6) kind,
-        ((stage-short shape posts (stage - 1) short, votes-count shape posts stage (Final shuffle) (Go shuffle) kind refl refl whole), i),
-      )
-      | inr differ ↦ subst (IsBody shape stage) (sym (cond-false (votes_agree shape (contents_of posts) stage) (Reveal (written (posts_at shape posts (stage - 1))) inner) (Dispute (written posts) outer opening) differ)) (
-        _,
-        ap (λ (k : Option StageKind). form_of shape (slots_before shape stage) k 7) kind,
-        ((all-written posts short, length-map posts post_spelling ∙ whole), o, p),
-      )
+      | inl agree ↦
+          subst (IsBody shape stage)
+          (sym (cond-true (votes_agree shape (contents_of posts) stage) (Reveal (written (posts_at shape posts (stage - 1))) inner)
+          (Dispute (written posts) outer opening) agree)) (
+            _,
+            ap (λ (k : Option StageKind). form_of shape (slots_before shape stage) k 6) kind,
+            ((stage-short shape posts (stage - 1) short, votes-count shape posts stage (Final shuffle) (Go shuffle) kind refl refl whole), i),
+          )
+      | inr differ ↦
+          subst (IsBody shape stage)
+          (sym (cond-false (votes_agree shape (contents_of posts) stage) (Reveal (written (posts_at shape posts (stage - 1))) inner)
+          (Dispute (written posts) outer opening) differ)) (
+            _,
+            ap (λ (k : Option StageKind). form_of shape (slots_before shape stage) k 7) kind,
+            ((all-written posts short, length-map posts post_spelling ∙ whole), o, p),
+          )
     ]
 
 pub confirm-body : (shape : Shape) (posts : List Post) (stage : ℕ) → kind_of_stage shape stage ≡ Some Confirm → length posts ≡ slots_before shape stage
@@ -142,16 +152,20 @@ pub confirm-body : (shape : Shape) (posts : List Post) (stage : ℕ) → kind_of
 unfolding confirm_row body_form
 confirm-body shape posts stage kind whole short =
     elim (cases_Bool (votes_agree shape (contents_of posts) stage)) [
-      | inl agree ↦ subst (IsBody shape stage) (sym (cond-true (votes_agree shape (contents_of posts) stage) (ConfirmBody (written (posts_at shape posts (stage - 1)))) (Differ (written posts)) agree)) (
-        _,
-        ap (λ (k : Option StageKind). form_of shape (slots_before shape stage) k 10) kind,
-        (stage-short shape posts (stage - 1) short, votes-count shape posts stage Confirm Check kind refl refl whole),
-      )
-      | inr differ ↦ subst (IsBody shape stage) (sym (cond-false (votes_agree shape (contents_of posts) stage) (ConfirmBody (written (posts_at shape posts (stage - 1)))) (Differ (written posts)) differ)) (
-        _,
-        ap (λ (k : Option StageKind). form_of shape (slots_before shape stage) k 11) kind,
-        (all-written posts short, length-map posts post_spelling ∙ whole),
-      )
+      | inl agree ↦
+          subst (IsBody shape stage)
+          (sym (cond-true (votes_agree shape (contents_of posts) stage) (ConfirmBody (written (posts_at shape posts (stage - 1)))) (Differ (written posts)) agree)) (
+            _,
+            ap (λ (k : Option StageKind). form_of shape (slots_before shape stage) k 10) kind,
+            (stage-short shape posts (stage - 1) short, votes-count shape posts stage Confirm Check kind refl refl whole),
+          )
+      | inr differ ↦
+          subst (IsBody shape stage)
+          (sym (cond-false (votes_agree shape (contents_of posts) stage) (ConfirmBody (written (posts_at shape posts (stage - 1)))) (Differ (written posts)) differ)) (
+            _,
+            ap (λ (k : Option StageKind). form_of shape (slots_before shape stage) k 11) kind,
+            (all-written posts short, length-map posts post_spelling ∙ whole),
+          )
     ]
 
 -- ---- the own closing content
@@ -184,12 +198,14 @@ due-at run content row o = record {
   body = own_body_if run.config (own_descriptor run.config (contents_of row.past)) row.past row.stage o;
 }
 
-pub final-is : (run : Run) (content : List ℕ) (row : IsOwnRow run content) (shuffle : ℕ) → HonestRun run → kind_of_stage (shape_in run.config) row.stage ≡ Some (Final shuffle)
+pub final-is : (run : Run) (content : List ℕ) (row : IsOwnRow run content) (shuffle : ℕ) → HonestRun run
+    → kind_of_stage (shape_in run.config) row.stage ≡ Some (Final shuffle)
     → row.read ≡ own_final run shuffle row.past row.stage
 final-is run content row shuffle honest kind =
     let is = is-past run row.stage row.past honest row.before in
     let due : content_due run content row ≡ own_final run shuffle row.past row.stage = ap (due-at run content row) kind in
-    let body = final-body (shape_in run.config) row.past row.stage shuffle _ _ _ kind is.long is.short (hash_bytes _ _).0 (hash_bytes _ _).0 (hash_bytes _ _).0 in
+    let body =
+    final-body (shape_in run.config) row.past row.stage shuffle _ _ _ kind is.long is.short (hash_bytes _ _).0 (hash_bytes _ _).0 (hash_bytes _ _).0 in
     row-is run content row (subst (λ (c : Content). IsBody (shape_in run.config) row.stage c.body) (sym due) body) ∙ due
 
 pub confirm-is : (run : Run) (content : List ℕ) (row : IsOwnRow run content) → HonestRun run → kind_of_stage (shape_in run.config) row.stage ≡ Some Confirm
@@ -201,7 +217,8 @@ confirm-is run content row honest kind =
     let body = confirm-body (shape_in run.config) row.past row.stage kind is.long is.short in
     row-is run content row (subst (λ (c : Content). IsBody (shape_in run.config) row.stage c.body) (sym due) body) ∙ due
 
-pub own-closing : (run : Run) (content : List ℕ) (row : IsOwnRow run content) → HonestRun run → IsSome (option_and_then vote_of (kind_of_stage (shape_in run.config) row.stage)) → OwnClosing run row.past row.read
+pub own-closing : (run : Run) (content : List ℕ) (row : IsOwnRow run content) → HonestRun run
+    → IsSome (option_and_then vote_of (kind_of_stage (shape_in run.config) row.stage)) → OwnClosing run row.past row.read
 own-closing run content row honest closing = elim (closing-kind (kind_of_stage (shape_in run.config) row.stage) closing) [
   | inl (shuffle, kind) ↦ subst (OwnClosing run row.past) (sym (final-is run content row shuffle honest kind)) (at_final shuffle)
   | inr kind ↦ subst (OwnClosing run row.past) (sym (confirm-is run content row honest kind)) at_confirm
@@ -221,7 +238,8 @@ own-closing run content row honest closing = elim (closing-kind (kind_of_stage (
         let opening : List ℕ = own_opening run.config shuffle 2 in
         let embeds = final-embeds shape row.past header inner outer opening is.long in
         record {
-          justified = own-justified run row.stage row.past (own_final run shuffle row.past row.stage) is embeds (final-justified shape row.past header inner outer opening closing refl);
+          justified =
+              own-justified run row.stage row.past (own_final run shuffle row.past row.stage) is embeds (final-justified shape row.past header inner outer opening closing refl);
           embeds = own-embeds run row.stage row.past (own_final run shuffle row.past row.stage) is embeds;
         }
 
@@ -230,6 +248,7 @@ own-closing run content row honest closing = elim (closing-kind (kind_of_stage (
         let header = own_header run.config row.past row.stage in
         let embeds = confirm-embeds shape row.past header is.long in
         record {
-          justified = own-justified run row.stage row.past (confirm_content shape row.past header) is embeds (confirm-justified shape row.past header closing refl);
+          justified =
+              own-justified run row.stage row.past (confirm_content shape row.past header) is embeds (confirm-justified shape row.past header closing refl);
           embeds = own-embeds run row.stage row.past (confirm_content shape row.past header) is embeds;
         }

@@ -16,7 +16,8 @@ use Rattle.conviction.proofs.Posts.{frame_equivocation, frame_malformed, unforge
 use Rattle.conviction.proofs.ReplayStrings.{frame_replay}
 
 -- what a claim asks of the listed posts is not shown
-not-shown : (roster : Roster) (runs : List Run) (t : Transcript) (claim : Claim) → AreHonest roster runs → IsTranscript (shape_of_roster roster) t → IsBytes (transcript_spelling t) → NoneCollide roster runs (transcript_spelling t)
+not-shown : (roster : Roster) (runs : List Run) (t : Transcript) (claim : Claim) → AreHonest roster runs → IsTranscript (shape_of_roster roster) t
+    → IsBytes (transcript_spelling t) → NoneCollide roster runs (transcript_spelling t)
     → SaidBy roster runs t.accused t.round t.posts → Convicts roster t claim → ⊥
 not-shown roster runs t Equivocation honest form bytes none said shows = frame_equivocation roster runs t honest said shows
 not-shown roster runs t Malformed honest form bytes none said shows = frame_malformed roster runs t honest said shows

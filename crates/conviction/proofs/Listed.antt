@@ -60,7 +60,8 @@ said-bytes roster round bytes content header is says =
     IsBytes-back (to_be_bytes w32 (length content)) content (IsBytes-front (to_be_bytes w32 (length content) ++ content) says.signature spelled)
 
 -- a content that a file says is of the grammar
-pub file-grammar : (roster : Roster) (round : ℕ) (bytes : List ℕ) (content : Content) → IsBytes bytes → IsPostFile roster round bytes content → OfGrammar (shape_of_roster roster) content
+pub file-grammar : (roster : Roster) (round : ℕ) (bytes : List ℕ) (content : Content) → IsBytes bytes → IsPostFile roster round bytes content
+    → OfGrammar (shape_of_roster roster) content
 file-grammar roster round bytes content is file =
     (content-is_spelled (shape_of_roster roster) file.text content (said-bytes roster round bytes file.text content.header is file.says) file.reads).1
 
@@ -101,16 +102,19 @@ seed-message t a is detail long = record { length = long; bytes = seed }
 -- ---- contents and strings
 
 -- a listed post that reads is among the contents that are listed
-pub content-listed : (roster : Roster) (t : Transcript) (bytes : List ℕ) (content : Content) → Contains t.posts bytes → IsPostFile roster t.round bytes content → Contains (contents_listed roster t) content
+pub content-listed : (roster : Roster) (t : Transcript) (bytes : List ℕ) (content : Content) → Contains t.posts bytes → IsPostFile roster t.round bytes content
+    → Contains (contents_listed roster t) content
 unfolding contents_read
 content-listed roster t bytes content listed file =
-    contains-filter_map-from (λ (post : Post). result_ok (content_read (shape_of_roster roster) post.content)) (posts_listed t) (record { content = file.text; signature = file.says.signature }) content
+    contains-filter_map-from (λ (post : Post). result_ok (content_read (shape_of_roster roster) post.content)) (posts_listed t)
+    (record { content = file.text; signature = file.says.signature }) content
     (contains-filter_map-from (λ bytes. result_ok (frame_of bytes)) t.posts bytes (record { content = file.text; signature = file.says.signature }) listed
     (ap result_ok (says-frame roster t.round bytes file.text content.header file.says)))
     (ap result_ok file.reads)
 
 -- the strings of bytes that spell a transcript are those of the transcript
-pub evidence-is : (roster : Roster) (t : Transcript) → IsShape (shape_of_roster roster).version (shape_of_roster roster).members → IsTranscript (shape_of_roster roster) t
+pub evidence-is : (roster : Roster) (t : Transcript) → IsShape (shape_of_roster roster).version (shape_of_roster roster).members
+    → IsTranscript (shape_of_roster roster) t
     → strings_of_evidence roster (transcript_spelling t) ≡ strings_of_transcript roster t
 unfolding strings_of_evidence
 evidence-is roster t shape form = ap (strings_read roster) (transcript_read-again (shape_of_roster roster) t shape form)

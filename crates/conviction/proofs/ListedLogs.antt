@@ -38,7 +38,8 @@ abbrev log_with : Shape → List (Option Post) → Log
 log_with shape places = record { shape = shape; posts = places }
 
 -- one more post fills the next place
-places-next : (count : ℕ) (posts : List Post) (post : Post) → length posts < count → slice_set (kept_places count posts) (length posts) (Some post) ≡ kept_places count (posts ++ post ∷ [])
+places-next : (count : ℕ) (posts : List Post) (post : Post) → length posts < count
+    → slice_set (kept_places count posts) (length posts) (Some post) ≡ kept_places count (posts ++ post ∷ [])
 places-next count posts post lt =
     let m : ℕ = count - length posts - 1 in
     let front : List (Option Post) = map (λ x. Some x) posts in
@@ -66,8 +67,11 @@ numbered shape (suc n) first le =
     let within : first < length (slots_of shape) = omega (arith, le, length-slots_of shape) in
     let cut = drop-cons (slots_of shape) first nobody within in
     let next : suc first ≡ first + 1 = omega arith in
-    subst (λ (s : List Slot). NumberedFrom shape first (take (suc n) s)) (sym cut)
-    (at (slots_of shape) first nobody within, subst (λ (k : ℕ). NumberedFrom shape (first + 1) (take n (drop k (slots_of shape)))) (sym next) (numbered shape n (first + 1) (omega (arith, le))))
+    subst (λ (s : List Slot). NumberedFrom shape first (take (suc n) s)) (sym cut) (
+      at (slots_of shape) first nobody within,
+      subst (λ (k : ℕ). NumberedFrom shape (first + 1) (take n (drop k (slots_of shape)))) (sym next)
+          (numbered shape n (first + 1) (omega (arith, le))),
+    )
   where
     at : (xs : List Slot) (k : ℕ) (d : Slot) → k < length xs → slice_get xs k ≡ Some (get_or xs k d)
     at [] k d lt = absurd (omega (arith, lt))
@@ -75,7 +79,8 @@ numbered shape (suc n) first le =
     at (x ∷ xs) (suc k) d lt = at xs k d (omega (arith, lt))
 
 -- the posts of such slots are kept behind those before them
-log-filled : (shape : Shape) (done : List Post) (slots : List Slot) (posts : List Post) → NumberedFrom shape (length done) slots → length slots ≡ length posts → length done + length slots ≤ slot_count shape
+log-filled : (shape : Shape) (done : List Post) (slots : List Slot) (posts : List Post) → NumberedFrom shape (length done) slots → length slots ≡ length posts
+    → length done + length slots ≤ slot_count shape
     → fold (λ log (pair : Slot × Post). filled log pair.0 pair.1) (log_kept shape done) (zip slots posts) ≡ log_kept shape (done ++ posts)
 log-filled shape done [] [] numbers long within = ap (log_kept shape) (sym (append-nil done))
 log-filled shape done [] (post ∷ posts) numbers long within = absurd (omega (arith, long))
@@ -86,7 +91,8 @@ log-filled shape done (slot ∷ slots) (post ∷ posts) numbers long within =
     let next : filled (log_kept shape done) slot post ≡ log_kept shape (done ++ post ∷ []) =
     ap (λ (k : ℕ). log_with shape (slice_set (kept_places (slot_count shape) done) k (Some post))) (slot_at-is shape (length done) slot numbers.0).1
     ∙ ap (log_with shape) (places-next (slot_count shape) done post (omega (arith, within))) in
-    let others = log-filled shape (done ++ post ∷ []) slots posts (subst (λ (k : ℕ). NumberedFrom shape k slots) (sym more) numbers.1) (omega (arith, long)) (omega (arith, within, more)) in
+    let others =
+    log-filled shape (done ++ post ∷ []) slots posts (subst (λ (k : ℕ). NumberedFrom shape k slots) (sym more) numbers.1) (omega (arith, long)) (omega (arith, within, more)) in
     ap (λ (l : Log). fold step l (zip slots posts)) next ∙ others ∙ ap (log_kept shape) (append_assoc done (post ∷ []) posts)
 
 -- ---- the log that is listed

@@ -51,15 +51,18 @@ use Rattle.round_spec.proofs.Contained.{contains-map-from}
 
 -- ---- lists in which nothing is missing
 
-pub all-there : {A : Type 0} (xs : List (Option A)) → ((i : ℕ) → i < length xs → (x : A) × (slice_get xs i ≡ Some (Some x))) → (ys : List A) × (all_some xs ≡ Some ys)
+pub all-there : {A : Type 0} (xs : List (Option A)) → ((i : ℕ) → i < length xs → (x : A) × (slice_get xs i ≡ Some (Some x)))
+    → (ys : List A) × (all_some xs ≡ Some ys)
 all-there [] each = ([], refl)
 all-there {A} (Some x ∷ xs) each =
     let more = all-there xs (λ i lt. each (suc i) (omega (arith, lt))) in
     (x ∷ more.0, ap (option_map (λ (ys : List A). x ∷ ys)) more.1)
 all-there {A} (None ∷ xs) each = absurd (let first = (each 0 (omega arith)).1 in cc)
 
-pub all-at : {A : Type 0} (xs : List (Option A)) (ys : List A) (i : ℕ) (x : A) → all_some xs ≡ Some ys → slice_get xs i ≡ Some (Some x) → slice_get ys i ≡ Some x
-all-at {A} xs ys i x all at = told (slice_get ys i) (sym (ap (λ (zs : List (Option A)). slice_get zs i) (all_some-is xs ys all) ∙ slice_get-map (λ x. Some x) ys i) ∙ at)
+pub all-at : {A : Type 0} (xs : List (Option A)) (ys : List A) (i : ℕ) (x : A) → all_some xs ≡ Some ys → slice_get xs i ≡ Some (Some x)
+    → slice_get ys i ≡ Some x
+all-at {A} xs ys i x all at =
+    told (slice_get ys i) (sym (ap (λ (zs : List (Option A)). slice_get zs i) (all_some-is xs ys all) ∙ slice_get-map (λ x. Some x) ys i) ∙ at)
   where
     told : (o : Option A) → option_map (λ x. Some x) o ≡ Some (Some x) → o ≡ Some x
     told (Some y) e = cc
@@ -68,10 +71,12 @@ all-at {A} xs ys i x all at = told (slice_get ys i) (sym (ap (λ (zs : List (Opt
 -- ---- what is right
 
 -- where no slot before a stage is wrong, none before an earlier stage is
-pub none-wrong : (shape : Shape) (past : List (List ℕ)) (stage later : ℕ) → stage ≤ later → first_wrong shape past later ≡ None → first_wrong shape (take (slots_before shape stage) past) stage ≡ None
+pub none-wrong : (shape : Shape) (past : List (List ℕ)) (stage later : ℕ) → stage ≤ later → first_wrong shape past later ≡ None
+    → first_wrong shape (take (slots_before shape stage) past) stage ≡ None
 none-wrong shape past stage later le none =
     first_wrong-take shape past stage stage (omega arith)
-    ∙ first_below-none (wrong_at shape past) (slots_before shape stage) (λ k lt. first_below-each (wrong_at shape past) (slots_before shape later) none k (omega (arith, lt, slots_before-rises shape stage later le)))
+    ∙ first_below-none (wrong_at shape past) (slots_before shape stage)
+    (λ k lt. first_below-each (wrong_at shape past) (slots_before shape later) none k (omega (arith, lt, slots_before-rises shape stage later le)))
 
 -- ---- the last list
 
@@ -107,7 +112,8 @@ turn-slots run q shuffle (suc i) e le =
     let shape = shape_in run.config in
     let stage : ℕ = submit_stage q + suc i in
     let next : submit_stage q + suc (suc i) ≡ stage + 1 = omega arith in
-    let one : slots_before shape (stage + 1) ≡ slots_before shape stage + 1 = slots_next shape stage (AtShuffle shuffle (suc i)) (turn-kind run q shuffle (suc i) e (omega arith) le) in
+    let one : slots_before shape (stage + 1) ≡ slots_before shape stage + 1 =
+    slots_next shape stage (AtShuffle shuffle (suc i)) (turn-kind run q shuffle (suc i) e (omega arith) le) in
     ap (slots_before shape) next ∙ one ∙ ap (λ (k : ℕ). k + 1) (turn-slots run q shuffle i e (omega (arith, le))) ∙ omega arith
 
 -- the vote stands behind the last turn
@@ -117,10 +123,12 @@ vote-stage run q shuffle e = (let late = end-least q.shape q.stage shuffle e.kin
 -- what is read of a turn before the vote
 pub record IsTurnRead (run : Run) (q : Inquiry) (posts : List Post) (stage i : ℕ) : Type 0 where
   pub list : List (List ℕ)
-  pub read : slice_get (map (λ turn. list_read (content_read (shape_in run.config) turn)) (turns_before (shape_in run.config) (take (slots_before (shape_in run.config) stage) (contents_of posts)) stage)) i ≡ Some (Some list)
+  pub read : slice_get (map (λ turn. list_read (content_read (shape_in run.config) turn))
+      (turns_before (shape_in run.config) (take (slots_before (shape_in run.config) stage) (contents_of posts)) stage)) i ≡ Some (Some list)
   pub said : list_after q (suc i) ≡ Some list
 
-pub turn-read : (run : Run) (q : Inquiry) (shuffle i : ℕ) (e : IsEnded run q shuffle) → HonestRun run → i < q.shape.members → is_turn q (suc i) ≡ true → IsTurnRead run q e.is.posts (q.stage - 1) i
+pub turn-read : (run : Run) (q : Inquiry) (shuffle i : ℕ) (e : IsEnded run q shuffle) → HonestRun run → i < q.shape.members → is_turn q (suc i) ≡ true
+    → IsTurnRead run q e.is.posts (q.stage - 1) i
 turn-read run q shuffle i e honest lt right =
     let shape = shape_in run.config in
     let past : List (List ℕ) = contents_of e.is.posts in
@@ -133,9 +141,11 @@ turn-read run q shuffle i e honest lt right =
     let kind = turn-kind run q shuffle (suc i) e (omega arith) (omega (arith, lt)) in
     let here : number ≡ slots_before shape stage + 0 = ap (λ (o : Option StageKind). slots_before shape stage + place_in o (suc i)) kind in
     let at = turn-slots run q shuffle i e (omega (arith, lt)) in
-    let end : b ≡ slots_before shape (submit_stage q + 1) + q.shape.members = ap (slots_before shape) (sym (vote-stage run q shuffle e)) ∙ turn-slots run q shuffle q.shape.members e (omega arith) in
+    let end : b ≡ slots_before shape (submit_stage q + 1) + q.shape.members =
+    ap (slots_before shape) (sym (vote-stage run q shuffle e)) ∙ turn-slots run q shuffle q.shape.members e (omega arith) in
     let place : a + i ≡ number = omega (arith, here, at, end, members) in
-    let long : length past ≡ slots_before shape q.stage = length-map e.is.posts (λ (p : Post). p.content) ∙ (is-past run q.stage e.is.posts honest e.is.kept).long in
+    let long : length past ≡ slots_before shape q.stage =
+    length-map e.is.posts (λ (p : Post). p.content) ∙ (is-past run q.stage e.is.posts honest e.is.kept).long in
     let rises = slots_before-rises shape vote q.stage (omega arith) in
     let text = there past number (omega (arith, place, end, lt, members, long, rises)) in
     let list = order-said (bodies_before q (suc i)) (list_after q (suc i)) right in
@@ -146,7 +156,8 @@ turn-read run q shuffle i e honest lt right =
       list = list.0;
       read = slice_get-map (λ turn. list_read (content_read shape turn)) (turns_before shape (take b past) vote) i
           ∙ ap (option_map (λ turn. list_read (content_read shape turn)))
-          (slice_get-take (drop a (take b past)) (b - a) i (omega (arith, end, lt, members)) ∙ get_drop (take b past) a i ∙ slice_get-take past b (a + i) (omega (arith, end, lt, members)) ∙ ap (slice_get past) place ∙ text.1)
+          (slice_get-take (drop a (take b past)) (b - a) i (omega (arith, end, lt, members)) ∙ get_drop (take b past) a i ∙ slice_get-take past b
+          (a + i) (omega (arith, end, lt, members)) ∙ ap (slice_get past) place ∙ text.1)
           ∙ ap (λ (l : Option (List (List ℕ))). Some l) (list-is_read (content_read shape text.0) list.0 body);
       said = list.1;
     }
@@ -184,13 +195,18 @@ inner-there run q shuffle own honest last submitted =
     let member = slot-bounds (shape_in c) 0 c.number (own-speaks c honest.config) in
     let least = member.1 in
     let most = member.2 in
-    let listed : Contains (submissions q) (submission q c.number) = contains-map-from (submission q) (range_with_len 1 q.shape.members) c.number (in-range 1 q.shape.members c.number least (omega (arith, most, ap (λ (s : Shape). s.members) is.shape))) in
-    let kept = strips_through_keeps (take q.shape.members seeds) (submissions q) last.bodies (submission q c.number) (inner_said run submitted.said shuffle) last.stripped listed
+    let listed : Contains (submissions q) (submission q c.number) =
+    contains-map-from (submission q) (range_with_len 1 q.shape.members) c.number
+    (in-range 1 q.shape.members c.number least (omega (arith, most, ap (λ (s : Shape). s.members) is.shape))) in
+    let kept =
+    strips_through_keeps (take q.shape.members seeds) (submissions q) last.bodies (submission q c.number) (inner_said run submitted.said shuffle) last.stripped listed
     (own_layer_seeds c shuffle 2, ap (λ (s : List (List ℕ)). opened_through s (submission q c.number)) all ∙ opens) in
     ((permutation_keeps last.bodies last.list last.order).1 (inner_said run submitted.said shuffle)).0 kept
 
-pub stands-there : (run : Run) (q : Inquiry) (shuffle : ℕ) (own : IsFaultless run q shuffle) (entry : List ℕ) → HonestRun run → (last : HasStripped q q.shape.members) → Contains last.list entry
-    → stands_last (shape_in run.config) entry (lists_before (shape_in run.config) (take (slots_before (shape_in run.config) (q.stage - 1)) (contents_of own.ended.is.posts)) (q.stage - 1)) ≡ true
+pub stands-there : (run : Run) (q : Inquiry) (shuffle : ℕ) (own : IsFaultless run q shuffle) (entry : List ℕ) → HonestRun run
+    → (last : HasStripped q q.shape.members) → Contains last.list entry
+    → stands_last (shape_in run.config) entry (lists_before (shape_in run.config)
+    (take (slots_before (shape_in run.config) (q.stage - 1)) (contents_of own.ended.is.posts)) (q.stage - 1)) ≡ true
 stands-there run q shuffle own entry honest last listed =
     ap (stands_last shape entry) lists.1
     ∙ ap (stands_in entry) (all-at turns lists.0 (shape.members - 1) final.list lists.1 final.read)
@@ -210,7 +226,8 @@ stands-there run q shuffle own entry honest last listed =
     same_members = ap (λ (s : Shape). s.members) own.ended.is.shape
 
     some_member : 1 ≤ q.shape.members
-    some_member = (let bounds = slot-bounds shape 0 run.config.number (own-speaks run.config honest.config) in let least = bounds.1 in let most = bounds.2 in omega (arith, same_members))
+    some_member =
+        (let bounds = slot-bounds shape 0 run.config.number (own-speaks run.config honest.config) in let least = bounds.1 in let most = bounds.2 in omega (arith, same_members))
 
     count : length turns ≤ q.shape.members
     count =

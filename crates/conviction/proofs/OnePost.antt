@@ -77,7 +77,8 @@ pub record IsRowOf (run : Run) (content : Content) : Type 0 where
   pub reads : row.read ≡ content
   pub at : content.header.stage ≡ row.stage
 
-pub file-row : (run : Run) (t : Transcript) (bytes : List ℕ) (content : Content) → OneRun t run → IsPostFile run.config.roster t.round bytes content → Contains t.posts bytes → content.header.sender ≡ t.accused
+pub file-row : (run : Run) (t : Transcript) (bytes : List ℕ) (content : Content) → OneRun t run → IsPostFile run.config.roster t.round bytes content
+    → Contains t.posts bytes → content.header.sender ≡ t.accused
     → IsRowOf run content
 file-row run t bytes content one file listed sender =
     let row = own_row run file.text one.honest (one.sent_all bytes file.text content.header listed file.says sender) in
@@ -106,11 +107,14 @@ keys-body shape stage c kind = (
   (all-map IsPublicKey (λ place. key_of_seed (own_key_seed c place)) (range_with_len 0 5) (λ place. key_is_public_key (own_key_seed c place)), refl),
 )
 
-pub keys-are : (run : Run) (content : List ℕ) (row : IsOwnRow run content) → kind_of_stage (shape_in run.config) row.stage ≡ Some AtKeys → row.read.body ≡ Keys (own_keys run.config)
+pub keys-are : (run : Run) (content : List ℕ) (row : IsOwnRow run content) → kind_of_stage (shape_in run.config) row.stage ≡ Some AtKeys
+    → row.read.body ≡ Keys (own_keys run.config)
 unfolding keys_row
 keys-are run content row kind =
-    let due : body_due run content row ≡ keys_row run.config = ap (own_body_if run.config (own_descriptor run.config (contents_of row.past)) row.past row.stage) kind in
-    ap (λ (c : Content). c.body) (row-is run content row (subst (IsBody (shape_in run.config) row.stage) (sym due) (keys-body (shape_in run.config) row.stage run.config kind))) ∙ due
+    let due : body_due run content row ≡ keys_row run.config =
+    ap (own_body_if run.config (own_descriptor run.config (contents_of row.past)) row.past row.stage) kind in
+    ap (λ (c : Content). c.body) (row-is run content row (subst (IsBody (shape_in run.config) row.stage) (sym due) (keys-body (shape_in run.config) row.stage run.config kind)))
+    ∙ due
 
 -- the keys by their places
 pub inner-key : (c : Configuration) (shuffle : ℕ) → inner_key shuffle (own_keys c) ≡ key_of_seed (own_key_seed c (inner_place shuffle))
@@ -129,14 +133,16 @@ keys-same : (xs ys : List (List ℕ)) → Keys xs ≡ Keys ys → xs ≡ ys
 keys-same xs ys e = cc
 
 -- what is revealed at the end of a shuffle is the seed of the row
-seed-told : (shape : Shape) (posts : List Post) (stage : ℕ) (votes : List (List ℕ)) (seed inner outer opening : List ℕ) → Reveal votes seed ≡ final_row shape posts stage inner outer opening → seed ≡ inner
+seed-told : (shape : Shape) (posts : List Post) (stage : ℕ) (votes : List (List ℕ)) (seed inner outer opening : List ℕ)
+    → Reveal votes seed ≡ final_row shape posts stage inner outer opening → seed ≡ inner
 unfolding final_row
 seed-told shape posts stage votes seed inner outer opening e =
     let agree : Bool = votes_agree shape (contents_of posts) stage in
     let shown : List (List ℕ) = written (posts_at shape posts (stage - 1)) in
     elim (cases_Bool (votes_agree shape (contents_of posts) stage)) [
       | inl agrees ↦ revealed votes shown seed inner (e ∙ cond-true agree (Reveal shown inner) (Dispute (written posts) outer opening) agrees)
-      | inr differs ↦ absurd (disputed votes (written posts) seed outer opening (e ∙ cond-false agree (Reveal shown inner) (Dispute (written posts) outer opening) differs))
+      | inr differs ↦
+          absurd (disputed votes (written posts) seed outer opening (e ∙ cond-false agree (Reveal shown inner) (Dispute (written posts) outer opening) differs))
     ]
   where
     revealed : (v w : List (List ℕ)) (s i : List ℕ) → Reveal v s ≡ Reveal w i → s ≡ i
@@ -148,8 +154,12 @@ seed-told shape posts stage votes seed inner outer opening e =
 frame-seed : (run : Run) (t : Transcript) → OneRun t run → RevealsWrongSeed run.config.roster t → ⊥
 frame-seed run t one e =
     let c = run.config in
-    let keys = file-row run t e.keys_post (record { header = e.keys_header; body = Keys e.keys }) one e.keys_are (listed-in t.posts (e.keys_post ∷ e.final_post ∷ []) e.keys_post e.listed (0, omega arith, refl)) e.keys_sender in
-    let final = file-row run t e.final_post (record { header = e.final_header; body = Reveal e.votes e.seed }) one e.final_is (listed-in t.posts (e.keys_post ∷ e.final_post ∷ []) e.final_post e.listed (1, omega arith, refl)) e.final_sender in
+    let keys =
+    file-row run t e.keys_post (record { header = e.keys_header; body = Keys e.keys }) one e.keys_are
+    (listed-in t.posts (e.keys_post ∷ e.final_post ∷ []) e.keys_post e.listed (0, omega arith, refl)) e.keys_sender in
+    let final =
+    file-row run t e.final_post (record { header = e.final_header; body = Reveal e.votes e.seed }) one e.final_is
+    (listed-in t.posts (e.keys_post ∷ e.final_post ∷ []) e.final_post e.listed (1, omega arith, refl)) e.final_sender in
     let keys_kind : kind_of_stage (shape_in c) keys.row.stage ≡ Some AtKeys = ap (kind_of_stage (shape_in c)) (sym keys.at) ∙ e.keys_stage in
     let final_kind : kind_of_stage (shape_in c) final.row.stage ≡ Some (Final e.shuffle) = ap (kind_of_stage (shape_in c)) (sym final.at) ∙ e.final_stage in
     let own : e.keys ≡ own_keys c = keys-same e.keys (own_keys c) (ap (λ (x : Content). x.body) (sym keys.reads) ∙ keys-are run keys.text keys.row keys_kind) in

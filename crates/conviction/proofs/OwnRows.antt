@@ -66,16 +66,19 @@ in-range a (suc n) k le lt = elim (cases_lt a k) [
 ]
 
 -- what is kept in an own slot was sent
-kept-sent : (run : Run) (stage : ℕ) (post : Post) → stage < stage_count run.log.shape → kept_in run.log (own_slot run stage) ≡ Some post → Contains (sent run) post.content
+kept-sent : (run : Run) (stage : ℕ) (post : Post) → stage < stage_count run.log.shape → kept_in run.log (own_slot run stage) ≡ Some post
+    → Contains (sent run) post.content
 unfolding sent
 kept-sent run stage post lt kept =
     contains-map-from (λ (p : Post). p.content) (posts_said run) post
-    (contains-filter_map-from (λ s. kept_in run.log (own_slot run s)) (range_with_len 0 (stage_count run.log.shape)) stage post (in-range 0 (stage_count run.log.shape) stage (omega arith) (omega (arith, lt))) kept)
+    (contains-filter_map-from (λ s. kept_in run.log (own_slot run s)) (range_with_len 0 (stage_count run.log.shape)) stage post
+    (in-range 0 (stage_count run.log.shape) stage (omega arith) (omega (arith, lt))) kept)
 
 some-slot : (a b : Slot) → (let told : Slot → Option Slot = λ z. Some z in told a ≡ told b) → a ≡ b
 some-slot a b e = cc
 
-pub own-said : (run : Run) (later stage : ℕ) (posts : List Post) → HonestRun run → before run.log later ≡ Some posts → is_slot (shape_in run.config) stage run.config.number ≡ true → stage < later
+pub own-said : (run : Run) (later stage : ℕ) (posts : List Post) → HonestRun run → before run.log later ≡ Some posts
+    → is_slot (shape_in run.config) stage run.config.number ≡ true → stage < later
     → OwnSaid run posts stage
 own-said run later stage posts honest kept speaks lt =
     let shape = shape_in run.config in
@@ -89,14 +92,18 @@ own-said run later stage posts honest kept speaks lt =
     let here : kept_in run.log (own_slot run stage) ≡ Some found.0 = subst (λ (s : Slot). kept_in run.log s ≡ Some found.0) slot is.kept in
     told found.0 found.1 here
   where
-    told : (post : Post) → slice_get posts (slot_number (shape_in run.config) stage run.config.number) ≡ Some post → kept_in run.log (own_slot run stage) ≡ Some post → OwnSaid run posts stage
+    told : (post : Post) → slice_get posts (slot_number (shape_in run.config) stage run.config.number) ≡ Some post
+        → kept_in run.log (own_slot run stage) ≡ Some post → OwnSaid run posts stage
     told post at here =
-        let bound : stage < stage_count run.log.shape = (let few = (slot-bounds (shape_in run.config) stage run.config.number speaks).0 in omega (arith, few, ap (λ (s : Shape). s.members) honest.shape)) in
+        let bound : stage < stage_count run.log.shape =
+        (let few = (slot-bounds (shape_in run.config) stage run.config.number speaks).0 in omega (arith, few, ap (λ (s : Shape). s.members) honest.shape)) in
         let row = own_row run post.content honest (kept-sent run stage post bound here) in
         let checks = honest.posts (own_slot run stage) post here in
         let parts = checks-parts run.config.roster run.config.round post checks.content checks.checks in
         let same = contents-same row.read checks.content (content_read (shape_in run.config) post.content) (row-reads run post.content row) parts.2 in
-        let stage_is : row.stage ≡ stage = ap (λ (h : Header). h.stage) (sym (row-header run post.content row)) ∙ ap (λ (c : Content). c.header.stage) same ∙ ap (λ (s : Slot). s.stage) checks.named in
+        let stage_is : row.stage ≡ stage =
+        ap (λ (h : Header). h.stage) (sym (row-header run post.content row)) ∙ ap (λ (c : Content). c.header.stage) same
+        ∙ ap (λ (s : Slot). s.stage) checks.named in
         let shape_is = honest.shape in
         record {
           text = post.content;
@@ -115,14 +122,16 @@ own-body run posts stage own =
     ∙ ap body_of (row-reads run own.text own.row)
 
 -- and it carries the view of its stage
-pub own-right : (run : Run) (posts : List Post) (stage : ℕ) → OwnSaid run posts stage → is_right (shape_in run.config) (contents_of posts) (own_slot run stage) ≡ true
+pub own-right : (run : Run) (posts : List Post) (stage : ℕ) → OwnSaid run posts stage
+    → is_right (shape_in run.config) (contents_of posts) (own_slot run stage) ≡ true
 own-right run posts stage own =
     let shape = shape_in run.config in
     let view : List ℕ = view_of shape (contents_of posts) stage in
     let n : ℕ = slots_before shape stage in
     let front : contents_of own.row.past ≡ take n (contents_of posts) = ap contents_of own.front ∙ sym (take-map (λ (p : Post). p.content) n posts) in
     let same : view_of shape (contents_of own.row.past) own.row.stage ≡ view =
-    ap (view_of shape (contents_of own.row.past)) own.at ∙ ap (λ (past : List (List ℕ)). view_of shape past stage) front ∙ view_of-take shape (contents_of posts) stage stage (omega arith) in
+    ap (view_of shape (contents_of own.row.past)) own.at ∙ ap (λ (past : List (List ℕ)). view_of shape past stage) front
+    ∙ view_of-take shape (contents_of posts) stage stage (omega arith) in
     ap (is_carried view) own.stands
     ∙ ap (has_view view) own.row.header
     ∙ (bytes_eq-Decides (view_of shape (contents_of own.row.past) own.row.stage) view).1 same

@@ -39,7 +39,8 @@ use Rattle.conviction.proofs.Submissions.{own-submitted}
 
 -- ---- rows of votes
 
-go-body : (shape : Shape) (past : List (List ℕ)) (stage shuffle : ℕ) (inner : List ℕ) → kind_of_stage shape stage ≡ Some (Go shuffle) → IsBody shape stage (go_row shape past stage inner)
+go-body : (shape : Shape) (past : List (List ℕ)) (stage shuffle : ℕ) (inner : List ℕ) → kind_of_stage shape stage ≡ Some (Go shuffle)
+    → IsBody shape stage (go_row shape past stage inner)
 unfolding go_row body_form
 go-body shape past stage shuffle inner kind = (_, ap (λ (o : Option StageKind). form_of shape (slots_before shape stage) o 5) kind, tt)
 
@@ -47,7 +48,8 @@ check-body : (shape : Shape) (past : List (List ℕ)) (stage : ℕ) → kind_of_
 unfolding check_row body_form
 check-body shape past stage kind = (_, ap (λ (o : Option StageKind). form_of shape (slots_before shape stage) o 9) kind, tt)
 
-go-yes : (shape : Shape) (past : List (List ℕ)) (stage : ℕ) (inner : List ℕ) → first_wrong shape past stage ≡ None → stands_last shape inner (lists_before shape past stage) ≡ true → is_yes (go_row shape past stage inner) ≡ true
+go-yes : (shape : Shape) (past : List (List ℕ)) (stage : ℕ) (inner : List ℕ) → first_wrong shape past stage ≡ None
+    → stands_last shape inner (lists_before shape past stage) ≡ true → is_yes (go_row shape past stage inner) ≡ true
 unfolding go_row
 go-yes shape past stage inner right stands =
     ap (λ (o : Option Slot). is_none o && stands_last shape inner (lists_before shape past stage)) right ∙ stands
@@ -65,7 +67,8 @@ pub record OwnVote (run : Run) (q : Inquiry) (is : IsOwnInquiry run q) (kind : S
   pub past : contents_of said.row.past ≡ take (slots_before (shape_in run.config) (q.stage - 1)) (contents_of is.posts)
   pub right : first_wrong (shape_in run.config) (contents_of said.row.past) said.row.stage ≡ None
 
-own-vote : (run : Run) (q : Inquiry) (is : IsOwnInquiry run q) (kind : StageKind) → HonestRun run → 1 ≤ q.stage → kind_of_stage q.shape (q.stage - 1) ≡ Some kind
+own-vote : (run : Run) (q : Inquiry) (is : IsOwnInquiry run q) (kind : StageKind) → HonestRun run → 1 ≤ q.stage
+    → kind_of_stage q.shape (q.stage - 1) ≡ Some kind
     → ((member : ℕ) → speaks (shape_in run.config) (Some kind) member ≡ is_slot (shape_in run.config) 0 member) → view_fault q ≡ None → OwnVote run q is kind
 own-vote run q is kind honest least vote all none = record { said = said; at = ap (kind_of_stage shape) said.at ∙ at; past = past; right = right }
   where
@@ -94,7 +97,8 @@ own-vote run q is kind honest least vote all none = record { said = said; at = a
         ∙ ap (λ (p : List (List ℕ)). first_wrong shape p (q.stage - 1)) past
         ∙ none-wrong shape (contents_of is.posts) (q.stage - 1) q.stage (omega arith) none_before
 
-votes-of : (run : Run) (q : Inquiry) (is : IsOwnInquiry run q) (said : OwnSaid run is.posts (q.stage - 1)) → votes_yes q run.config.number ≡ is_yes said.row.read.body
+votes-of : (run : Run) (q : Inquiry) (is : IsOwnInquiry run q) (said : OwnSaid run is.posts (q.stage - 1))
+    → votes_yes q run.config.number ≡ is_yes said.row.read.body
 votes-of run q is said = ap is_yes (body-in run q is (q.stage - 1) run.config.number ∙ own-body run is.posts (q.stage - 1) said)
 
 -- shuffle B ends late
@@ -133,7 +137,9 @@ go-vote run q shuffle own honest none =
     body =
         let due : body_due run vote.said.text row ≡ go_row shape (contents_of row.past) row.stage inner =
         ap (own_body_if run.config (own_descriptor run.config (contents_of row.past)) row.past row.stage) vote.at in
-        ap (λ (x : Content). x.body) (row-is run vote.said.text row (subst (IsBody shape row.stage) (sym due) (go-body shape (contents_of row.past) row.stage shuffle inner vote.at))) ∙ due
+        ap (λ (x : Content). x.body)
+        (row-is run vote.said.text row (subst (IsBody shape row.stage) (sym due) (go-body shape (contents_of row.past) row.stage shuffle inner vote.at)))
+        ∙ due
 
     stands : stands_last shape inner (lists_before shape (contents_of row.past) row.stage) ≡ true
     stands =
@@ -142,7 +148,8 @@ go-vote run q shuffle own honest none =
         let submitted = own-submitted run q shuffle honest is own.ended.kind own.seeds in
         let last = last_list_has q (let many = (is.shows shuffle own.ended.kind).many in omega arith) own.turns in
         let said : List (List ℕ) = contents_of is.posts in
-        let here = submission-front run.config said (q.stage - 1) shuffle (omega (arith, long)) (λ other. (let some = far run q shuffle own.ended other in omega (arith, some, long))) in
+        let here =
+        submission-front run.config said (q.stage - 1) shuffle (omega (arith, long)) (λ other. (let some = far run q shuffle own.ended other in omega (arith, some, long))) in
         let first = submission-front run.config said (submit_stage q) shuffle (omega (arith, late)) (far run q shuffle own.ended) in
         let same : inner ≡ inner_said run submitted.said shuffle =
         ap (λ (p : List (List ℕ)). inner_said run p shuffle) vote.past
@@ -153,7 +160,8 @@ go-vote run q shuffle own honest none =
         ∙ stands-there run q shuffle own inner honest last (subst (Contains last.list) (sym same) (inner-there run q shuffle own honest last submitted))
 
 -- behind the checks
-pub check-vote : (run : Run) (q : Inquiry) → HonestRun run → IsOwnInquiry run q → kind_of_stage q.shape q.stage ≡ Some Confirm → view_fault q ≡ None → votes_yes q run.config.number ≡ true
+pub check-vote : (run : Run) (q : Inquiry) → HonestRun run → IsOwnInquiry run q → kind_of_stage q.shape q.stage ≡ Some Confirm → view_fault q ≡ None
+    → votes_yes q run.config.number ≡ true
 check-vote run q honest is kind none =
     let shape = shape_in run.config in
     let follows = closing-follows q.shape q.stage Confirm Check kind refl in
@@ -161,7 +169,9 @@ check-vote run q honest is kind none =
     let row = vote.said.row in
     let due : body_due run vote.said.text row ≡ check_row shape (contents_of row.past) row.stage =
     ap (own_body_if run.config (own_descriptor run.config (contents_of row.past)) row.past row.stage) vote.at in
-    let body = ap (λ (x : Content). x.body) (row-is run vote.said.text row (subst (IsBody shape row.stage) (sym due) (check-body shape (contents_of row.past) row.stage vote.at))) ∙ due in
+    let body =
+    ap (λ (x : Content). x.body) (row-is run vote.said.text row (subst (IsBody shape row.stage) (sym due) (check-body shape (contents_of row.past) row.stage vote.at)))
+    ∙ due in
     votes-of run q is vote.said ∙ ap is_yes body ∙ check-yes shape (contents_of row.past) row.stage vote.right
 
 pub no_go_not_own : NoGoNotOwn
@@ -170,7 +180,9 @@ no_go_not_own run q found honest is closing view rest e own =
     let parts = unless-found (votes_yes q (at.0 + 1)) (fault FalseNoGo (at.0 + 1)) found at.2 in
     let member : at.0 + 1 ≡ run.config.number = ap (λ (f : Fault). f.member) parts.1 ∙ own in
     let yes_own : votes_yes q run.config.number ≡ true = elim (closing-kind (kind_of_stage q.shape q.stage) closing) [
-      | inl (shuffle, kind) ↦ (let none = rest shuffle kind in go-vote run q shuffle (record { ended = record { is = is; kind = kind }; seeds = none.0; submissions = none.1; turns = none.2 }) honest view)
+      | inl (shuffle, kind) ↦
+          (let none = rest shuffle kind in go-vote run q shuffle
+          (record { ended = record { is = is; kind = kind }; seeds = none.0; submissions = none.1; turns = none.2 }) honest view)
       | inr kind ↦ check-vote run q honest is kind view
     ] in
     not_both (votes_yes q run.config.number) yes_own (ap (votes_yes q) (sym member) ∙ parts.0)

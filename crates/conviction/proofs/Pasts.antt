@@ -56,11 +56,13 @@ pub record IsKeptAt (log : Log) (k : ℕ) (post : Post) : Type 0 where
   pub at : slot_at log.shape k ≡ Some slot
   pub kept : kept_in log slot ≡ Some post
 
-pub past-kept : (log : Log) (stage k : ℕ) (past : List Post) (post : Post) → IsLog log → before log stage ≡ Some past → slice_get past k ≡ Some post → IsKeptAt log k post
+pub past-kept : (log : Log) (stage k : ℕ) (past : List Post) (post : Post) → IsLog log → before log stage ≡ Some past → slice_get past k ≡ Some post
+    → IsKeptAt log k post
 past-kept log stage k past post is e at =
     let n : ℕ = slots_before log.shape stage in
     let all : take n log.posts ≡ map (λ x. Some x) past = all_some-is (take n log.posts) past e in
-    let found = take-get log.posts n k (Some post) (ap (λ (xs : List (Option Post)). slice_get xs k) all ∙ slice_get-map (λ x. Some x) past k ∙ ap (option_map (λ x. Some x)) at) in
+    let found =
+    take-get log.posts n k (Some post) (ap (λ (xs : List (Option Post)). slice_get xs k) all ∙ slice_get-map (λ x. Some x) past k ∙ ap (option_map (λ x. Some x)) at) in
     let few = found.0 in
     let slot = there (slots_of log.shape) k (omega (arith, few, slots_before-most log.shape stage, length-slots_of log.shape)) in
     let number = slot_at-is log.shape k slot.0 slot.1 in
@@ -81,12 +83,14 @@ checks-admitted c slot post is =
 names-self : (header : Header) → names_slot (slot_named header) header ≡ true
 names-self header = rw (eq-eqb header.stage header.stage refl, eq-eqb header.sender header.sender refl) refl
 
-pub checks-for-slot : (c : Configuration) (slot : Slot) (post : Post) → ChecksIn c slot post → post_for_slot c.roster c.round slot (post_spelling post) ≡ Ok post
+pub checks-for-slot : (c : Configuration) (slot : Slot) (post : Post) → ChecksIn c slot post
+    → post_for_slot c.roster c.round slot (post_spelling post) ≡ Ok post
 unfolding post_for_slot checked_post
 checks-for-slot c slot post is =
     let admitted = checks-admitted c slot post is in
     let framed = framed-again post admitted.1.frame in
-    let names : names_slot slot is.content.header ≡ true = subst (λ (s : Slot). names_slot s is.content.header ≡ true) is.named (names-self is.content.header) in
+    let names : names_slot slot is.content.header ≡ true =
+    subst (λ (s : Slot). names_slot s is.content.header ≡ true) is.named (names-self is.content.header) in
     rw (framed, is.checks, names) refl
 
 -- ---- posts for slots
@@ -128,7 +132,8 @@ embedded-get {A} shape content xs k x e =
           ∙ (take-get xs n k x (ap (λ (ys : List A). slice_get ys k) (sym (cond-false (is_assent content.body) (slice_range xs a b) (take n xs) objects)) ∙ e)).1
     ]
 
-pub embedded-few : {A B : Type 0} (shape : Shape) (content : Content) (xs : List A) (ys : List B) → length xs ≤ length ys → length (embedded_of shape content xs) ≤ length (embedded_of shape content ys)
+pub embedded-few : {A B : Type 0} (shape : Shape) (content : Content) (xs : List A) (ys : List B) → length xs ≤ length ys
+    → length (embedded_of shape content xs) ≤ length (embedded_of shape content ys)
 embedded-few {A} {B} shape content xs ys few =
     let a : ℕ = slots_before shape (content.header.stage - 1) in
     let b : ℕ = slots_before shape (content.header.stage - 1 + 1) in
@@ -144,7 +149,8 @@ embedded-few {A} {B} shape content xs ys few =
           omega (arith, few, left, right, length-take n xs, length-take n ys)
     ]
 
-pub embedded-map : {A B : Type 0} (f : A → B) (shape : Shape) (content : Content) (xs : List A) → map f (embedded_of shape content xs) ≡ embedded_of shape content (map f xs)
+pub embedded-map : {A B : Type 0} (f : A → B) (shape : Shape) (content : Content) (xs : List A)
+    → map f (embedded_of shape content xs) ≡ embedded_of shape content (map f xs)
 embedded-map f shape content xs =
     let a : ℕ = slots_before shape (content.header.stage - 1) in
     let b : ℕ = slots_before shape (content.header.stage - 1 + 1) in

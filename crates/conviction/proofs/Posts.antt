@@ -20,16 +20,20 @@ post_said : (roster : Roster) (round : ℕ) (bytes content : List ℕ) (header :
 post_said roster round bytes content header says = record { content = content; signature = says.signature }
 
 -- bytes that say something are read as the post of it
-pub says-frame : (roster : Roster) (round : ℕ) (bytes content : List ℕ) (header : Header) (says : Says roster round bytes content header) → frame_of bytes ≡ Ok (record { content = content; signature = says.signature })
-says-frame roster round bytes content header says = ap frame_of says.spelled ∙ framed-again (record { content = content; signature = says.signature }) says.admitted.frame
+pub says-frame : (roster : Roster) (round : ℕ) (bytes content : List ℕ) (header : Header) (says : Says roster round bytes content header)
+    → frame_of bytes ≡ Ok (record { content = content; signature = says.signature })
+says-frame roster round bytes content header says =
+    ap frame_of says.spelled ∙ framed-again (record { content = content; signature = says.signature }) says.admitted.frame
 
 -- what is said was sent
-pub said-sent : (roster : Roster) (runs : List Run) (number round : ℕ) (posts : List (List ℕ)) (bytes content : List ℕ) (header : Header) → SaidBy roster runs number round posts
+pub said-sent : (roster : Roster) (runs : List Run) (number round : ℕ) (posts : List (List ℕ)) (bytes content : List ℕ) (header : Header)
+    → SaidBy roster runs number round posts
     → Contains posts bytes → Says roster round bytes content header → header.sender ≡ number → Sent runs number content
 said-sent roster runs number round posts bytes content header said listed says sender =
     said bytes (record { content = content; signature = says.signature }) header listed (says-frame roster round bytes content header says) says.admitted sender
 
-admitted-for : (roster : Roster) (round other : ℕ) (post : Post) (header : Header) → round ≡ other → Admitted roster round post header → Admitted roster other post header
+admitted-for : (roster : Roster) (round other : ℕ) (post : Post) (header : Header) → round ≡ other → Admitted roster round post header
+    → Admitted roster other post header
 admitted-for roster round other post header e is = subst (λ (r : ℕ). Admitted roster r post header) e is
 
 pub unforged_is_said : UnforgedIsSaid
@@ -47,15 +51,18 @@ pub the_run : TheRun
 the_run roster runs number round posts bytes content header honest said listed says sender = (first.0, is_first, all)
   where
     first : (run : Run) × IsRunOf runs number header.round run × Contains (sent run) content
-    first = run_of_content roster runs number content header honest (said-sent roster runs number round posts bytes content header said listed says sender) says.admitted.reads
+    first =
+        run_of_content roster runs number content header honest (said-sent roster runs number round posts bytes content header said listed says sender) says.admitted.reads
 
     is_first : IsRunOf runs number round first.0
     is_first = run-in runs number round header.round first.0 says.admitted.this_round first.1
 
     all : AllSent roster round posts number first.0
     all other text head there tells by =
-        let found = run_of_content roster runs number text head honest (said-sent roster runs number round posts other text head said there tells by) tells.admitted.reads in
-        let same : found.0 ≡ first.0 = run_unique roster runs number round found.0 first.0 honest (run-in runs number round head.round found.0 tells.admitted.this_round found.1) is_first in
+        let found =
+        run_of_content roster runs number text head honest (said-sent roster runs number round posts other text head said there tells by) tells.admitted.reads in
+        let same : found.0 ≡ first.0 =
+        run_unique roster runs number round found.0 first.0 honest (run-in runs number round head.round found.0 tells.admitted.this_round found.1) is_first in
         subst (λ (run : Run). Contains (sent run) text) same found.2
 
 -- ---- two posts, and one
@@ -65,8 +72,12 @@ listed-in posts all bytes e is = subst (λ (x : List (List ℕ)). Contains x byt
 
 pub frame_equivocation : NotShown Equivocates
 frame_equivocation roster runs t honest said e =
-    let one = said-sent roster runs t.accused t.round t.posts e.first e.first_content e.first_header said (listed-in t.posts (e.first ∷ e.second ∷ []) e.first e.listed (0, omega arith, refl)) e.first_says e.first_sender in
-    let two = said-sent roster runs t.accused t.round t.posts e.second e.second_content e.second_header said (listed-in t.posts (e.first ∷ e.second ∷ []) e.second e.listed (1, omega arith, refl)) e.second_says e.second_sender in
+    let one =
+    said-sent roster runs t.accused t.round t.posts e.first e.first_content e.first_header said
+    (listed-in t.posts (e.first ∷ e.second ∷ []) e.first e.listed (0, omega arith, refl)) e.first_says e.first_sender in
+    let two =
+    said-sent roster runs t.accused t.round t.posts e.second e.second_content e.second_header said
+    (listed-in t.posts (e.first ∷ e.second ∷ []) e.second e.listed (1, omega arith, refl)) e.second_says e.second_sender in
     e.differ (one_per_slot roster runs t.accused e.first_content e.second_content e.first_header e.second_header honest one two
     e.first_says.admitted.reads e.second_says.admitted.reads (e.first_says.admitted.this_round ∙ sym e.second_says.admitted.this_round) (sym e.one_stage))
 

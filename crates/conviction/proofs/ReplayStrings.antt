@@ -48,9 +48,11 @@ record IsDispute (body : Body) : Type 0 where
   pub long : length opening ≡ 32
 
 -- so is a body of the grammar that objects at the end of a shuffle
-dispute-at : (shape : Shape) (stage shuffle : ℕ) (body : Body) → kind_of_stage shape stage ≡ Some (Final shuffle) → IsBody shape stage body → is_dissent body ≡ true → IsDispute body
+dispute-at : (shape : Shape) (stage shuffle : ℕ) (body : Body) → kind_of_stage shape stage ≡ Some (Final shuffle) → IsBody shape stage body
+    → is_dissent body ≡ true → IsDispute body
 dispute-at shape stage shuffle (Dispute posts seed opening) kind is e =
-    let fits : IsBodyAt shape (slots_before shape stage) (Final shuffle) (Dispute posts seed opening) = (bodies_are_of_kinds shape stage (Final shuffle) (Dispute posts seed opening) kind).0 is in
+    let fits : IsBodyAt shape (slots_before shape stage) (Final shuffle) (Dispute posts seed opening) =
+    (bodies_are_of_kinds shape stage (Final shuffle) (Dispute posts seed opening) kind).0 is in
     record { posts = posts; seed = seed; opening = opening; is = refl; long = fits.2 }
 dispute-at shape stage shuffle (Differ posts) kind is e = absurd ((bodies_are_of_kinds shape stage (Final shuffle) (Differ posts) kind).0 is)
 dispute-at shape stage shuffle (Keys keys) kind is e = absurd cc
@@ -66,7 +68,8 @@ dispute-at shape stage shuffle (Confirm votes) kind is e = absurd cc
 -- ---- what they show
 
 -- the post of a member is listed
-pub object-listed : (roster : Roster) (t : Transcript) (member : ℕ) → (e : ReplaysFault roster t) → 1 ≤ member → member ≤ (shape_of_roster roster).members → Contains t.posts (post_listed t member)
+pub object-listed : (roster : Roster) (t : Transcript) (member : ℕ) → (e : ReplaysFault roster t) → 1 ≤ member → member ≤ (shape_of_roster roster).members
+    → Contains t.posts (post_listed t member)
 object-listed roster t member e least most = place-listed t.posts (member - 1) (let count = e.count in omega arith)
 
 -- what a member shows at the end of a shuffle
@@ -74,9 +77,11 @@ record ShowsOpening (roster : Roster) (t : Transcript) (e : ReplaysFault roster 
   pub dispute : IsDispute (e.said member).body
   pub opening : outer_opening (inquiry_by (shape_of_roster roster) t.round e.stage e.past e.said) member ≡ dispute.opening
 
-shows-opening : (roster : Roster) (t : Transcript) (e : ReplaysFault roster t) (shuffle member : ℕ) → IsBytes (transcript_spelling t) → kind_of_stage (shape_of_roster roster) e.stage ≡ Some (Final shuffle)
+shows-opening : (roster : Roster) (t : Transcript) (e : ReplaysFault roster t) (shuffle member : ℕ) → IsBytes (transcript_spelling t)
+    → kind_of_stage (shape_of_roster roster) e.stage ≡ Some (Final shuffle)
     → 1 ≤ member → member ≤ (shape_of_roster roster).members → ShowsOpening roster t e member
-shows-opening roster t e shuffle member bytes kind least most = record { dispute = dispute; opening = opening ∙ ap (λ (b : Body). (shown_in b).outer_opening) dispute.is }
+shows-opening roster t e shuffle member bytes kind least most =
+    record { dispute = dispute; opening = opening ∙ ap (λ (b : Body). (shown_in b).outer_opening) dispute.is }
   where
     shape : Shape
     shape = shape_of_roster roster
@@ -86,7 +91,8 @@ shows-opening roster t e shuffle member bytes kind least most = record { dispute
 
     dispute : IsDispute (e.said member).body
     dispute =
-        let grammar = file-grammar roster t.round (post_listed t member) (e.said member) (listed-bytes t (post_listed t member) bytes (object-listed roster t member e least most)) own.file in
+        let grammar =
+        file-grammar roster t.round (post_listed t member) (e.said member) (listed-bytes t (post_listed t member) bytes (object-listed roster t member e least most)) own.file in
         dispute-at shape (e.said member).header.stage shuffle (e.said member).body (ap (kind_of_stage shape) own.at ∙ kind) grammar.1 own.dissents
 
     parts : List Shown
@@ -102,7 +108,8 @@ shows-opening roster t e shuffle member bytes kind least most = record { dispute
         (slice_get-map (λ (s : Shown). s.outer_opening) parts (member - 1) ∙ ap (option_map (λ (s : Shown). s.outer_opening)) place)
 
 -- the strings of the layer seeds that are shown are among those of the transcript
-shown-strings : (roster : Roster) (t : Transcript) (strings : List (List ℕ)) (e : ReplaysFault roster t) (shuffle : ℕ) → IsTranscript (shape_of_roster roster) t → IsBytes (transcript_spelling t) → NoCollision strings
+shown-strings : (roster : Roster) (t : Transcript) (strings : List (List ℕ)) (e : ReplaysFault roster t) (shuffle : ℕ) → IsTranscript (shape_of_roster roster) t
+    → IsBytes (transcript_spelling t) → NoCollision strings
     → ((s : List ℕ) → Contains (strings_of_transcript roster t) s → Contains strings s) → kind_of_stage (shape_of_roster roster) e.stage ≡ Some (Final shuffle)
     → HasShownStrings (inquiry_by (shape_of_roster roster) t.round e.stage e.past e.said) shuffle strings
 shown-strings roster t strings e shuffle form bytes none among kind = record {
@@ -131,7 +138,8 @@ shown-strings roster t strings e shuffle form bytes none among kind = record {
         dispute.is (ap (kind_of_stage shape) own.at ∙ kind) lies.least lies.most
 
     strings-same : (member layer : ℕ) (is : IsMember q member)
-        → layer_seed_string (opens member is).dispute.opening t.round shuffle 2 (e.said member).header.sender layer ≡ layer_seed_string (outer_opening q member) q.round shuffle 2 member layer
+        → layer_seed_string (opens member is).dispute.opening t.round shuffle 2 (e.said member).header.sender layer
+        ≡ layer_seed_string (outer_opening q member) q.round shuffle 2 member layer
     strings-same member layer is =
         ap (λ (opening : List ℕ). layer_seed_string opening t.round shuffle 2 (e.said member).header.sender layer) (sym (opens member is).opening)
         ∙ ap (λ (m : ℕ). layer_seed_string (outer_opening q member) t.round shuffle 2 m layer) (e.object member is.least is.most).sender
@@ -145,7 +153,8 @@ accused-within shape t form = (let parts = and_parts _ _ form.accused in (leb-tr
 -- what is shown of the member of an honest run by a transcript whose strings do not collide with those of the runs
 pub by-run-unless : (shows : Roster → Transcript → Type 0)
     → ((roster : Roster) (t : Transcript) → IsTranscript (shape_of_roster roster) t → shows roster t → HasOwnPost roster t)
-    → ((run : Run) (runs : List Run) (t : Transcript) → Contains runs run → OneRun t run → IsTranscript (shape_in run.config) t → IsBytes (transcript_spelling t) → NoneCollide run.config.roster runs (transcript_spelling t) → shows run.config.roster t → ⊥)
+    → ((run : Run) (runs : List Run) (t : Transcript) → Contains runs run → OneRun t run → IsTranscript (shape_in run.config) t
+    → IsBytes (transcript_spelling t) → NoneCollide run.config.roster runs (transcript_spelling t) → shows run.config.roster t → ⊥)
     → NotShownUnlessCollide shows
 by-run-unless shows post refute roster runs t honest form bytes none said e =
     let one = one-run roster runs t honest said (post roster t form e) in
@@ -153,7 +162,8 @@ by-run-unless shows post refute roster runs t honest form bytes none said e =
     (λ form none e. refute one.0 runs t one.1 one.3 form bytes none e) form none e
 
 -- the strings of a transcript are among all those that do not collide
-pub transcript-among : (run : Run) (runs : List Run) (t : Transcript) → OneRun t run → IsTranscript (shape_in run.config) t → (s : List ℕ) → Contains (strings_of_transcript run.config.roster t) s
+pub transcript-among : (run : Run) (runs : List Run) (t : Transcript) → OneRun t run → IsTranscript (shape_in run.config) t → (s : List ℕ)
+    → Contains (strings_of_transcript run.config.roster t) s
     → Contains (strings_of_runs runs ++ strings_of_evidence run.config.roster (transcript_spelling t)) s
 transcript-among run runs t one form s listed =
     Contains-append_right (strings_of_runs runs) (strings_of_evidence run.config.roster (transcript_spelling t)) s

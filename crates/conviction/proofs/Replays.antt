@@ -1,5 +1,5 @@
 -- What the posts of a replay embed is what the accused kept, and the replay of it finds no fault of its views and seeds.
-use Rattle.std.proofs.Common.{◌≡◌, ℕ, zero, suc, ◌+◌, ◌-◌, ◌<◌, ◌≤◌, Bool, true, false, List, [], ◌∷◌, length, map, take, Option, Some, None, Result, Ok, ap, sym, ◌∙◌, refl, subst, arith, inl, inr}
+use Rattle.std.proofs.Common.{◌≡◌, ℕ, ◌+◌, ◌-◌, ◌<◌, ◌≤◌, Bool, true, false, List, [], length, map, take, Option, Some, None, Result, Ok, ap, sym, ◌∙◌, refl, subst, arith, inl, inr}
 use Rattle.std.specs.Prelude.{◌==◌, Contains, IsSome, option_and_then, option_map, slice_index_or}
 use Rattle.std.specs.List.{slice_get, range_with_len}
 use Rattle.std.proofs.lemmas.Bool.{and_parts, cases_Bool, cases_lt, cond-true, cond-false, leb-true}
@@ -40,6 +40,7 @@ use Rattle.round_spec.specs.Verdict.{is_dissent, shown_in}
 use Rattle.conviction.specs.Accepts.{Objects, inquiry_by, parts_shown, post_listed}
 use Rattle.conviction.specs.Blame.{CommonLogIsOwn, IsOwnInquiry, SeedNotOwn, ShowsOwn, ViewNotOwn}
 use Rattle.conviction.proofs.Closings.{IsPast, OwnClosing, final-is, is-past, own-closing}
+use Rattle.conviction.proofs.Listed.{place-listed}
 use Rattle.conviction.proofs.OnePost.{IsRowOf, file-row, keys-are, own_keys}
 use Rattle.conviction.proofs.OwnRows.{OwnSaid, own-body, own-right, own-said, own-speaks}
 
@@ -67,7 +68,8 @@ dissent-objects (Check vote) e = absurd cc
 dissent-objects (Confirm votes) e = absurd cc
 
 -- where the member of a row objects at the end of a shuffle, it shows its own part
-dispute-shows : (shape : Shape) (posts : List Post) (stage : ℕ) (inner outer opening : List ℕ) → is_dissent (final_row shape posts stage inner outer opening) ≡ true
+dispute-shows : (shape : Shape) (posts : List Post) (stage : ℕ) (inner outer opening : List ℕ)
+    → is_dissent (final_row shape posts stage inner outer opening) ≡ true
     → shown_in (final_row shape posts stage inner outer opening) ≡ record { outer_seed = outer; outer_opening = opening }
 unfolding final_row
 dispute-shows shape posts stage inner outer opening dissents =
@@ -96,12 +98,7 @@ common_log_is_own run t one form e = from (file-row run t (post_listed t t.accus
     own = e.object t.accused member.0 member.1
 
     listed : Contains t.posts (post_listed t t.accused)
-    listed = (t.accused - 1, (let least = member.0 in let most = member.1 in let count = e.count in omega arith), at_place t.posts (t.accused - 1) (let least = member.0 in let most = member.1 in let count = e.count in omega arith))
-      where
-        at_place : (posts : List (List ℕ)) (k : ℕ) → k < length posts → slice_index_or posts k (slice_index_or posts k []) ≡ slice_index_or posts k []
-        at_place [] k lt = absurd (omega (arith, lt))
-        at_place (x ∷ xs) zero lt = refl
-        at_place (x ∷ xs) (suc k) lt = at_place xs k (omega (arith, lt))
+    listed = place-listed t.posts (t.accused - 1) (let least = member.0 in let most = member.1 in let count = e.count in omega arith)
 
     from : IsRowOf run (e.said t.accused) → IsOwnInquiry run (inquiry_by shape t.round e.stage e.past e.said)
     from said = record {
@@ -144,35 +141,44 @@ common_log_is_own run t one form e = from (file-row run t (post_listed t t.accus
 
         shows : (shuffle : ℕ) → kind_of_stage shape e.stage ≡ Some (Final shuffle) → ShowsOwn run (inquiry_by shape t.round e.stage e.past e.said) shuffle
         shows shuffle kind =
-            let all : parts_shown shape (kind_of_stage shape e.stage) e.said ≡ by_member shape (λ m. shown_in (e.said m).body) = ap (λ (o : Option StageKind). parts_shown shape o e.said) kind in
+            let all : parts_shown shape (kind_of_stage shape e.stage) e.said ≡ by_member shape (λ m. shown_in (e.said m).body) =
+            ap (λ (o : Option StageKind). parts_shown shape o e.said) kind in
             let here : kind_of_stage shape said.row.stage ≡ Some (Final shuffle) = ap (kind_of_stage shape) (sym stage) ∙ kind in
             let read = final-is run said.text said.row shuffle one.honest here in
             let shown : shown_in (e.said t.accused).body ≡ record { outer_seed = own_key_seed run.config (outer_place shuffle); outer_opening = own_opening run.config shuffle 2 } =
             ap (λ (c : Content). shown_in c.body) (sym said.reads ∙ read)
             ∙ dispute-shows shape said.row.past said.row.stage _ _ _ (ap (λ (c : Content). is_dissent c.body) (sym read) ∙ dissents) in
             let place : slice_get (parts_shown shape (kind_of_stage shape e.stage) e.said) (run.config.number - 1) ≡ Some (shown_in (e.said t.accused).body) =
-            ap (λ (xs : List Shown). slice_get xs (run.config.number - 1)) all ∙ ap (λ (m : ℕ). slice_get (by_member shape (λ m. shown_in (e.said m).body)) (m - 1)) one.number
+            ap (λ (xs : List Shown). slice_get xs (run.config.number - 1)) all
+            ∙ ap (λ (m : ℕ). slice_get (by_member shape (λ m. shown_in (e.said m).body)) (m - 1)) one.number
             ∙ by-member (λ m. shown_in (e.said m).body) shape.members t.accused member.0 member.1 in
             record {
               many = ap length all ∙ length-map-range_with_len (λ m. shown_in (e.said m).body) 1 shape.members;
-              seed = get_or_from_slice_get (map (λ (s : Shown). s.outer_seed) (parts_shown shape (kind_of_stage shape e.stage) e.said)) (run.config.number - 1) _ []
-                  (slice_get-map (λ (s : Shown). s.outer_seed) (parts_shown shape (kind_of_stage shape e.stage) e.said) (run.config.number - 1) ∙ ap (option_map (λ (s : Shown). s.outer_seed)) place)
+              seed =
+                  get_or_from_slice_get (map (λ (s : Shown). s.outer_seed) (parts_shown shape (kind_of_stage shape e.stage) e.said)) (run.config.number - 1) _ []
+                  (slice_get-map (λ (s : Shown). s.outer_seed) (parts_shown shape (kind_of_stage shape e.stage) e.said) (run.config.number - 1) ∙ ap
+                  (option_map (λ (s : Shown). s.outer_seed)) place)
                   ∙ ap (λ (s : Shown). s.outer_seed) shown;
-              opening = get_or_from_slice_get (map (λ (s : Shown). s.outer_opening) (parts_shown shape (kind_of_stage shape e.stage) e.said)) (run.config.number - 1) _ []
-                  (slice_get-map (λ (s : Shown). s.outer_opening) (parts_shown shape (kind_of_stage shape e.stage) e.said) (run.config.number - 1) ∙ ap (option_map (λ (s : Shown). s.outer_opening)) place)
+              opening =
+                  get_or_from_slice_get (map (λ (s : Shown). s.outer_opening) (parts_shown shape (kind_of_stage shape e.stage) e.said)) (run.config.number - 1) _ []
+                  (slice_get-map (λ (s : Shown). s.outer_opening) (parts_shown shape (kind_of_stage shape e.stage) e.said) (run.config.number - 1)
+                  ∙ ap (option_map (λ (s : Shown). s.outer_opening)) place)
                   ∙ ap (λ (s : Shown). s.outer_opening) shown;
             }
 
 -- ---- views
 
 -- a slot with a number before a stage is of an earlier stage
-earlier : (shape : Shape) (slot : Slot) (stage : ℕ) → is_slot shape slot.stage slot.sender ≡ true → slot_number shape slot.stage slot.sender < slots_before shape stage → slot.stage < stage
+earlier : (shape : Shape) (slot : Slot) (stage : ℕ) → is_slot shape slot.stage slot.sender ≡ true
+    → slot_number shape slot.stage slot.sender < slots_before shape stage → slot.stage < stage
 earlier shape slot stage speaks few = elim (cases_lt slot.stage stage) [
   | inl lt ↦ lt
-  | inr late ↦ absurd (let within = (slot_number-within shape slot.stage slot.sender speaks).0 in omega (arith, within, few, slots_before-rises shape stage slot.stage (omega arith)))
+  | inr late ↦
+      absurd (let within = (slot_number-within shape slot.stage slot.sender speaks).0 in omega (arith, within, few, slots_before-rises shape stage slot.stage (omega arith)))
 ]
 
-wrong-parts : (shape : Shape) (past : List (List ℕ)) (slot found : Slot) → wrong_slot shape past slot ≡ Some found → (is_right shape past slot ≡ false) × (slot ≡ found)
+wrong-parts : (shape : Shape) (past : List (List ℕ)) (slot found : Slot) → wrong_slot shape past slot ≡ Some found
+    → (is_right shape past slot ≡ false) × (slot ≡ found)
 wrong-parts shape past slot found e = elim (cases_Bool (is_right shape past slot)) [
   | inl right ↦ absurd (let none = sym (cond-true (is_right shape past slot) None (Some slot) right) ∙ e in cc)
   | inr wrong ↦ (wrong, (let some : Some slot ≡ Some found = sym (cond-false (is_right shape past slot) None (Some slot) wrong) ∙ e in cc))
@@ -197,9 +203,11 @@ view_not_own run q found honest is e own =
     let some = option_map-some (λ (slot : Slot). fault View slot.sender) (first_wrong q.shape q.past q.stage) found e in
     refute some.0 (ap (λ (f : Fault). f.member) some.2 ∙ own) (first-wrong q.shape q.past q.stage some.0 some.1)
   where
-    refute : (slot : Slot) → slot.sender ≡ run.config.number → (is_right q.shape q.past slot ≡ false) × (is_slot q.shape slot.stage slot.sender ≡ true) × (slot.stage < q.stage) → ⊥
+    refute : (slot : Slot) → slot.sender ≡ run.config.number
+        → (is_right q.shape q.past slot ≡ false) × (is_slot q.shape slot.stage slot.sender ≡ true) × (slot.stage < q.stage) → ⊥
     refute slot sender (wrong, speaks, lt) =
-        let here : is_slot (shape_in run.config) slot.stage run.config.number ≡ true = ap (λ (s : Shape). is_slot s slot.stage run.config.number) (sym is.shape) ∙ ap (is_slot q.shape slot.stage) (sym sender) ∙ speaks in
+        let here : is_slot (shape_in run.config) slot.stage run.config.number ≡ true =
+        ap (λ (s : Shape). is_slot s slot.stage run.config.number) (sym is.shape) ∙ ap (is_slot q.shape slot.stage) (sym sender) ∙ speaks in
         let said = own-said run q.stage slot.stage is.posts honest is.kept here lt in
         let slot_is : own_slot run slot.stage ≡ slot = ap (λ (k : ℕ). record { stage = slot.stage; sender = k }) (sym sender) in
         let right : is_right q.shape q.past slot ≡ true =

@@ -31,7 +31,8 @@ pub record IsSaid (run : Run) (posts : List Post) (stage member : ℕ) : Type 0 
   pub said : body_of (content_read (shape_in run.config) (slice_index_or (contents_of posts) (slot_number (shape_in run.config) stage member) [])) ≡ body
   pub grammar : IsBody (shape_in run.config) stage body
 
-pub past-said : (run : Run) (later stage member : ℕ) (posts : List Post) → IsPast run later posts → is_slot (shape_in run.config) stage member ≡ true → stage < later → IsSaid run posts stage member
+pub past-said : (run : Run) (later stage member : ℕ) (posts : List Post) → IsPast run later posts → is_slot (shape_in run.config) stage member ≡ true
+    → stage < later → IsSaid run posts stage member
 past-said run later stage member posts is speaks lt =
     let shape = shape_in run.config in
     let number : ℕ = slot_number shape stage member in
@@ -42,7 +43,8 @@ past-said run later stage member posts is speaks lt =
     let parts = checks-parts run.config.roster run.config.round found.0 checks.content checks.checks in
     let spelled = content-is_spelled shape found.0.content checks.content checks.content_bytes parts.2 in
     let text : get_or (contents_of posts) number [] ≡ found.0.content =
-    get_or_from_slice_get (contents_of posts) number found.0.content [] (slice_get-map (λ (p : Post). p.content) posts number ∙ ap (option_map (λ (p : Post). p.content)) found.1) in
+    get_or_from_slice_get (contents_of posts) number found.0.content []
+    (slice_get-map (λ (p : Post). p.content) posts number ∙ ap (option_map (λ (p : Post). p.content)) found.1) in
     record {
       body = checks.content.body;
       said = ap (λ (bytes : List ℕ). body_of (content_read shape bytes)) text ∙ ap body_of parts.2;
@@ -58,7 +60,8 @@ some-none : {A : Type 0} (o : Option A) (a : A) → o ≡ None → o ≡ Some a 
 some-none o a none some = absurd (let both = sym none ∙ some in cc)
 
 -- a list of the grammar has an entry of one length for each member
-pub list-long : (shape : Shape) (stage shuffle turn : ℕ) (list : List (List ℕ)) → kind_of_stage shape stage ≡ Some (AtShuffle shuffle turn) → IsBody shape stage (Shuffled list)
+pub list-long : (shape : Shape) (stage shuffle turn : ℕ) (list : List (List ℕ)) → kind_of_stage shape stage ≡ Some (AtShuffle shuffle turn)
+    → IsBody shape stage (Shuffled list)
     → AllByRecursion (λ entry. length entry ≡ level shape.members shuffle turn) list × (length list ≡ shape.members)
 unfolding body_form
 list-long shape stage shuffle turn list kind is =
@@ -74,17 +77,28 @@ list-body shape stage shuffle turn list kind long count = (_, ap (λ (o : Option
 pub submission-long : (shape : Shape) (stage shuffle : ℕ) (body : Body) → kind_of_stage shape stage ≡ Some (AtSubmit shuffle) → IsBody shape stage body
     → length (ciphertext_of body) ≡ level shape.members shuffle 0
 unfolding body_form
-submission-long shape stage shuffle (Submit c) kind is = subst (λ form. Fits form (Submit c)) (some-same _ _ (sym is.1 ∙ ap (λ (o : Option StageKind). form_of shape (slots_before shape stage) o 2) kind)) is.2
-submission-long shape stage shuffle (Keys keys) kind is = absurd (some-none _ is.0 (ap (λ (o : Option StageKind). form_of shape (slots_before shape stage) o 1) kind) is.1)
-submission-long shape stage shuffle (Shuffled list) kind is = absurd (some-none _ is.0 (ap (λ (o : Option StageKind). form_of shape (slots_before shape stage) o 3) kind) is.1)
-submission-long shape stage shuffle Abort kind is = absurd (some-none _ is.0 (ap (λ (o : Option StageKind). form_of shape (slots_before shape stage) o 4) kind) is.1)
-submission-long shape stage shuffle (Go vote) kind is = absurd (some-none _ is.0 (ap (λ (o : Option StageKind). form_of shape (slots_before shape stage) o 5) kind) is.1)
-submission-long shape stage shuffle (Reveal votes seed) kind is = absurd (some-none _ is.0 (ap (λ (o : Option StageKind). form_of shape (slots_before shape stage) o 6) kind) is.1)
-submission-long shape stage shuffle (Dispute posts seed opening) kind is = absurd (some-none _ is.0 (ap (λ (o : Option StageKind). form_of shape (slots_before shape stage) o 7) kind) is.1)
-submission-long shape stage shuffle (Pads pads) kind is = absurd (some-none _ is.0 (ap (λ (o : Option StageKind). form_of shape (slots_before shape stage) o 8) kind) is.1)
-submission-long shape stage shuffle (Check vote) kind is = absurd (some-none _ is.0 (ap (λ (o : Option StageKind). form_of shape (slots_before shape stage) o 9) kind) is.1)
-submission-long shape stage shuffle (Confirm votes) kind is = absurd (some-none _ is.0 (ap (λ (o : Option StageKind). form_of shape (slots_before shape stage) o 10) kind) is.1)
-submission-long shape stage shuffle (Differ posts) kind is = absurd (some-none _ is.0 (ap (λ (o : Option StageKind). form_of shape (slots_before shape stage) o 11) kind) is.1)
+submission-long shape stage shuffle (Submit c) kind is =
+    subst (λ form. Fits form (Submit c)) (some-same _ _ (sym is.1 ∙ ap (λ (o : Option StageKind). form_of shape (slots_before shape stage) o 2) kind)) is.2
+submission-long shape stage shuffle (Keys keys) kind is =
+    absurd (some-none _ is.0 (ap (λ (o : Option StageKind). form_of shape (slots_before shape stage) o 1) kind) is.1)
+submission-long shape stage shuffle (Shuffled list) kind is =
+    absurd (some-none _ is.0 (ap (λ (o : Option StageKind). form_of shape (slots_before shape stage) o 3) kind) is.1)
+submission-long shape stage shuffle Abort kind is =
+    absurd (some-none _ is.0 (ap (λ (o : Option StageKind). form_of shape (slots_before shape stage) o 4) kind) is.1)
+submission-long shape stage shuffle (Go vote) kind is =
+    absurd (some-none _ is.0 (ap (λ (o : Option StageKind). form_of shape (slots_before shape stage) o 5) kind) is.1)
+submission-long shape stage shuffle (Reveal votes seed) kind is =
+    absurd (some-none _ is.0 (ap (λ (o : Option StageKind). form_of shape (slots_before shape stage) o 6) kind) is.1)
+submission-long shape stage shuffle (Dispute posts seed opening) kind is =
+    absurd (some-none _ is.0 (ap (λ (o : Option StageKind). form_of shape (slots_before shape stage) o 7) kind) is.1)
+submission-long shape stage shuffle (Pads pads) kind is =
+    absurd (some-none _ is.0 (ap (λ (o : Option StageKind). form_of shape (slots_before shape stage) o 8) kind) is.1)
+submission-long shape stage shuffle (Check vote) kind is =
+    absurd (some-none _ is.0 (ap (λ (o : Option StageKind). form_of shape (slots_before shape stage) o 9) kind) is.1)
+submission-long shape stage shuffle (Confirm votes) kind is =
+    absurd (some-none _ is.0 (ap (λ (o : Option StageKind). form_of shape (slots_before shape stage) o 10) kind) is.1)
+submission-long shape stage shuffle (Differ posts) kind is =
+    absurd (some-none _ is.0 (ap (λ (o : Option StageKind). form_of shape (slots_before shape stage) o 11) kind) is.1)
 
 -- a body that has a list is it
 pub list-told : (body : Body) (list : List (List ℕ)) → list_of body ≡ Some list → body ≡ Shuffled list

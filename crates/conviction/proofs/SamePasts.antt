@@ -50,7 +50,8 @@ short-content post n lt =
     let size : List ℕ = to_be_bytes w32 (length post.content) in
     omega (arith, lt, length-append size post.content, length-append (size ++ post.content) post.signature)
 
-past-pieces : (posts : List Post) → ((k : ℕ) (post : Post) → slice_get posts k ≡ Some post → length (post_spelling post) < 2 ^ 32) → ArePieces (contents_of posts)
+past-pieces : (posts : List Post) → ((k : ℕ) (post : Post) → slice_get posts k ≡ Some post → length (post_spelling post) < 2 ^ 32)
+    → ArePieces (contents_of posts)
 past-pieces [] short = tt
 past-pieces (post ∷ posts) short = (short-content post (2 ^ 32) (short 0 post refl), past-pieces posts (λ k other at. short (suc k) other at))
 
@@ -58,14 +59,16 @@ posts-same : (xs ys : List Post) → (let told : List Post → Result (List Post
 posts-same xs ys e = cc
 
 -- so are those of posts that are found for their slots among short bytes
-found-pieces : (roster : Roster) (round place : ℕ) (slots : List Slot) (items : List (List ℕ)) (posts : List Post) → ((item : List ℕ) → Contains items item → IsBytes item) → AllByRecursion (λ item. length item < 2 ^ 32) items
+found-pieces : (roster : Roster) (round place : ℕ) (slots : List Slot) (items : List (List ℕ)) (posts : List Post)
+    → ((item : List ℕ) → Contains items item → IsBytes item) → AllByRecursion (λ item. length item < 2 ^ 32) items
     → posts_for roster round place (zip slots items) ≡ Ok posts → ArePieces (contents_of posts)
 unfolding posts_for
 found-pieces roster round place [] items posts bytes short e = subst (λ (xs : List Post). ArePieces (contents_of xs)) (posts-same [] posts e) tt
 found-pieces roster round place (slot ∷ slots) [] posts bytes short e = subst (λ (xs : List Post). ArePieces (contents_of xs)) (posts-same [] posts e) tt
 found-pieces roster round place (slot ∷ slots) (item ∷ items) posts bytes short e =
     let bad : WhyNot → BadPost = λ why. record { place = place; why = why } in
-    let first = bind_ok (fault_as bad (post_for_slot roster round slot item)) (λ post. posts_for roster round (place + 1) (zip slots items) >>= λ posts. Ok (post ∷ posts)) posts e in
+    let first =
+    bind_ok (fault_as bad (post_for_slot roster round slot item)) (λ post. posts_for roster round (place + 1) (zip slots items) >>= λ posts. Ok (post ∷ posts)) posts e in
     let others = bind_ok (posts_for roster round (place + 1) (zip slots items)) (λ posts. Ok (first.0 ∷ posts)) posts first.2 in
     let is = post-for-slot roster round slot item first.0 (fault_as_ok bad (post_for_slot roster round slot item) first.0 first.1) in
     let spelled = (framed-found item first.0 (bytes item (contains-here item items)) is.spelled).1 in
@@ -77,20 +80,24 @@ found-pieces roster round place (slot ∷ slots) (item ∷ items) posts bytes sh
 -- ---- one view
 
 -- the own pads
-pub own-pads : (run : Run) (t : Transcript) → OneRun t run → (e : ShowsBadPad run.config.roster t) → IsRowOf run (record { header = e.header; body = Pads e.pads })
+pub own-pads : (run : Run) (t : Transcript) → OneRun t run → (e : ShowsBadPad run.config.roster t)
+    → IsRowOf run (record { header = e.header; body = Pads e.pads })
 own-pads run t one e =
     file-row run t e.pads_post (record { header = e.header; body = Pads e.pads }) one e.pads_are (got-listed t.posts _ e.pads_post e.last) e.sender
 
 -- what is listed of the log for a bad pad
-pub listed-log : (run : Run) (t : Transcript) → IsTranscript (shape_in run.config) t → (e : ShowsBadPad run.config.roster t) → log_listed run.config.roster t t.claim ≡ Some (log_kept (shape_in run.config) e.log)
+pub listed-log : (run : Run) (t : Transcript) → IsTranscript (shape_in run.config) t → (e : ShowsBadPad run.config.roster t)
+    → log_listed run.config.roster t t.claim ≡ Some (log_kept (shape_in run.config) e.log)
 listed-log run t form e =
     let claim = (detail-is t.claim e.accusation (subst (HasDetail t.claim) e.detail form.detail)).0 in
     let within = slice_get_within t.posts (slots_before (shape_in run.config) (pad_stage (shape_in run.config))) e.pads_post e.last in
     ap (log_listed run.config.roster t) claim ∙ log-listed run.config.roster t e.log e.whole (omega (arith, within)) e.stands
 
 -- the log that is listed has the contents before the own pads
-pub same-past : (run : Run) (runs : List Run) (t : Transcript) → Contains runs run → OneRun t run → IsTranscript (shape_in run.config) t → IsBytes (transcript_spelling t) → NoneCollide run.config.roster runs (transcript_spelling t)
-    → (e : ShowsBadPad run.config.roster t) (own : IsRowOf run (record { header = e.header; body = Pads e.pads })) → contents_of e.log ≡ contents_of own.row.past
+pub same-past : (run : Run) (runs : List Run) (t : Transcript) → Contains runs run → OneRun t run → IsTranscript (shape_in run.config) t
+    → IsBytes (transcript_spelling t) → NoneCollide run.config.roster runs (transcript_spelling t)
+    → (e : ShowsBadPad run.config.roster t) (own : IsRowOf run (record { header = e.header; body = Pads e.pads }))
+    → contents_of e.log ≡ contents_of own.row.past
 same-past run runs t listed one form bytes none e own =
     sym (take_all n (contents_of e.log) (let whole = e.whole in omega (arith, length-map e.log (λ (p : Post). p.content))))
     ∙ views-determine shape (contents_of e.log) (contents_of own.row.past) strings stage
@@ -128,16 +135,19 @@ same-past run runs t listed one form bytes none e own =
 
     of_log : (s : List ℕ) → Contains (view_strings shape (contents_of e.log) stage) s → Contains strings s
     of_log s there = transcript-among run runs t one form s
-        ((transcript_has_strings run.config.roster t).listed_views (log_kept shape e.log) (listed-log run t form e) stage e.log s (omega (arith, here)) (kept-before shape stage e.log e.whole) there)
+        ((transcript_has_strings run.config.roster t).listed_views (log_kept shape e.log) (listed-log run t form e) stage e.log s
+        (omega (arith, here)) (kept-before shape stage e.log e.whole) there)
 
     of_run : (s : List ℕ) → Contains (view_strings shape (contents_of own.row.past) stage) s → Contains strings s
     of_run s there =
         let shape_is : run.log.shape ≡ shape = one.honest.shape in
         let same : view_strings shape (contents_of own.row.past) stage ≡ view_strings run.log.shape (contents_of own.row.past) own.row.stage =
-        ap (view_strings shape (contents_of own.row.past)) (sym at) ∙ ap (λ (s : Shape). view_strings s (contents_of own.row.past) own.row.stage) (sym shape_is) in
+        ap (view_strings shape (contents_of own.row.past)) (sym at)
+        ∙ ap (λ (s : Shape). view_strings s (contents_of own.row.past) own.row.stage) (sym shape_is) in
         Contains-append_left (strings_of_runs runs) (strings_of_evidence run.config.roster (transcript_spelling t)) s
         (contains-flat-from strings_of_run runs run s listed
-        ((run_has_strings run).views own.row.stage own.row.past s (omega (arith, at, here, ap (λ (s : Shape). s.members) shape_is)) own.row.before (subst (λ (all : List (List ℕ)). Contains all s) same there)))
+        ((run_has_strings run).views own.row.stage own.row.past s (omega (arith, at, here, ap (λ (s : Shape). s.members) shape_is)) own.row.before
+        (subst (λ (all : List (List ℕ)). Contains all s) same there)))
 
 pub pad_same_log : PadSameLog
 pad_same_log run runs t listed one form bytes none e =

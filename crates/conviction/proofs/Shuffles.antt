@@ -67,7 +67,8 @@ order-long : (n : ℕ) (xs ys : List (List ℕ)) → IsPermutation xs ys → All
 order-long n xs ys order long = all-of (λ x. length x ≡ n) ys (λ y there. all-in (λ x. length x ≡ n) xs y long (((permutation_keeps xs ys order).1 y).1 there))
 
 -- a layer off takes 2,272 bytes away
-bodies-long : (seed : List ℕ) (n : ℕ) (xs ys : List (List ℕ)) → AllZip (HasBody seed) xs ys → AllByRecursion (λ x. length x ≡ n + 2272) xs → AllByRecursion (λ y. length y ≡ n) ys
+bodies-long : (seed : List ℕ) (n : ℕ) (xs ys : List (List ℕ)) → AllZip (HasBody seed) xs ys → AllByRecursion (λ x. length x ≡ n + 2272) xs
+    → AllByRecursion (λ y. length y ≡ n) ys
 bodies-long seed n [] [] zip long = tt
 bodies-long seed n [] (y ∷ ys) zip long = absurd zip
 bodies-long seed n (x ∷ xs) [] zip long = absurd zip
@@ -82,7 +83,8 @@ all-range : (P : List ℕ → Type 0) (f : ℕ → List ℕ) (a n : ℕ) → ((m
 all-range P f a zero each = tt
 all-range P f a (suc n) each = (each a (omega arith) (omega arith), all-range P f (a + 1) n (λ m le lt. each m (omega arith) (omega arith)))
 
-zip-range : (R : List ℕ → List ℕ → Type 0) (f g : ℕ → List ℕ) (a n : ℕ) → ((m : ℕ) → a ≤ m → m < a + n → R (f m) (g m)) → AllZip R (map f (range_with_len a n)) (map g (range_with_len a n))
+zip-range : (R : List ℕ → List ℕ → Type 0) (f g : ℕ → List ℕ) (a n : ℕ) → ((m : ℕ) → a ≤ m → m < a + n → R (f m) (g m))
+    → AllZip R (map f (range_with_len a n)) (map g (range_with_len a n))
 zip-range R f g a zero each = tt
 zip-range R f g a (suc n) each = (each a (omega arith) (omega arith), zip-range R f g (a + 1) n (λ m le lt. each m (omega arith) (omega arith)))
 
@@ -111,7 +113,8 @@ said-same run q is later stage member speaks lt =
     ∙ sym (body-in run q is stage member)
 
 -- the stage of the submissions
-submit-same : (shape : Shape) (stage shuffle : ℕ) → kind_of_stage shape stage ≡ Some (Final shuffle) → submit_stage_of shape shuffle ≡ stage - (shape.members + 2)
+submit-same : (shape : Shape) (stage shuffle : ℕ) → kind_of_stage shape stage ≡ Some (Final shuffle)
+    → submit_stage_of shape shuffle ≡ stage - (shape.members + 2)
 submit-same shape stage shuffle kind = elim (ends_at shape stage shuffle kind) [
   | inl a ↦ (let at = a.1 in cond-true (shuffle == 1) 1 (shape.members + 7) (eq-eqb shuffle 1 a.0) ∙ omega (arith, at))
   | inr b ↦ (let at = b.1 in cond-false (shuffle == 1) 1 (shape.members + 7) (ap (λ (s : ℕ). s == 1) b.0) ∙ omega (arith, at))
@@ -130,15 +133,19 @@ pub record IsEnded (run : Run) (q : Inquiry) (shuffle : ℕ) : Type 0 where
 submit-kind : (run : Run) (q : Inquiry) (shuffle : ℕ) → IsEnded run q shuffle → kind_of_stage (shape_in run.config) (submit_stage q) ≡ Some (AtSubmit shuffle)
 submit-kind run q shuffle e = ap (λ (s : Shape). kind_of_stage s (submit_stage q)) (sym e.is.shape) ∙ submit_there q.shape q.stage shuffle e.kind
 
-pub turn-kind : (run : Run) (q : Inquiry) (shuffle turn : ℕ) → IsEnded run q shuffle → 1 ≤ turn → turn ≤ q.shape.members → kind_of_stage (shape_in run.config) (submit_stage q + turn) ≡ Some (AtShuffle shuffle turn)
-turn-kind run q shuffle turn e least most = ap (λ (s : Shape). kind_of_stage s (submit_stage q + turn)) (sym e.is.shape) ∙ turn_there q.shape q.stage shuffle turn e.kind least most
+pub turn-kind : (run : Run) (q : Inquiry) (shuffle turn : ℕ) → IsEnded run q shuffle → 1 ≤ turn → turn ≤ q.shape.members
+    → kind_of_stage (shape_in run.config) (submit_stage q + turn) ≡ Some (AtShuffle shuffle turn)
+turn-kind run q shuffle turn e least most =
+    ap (λ (s : Shape). kind_of_stage s (submit_stage q + turn)) (sym e.is.shape) ∙ turn_there q.shape q.stage shuffle turn e.kind least most
 
-submit-speaks : (run : Run) (q : Inquiry) (shuffle member : ℕ) → IsEnded run q shuffle → 1 ≤ member → member ≤ q.shape.members → is_slot (shape_in run.config) (submit_stage q) member ≡ true
+submit-speaks : (run : Run) (q : Inquiry) (shuffle member : ℕ) → IsEnded run q shuffle → 1 ≤ member → member ≤ q.shape.members
+    → is_slot (shape_in run.config) (submit_stage q) member ≡ true
 submit-speaks run q shuffle member e least most =
     ap (λ (o : Option StageKind). speaks (shape_in run.config) o member) (submit-kind run q shuffle e)
     ∙ is-there (shape_in run.config).members member least (omega (arith, most, ap (λ (s : Shape). s.members) e.is.shape))
 
-turn-speaks : (run : Run) (q : Inquiry) (shuffle turn : ℕ) → IsEnded run q shuffle → 1 ≤ turn → turn ≤ q.shape.members → is_slot (shape_in run.config) (submit_stage q + turn) turn ≡ true
+turn-speaks : (run : Run) (q : Inquiry) (shuffle turn : ℕ) → IsEnded run q shuffle → 1 ≤ turn → turn ≤ q.shape.members
+    → is_slot (shape_in run.config) (submit_stage q + turn) turn ≡ true
 turn-speaks run q shuffle turn e least most =
     ap (λ (o : Option StageKind). speaks (shape_in run.config) o turn) (turn-kind run q shuffle turn e least most) ∙ eq-eqb turn turn refl
 
@@ -154,7 +161,8 @@ list-same run q shuffle zero e lt =
     ap (λ (entries : List (List ℕ)). Some entries)
     (ap (λ (s : ℕ). map (λ member. ciphertext_of (said_in shape past s member)) (range_with_len 1 shape.members)) stage
     ∙ map-range (λ member. ciphertext_of (said_in shape past (submit_stage q) member)) (submission q) 1 shape.members
-    (λ m least most. ap ciphertext_of (said-same run q e.is (submit_stage q + 1) (submit_stage q) m (submit-speaks run q shuffle m e least (omega (arith, most, members))) (omega arith)))
+    (λ m least most. ap ciphertext_of
+    (said-same run q e.is (submit_stage q + 1) (submit_stage q) m (submit-speaks run q shuffle m e least (omega (arith, most, members))) (omega arith)))
     ∙ ap (λ (n : ℕ). map (submission q) (range_with_len 1 n)) (sym members))
 list-same run q shuffle (suc turn) e lt =
     let shape = shape_in run.config in
@@ -174,7 +182,8 @@ turn-early run q shuffle turn e most = (let late = end-least q.shape q.stage shu
 pub lists-same : (a b : List (List ℕ)) → (let told : List (List ℕ) → Option (List (List ℕ)) = λ x. Some x in told a ≡ told b) → a ≡ b
 lists-same a b e = cc
 
-entries-long : (run : Run) (q : Inquiry) (shuffle place : ℕ) (list : List (List ℕ)) (e : IsEnded run q shuffle) → HonestRun run → place < q.shape.members → list_after q place ≡ Some list
+entries-long : (run : Run) (q : Inquiry) (shuffle place : ℕ) (list : List (List ℕ)) (e : IsEnded run q shuffle) → HonestRun run → place < q.shape.members
+    → list_after q place ≡ Some list
     → AllByRecursion (λ entry. length entry ≡ level (shape_in run.config).members shuffle place) list × (length list ≡ (shape_in run.config).members)
 entries-long run q shuffle zero list e honest lt said =
     let shape = shape_in run.config in
@@ -184,7 +193,9 @@ entries-long run q shuffle zero list e honest lt said =
     subst (λ (xs : List (List ℕ)). AllByRecursion (λ entry. length entry ≡ level shape.members shuffle 0) xs × (length xs ≡ shape.members)) same (
       all-range (λ entry. length entry ≡ level shape.members shuffle 0) (submission q) 1 q.shape.members
           (λ m least most. (
-          let there = past-said run q.stage (submit_stage q) m e.is.posts past (submit-speaks run q shuffle m e least (omega (arith, most))) (let early = turn-early run q shuffle 0 e (omega arith) in omega arith) in
+          let there =
+          past-said run q.stage (submit_stage q) m e.is.posts past (submit-speaks run q shuffle m e least (omega (arith, most)))
+          (let early = turn-early run q shuffle 0 e (omega arith) in omega arith) in
           ap (λ (b : Body). length (ciphertext_of b)) (body-in run q e.is (submit_stage q) m ∙ there.said)
           ∙ submission-long shape (submit_stage q) shuffle there.body (submit-kind run q shuffle e) there.grammar)),
       length-map-range_with_len (submission q) 1 q.shape.members ∙ members,
@@ -193,7 +204,9 @@ entries-long run q shuffle (suc turn) list e honest lt said =
     let shape = shape_in run.config in
     let past = is-past run q.stage e.is.posts honest e.is.kept in
     let stage : ℕ = submit_stage q + suc turn in
-    let there = past-said run q.stage stage (suc turn) e.is.posts past (turn-speaks run q shuffle (suc turn) e (omega arith) (omega (arith, lt))) (turn-early run q shuffle (suc turn) e (omega (arith, lt))) in
+    let there =
+    past-said run q.stage stage (suc turn) e.is.posts past (turn-speaks run q shuffle (suc turn) e (omega arith) (omega (arith, lt)))
+    (turn-early run q shuffle (suc turn) e (omega (arith, lt))) in
     let body : there.body ≡ Shuffled list = list-told there.body list (ap list_of (sym there.said ∙ sym (body-in run q e.is stage (suc turn))) ∙ said) in
     list-long shape stage shuffle (suc turn) list (turn-kind run q shuffle (suc turn) e (omega arith) (omega (arith, lt))) (subst (IsBody shape stage) body there.grammar)
 
@@ -223,12 +236,14 @@ all-stripped q shuffle layers none most long =
         (ms, found.1 ∙ ap (λ (b : List ℕ). (let told : List (List ℕ) × List ℕ → Option (List (List ℕ) × List ℕ) = λ x. Some x in told (ms, b))) (sym same))
 
 -- the row of a turn over a list that was said
-turn-row : (c : Configuration) (past : List (List ℕ)) (shuffle : ℕ) (entries : List (List ℕ)) → list_said (shape_in c) past shuffle (c.number - 1) ≡ Some entries
+turn-row : (c : Configuration) (past : List (List ℕ)) (shuffle : ℕ) (entries : List (List ℕ))
+    → list_said (shape_in c) past shuffle (c.number - 1) ≡ Some entries
     → turn_row c past shuffle ≡ turn_of (own_key_seed c (outer_place shuffle)) (own_order_seed c shuffle) entries
 unfolding turn_row
 turn-row c past shuffle entries e = ap (turn_over c shuffle) e
 
-pub own-turn : (run : Run) (q : Inquiry) (shuffle place : ℕ) (strings : List (List ℕ)) (e : IsEnded run q shuffle) → HonestRun run → submission_fault q shuffle ≡ None → HasShownStrings q shuffle strings
+pub own-turn : (run : Run) (q : Inquiry) (shuffle place : ℕ) (strings : List (List ℕ)) (e : IsEnded run q shuffle) → HonestRun run
+    → submission_fault q shuffle ≡ None → HasShownStrings q shuffle strings
     → place < q.shape.members → suc place ≡ run.config.number → HasStripped q place → is_turn q (suc place) ≡ true
 own-turn run q shuffle place strings e honest none shown lt number so_far =
     let back : suc place - 1 ≡ place = omega arith in
@@ -273,7 +288,8 @@ own-turn run q shuffle place strings e honest none shown lt number so_far =
     entries = entries-long run q shuffle place so_far.list e honest lt so_far.said
 
     distinct : AllPairs (λ body later. body ≡ later → ⊥) so_far.list
-    distinct = (permutation_keeps so_far.bodies so_far.list so_far.order).2 (stripped_are_distinct q shuffle place strings so_far.bodies shown none lt long so_far.stripped)
+    distinct =
+        (permutation_keeps so_far.bodies so_far.list so_far.order).2 (stripped_are_distinct q shuffle place strings so_far.bodies shown none lt long so_far.stripped)
 
     few : length so_far.list < 2 ^ 32
     few = (let most = honest.config.roster.most in let count = entries.1 in omega arith)
@@ -297,7 +313,8 @@ own-turn run q shuffle place strings e honest none shown lt number so_far =
     input =
         let n : ℕ = slots_before shape stage in
         let before : c.number - 1 ≡ place = omega (arith, number) in
-        let front : contents_of own.row.past ≡ take n (contents_of e.is.posts) = ap contents_of own.front ∙ sym (take-map (λ (p : Post). p.content) n e.is.posts) in
+        let front : contents_of own.row.past ≡ take n (contents_of e.is.posts) =
+        ap contents_of own.front ∙ sym (take-map (λ (p : Post). p.content) n e.is.posts) in
         ap (list_said shape (contents_of own.row.past) shuffle) before
         ∙ ap (λ (past : List (List ℕ)). list_said shape past shuffle place) front
         ∙ list-same run q shuffle place e lt
@@ -314,7 +331,8 @@ own-turn run q shuffle place strings e honest none shown lt number so_far =
     body : own.row.read.body ≡ Shuffled turn.0
     body =
         let n : ℕ = level shape.members shuffle (suc place) in
-        let one_more : level shape.members shuffle place ≡ n + 2272 = sym (levels (if shuffle == 1 then 36 + 2272 * shape.members else 34) shape.members place (omega (arith, lt, same_members))) in
+        let one_more : level shape.members shuffle place ≡ n + 2272 =
+        sym (levels (if shuffle == 1 then 36 + 2272 * shape.members else 34) shape.members place (omega (arith, lt, same_members))) in
         let before = subst (λ (k : ℕ). AllByRecursion (λ entry. length entry ≡ k) so_far.list) one_more entries.0 in
         let after = bodies-long seed n so_far.list rest.0 ((strips_exactly seed so_far.list rest.0).0 rest.1) before in
         let count : length turn.0 ≡ shape.members = (permutation_keeps rest.0 turn.0 turn.2).0 ∙ strips_all seed so_far.list rest.0 rest.1 ∙ entries.1 in

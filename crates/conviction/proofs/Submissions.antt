@@ -60,7 +60,8 @@ submit-told (Differ posts) ciphertext one = absurd (let k = one.kind in omega ar
 abbrev pub submitted : (run : Run) → List (List ℕ) → ℕ → List ℕ
 submitted run past shuffle = (own_submission run.config (own_descriptor run.config past) past shuffle).ciphertext
 
-pub submits : (run : Run) (content : List ℕ) (row : IsOwnRow run content) (shuffle : ℕ) → kind_of_stage (shape_in run.config) row.stage ≡ Some (AtSubmit shuffle)
+pub submits : (run : Run) (content : List ℕ) (row : IsOwnRow run content) (shuffle : ℕ)
+    → kind_of_stage (shape_in run.config) row.stage ≡ Some (AtSubmit shuffle)
     → row.read.body ≡ Submit (submitted run (contents_of row.past) shuffle)
 submits run content row shuffle kind =
     let due : body_due run content row ≡ Submit (submitted run (contents_of row.past) shuffle) =
@@ -84,7 +85,8 @@ Found = List (List ℕ) × List ℕ
 abbrev Again : List (List ℕ) → Type 0
 Again seeds = (entry : List ℕ) (all : Found) (place : ℕ) → opened_through seeds entry ≡ Some all → place < length seeds → IsLayer seeds entry all.0 place
 
-layer-here : (seed : List ℕ) (seeds : List (List ℕ)) (entry m next : List ℕ) (rest : Found) (place : ℕ) → Again seeds → place < length (seed ∷ seeds) → peeled seed entry ≡ Some (m, next)
+layer-here : (seed : List ℕ) (seeds : List (List ℕ)) (entry m next : List ℕ) (rest : Found) (place : ℕ) → Again seeds → place < length (seed ∷ seeds)
+    → peeled seed entry ≡ Some (m, next)
     → opened_through seeds next ≡ Some rest → IsLayer (seed ∷ seeds) entry (m ∷ rest.0) place
 unfolding opened_through
 layer-here seed seeds entry m next rest zero again lt first others = record { before = []; body = entry; next = next; opens = refl; layer = first }
@@ -98,27 +100,34 @@ layer-here seed seeds entry m next rest (suc place) again lt first others =
       layer = more.layer;
     }
 
-layer-rest : (seed : List ℕ) (seeds : List (List ℕ)) (entry m next : List ℕ) (o : Option Found) (all : Found) (place : ℕ) → Again seeds → place < length (seed ∷ seeds) → peeled seed entry ≡ Some (m, next)
+layer-rest : (seed : List ℕ) (seeds : List (List ℕ)) (entry m next : List ℕ) (o : Option Found) (all : Found) (place : ℕ) → Again seeds
+    → place < length (seed ∷ seeds) → peeled seed entry ≡ Some (m, next)
     → opened_through seeds next ≡ o → option_map (λ (q : Found). (m ∷ q.0, q.1)) o ≡ Some all → IsLayer (seed ∷ seeds) entry all.0 place
 layer-rest seed seeds entry m next None all place again lt first others e = absurd cc
 layer-rest seed seeds entry m next (Some rest) all place again lt first others e =
     let same : (m ∷ rest.0, rest.1) ≡ all = cc in
     subst (λ (x : Found). IsLayer (seed ∷ seeds) entry x.0 place) same (layer-here seed seeds entry m next rest place again lt first others)
 
-layer-first : (seed : List ℕ) (seeds : List (List ℕ)) (entry : List ℕ) (o : Option (List ℕ × List ℕ)) (all : Found) (place : ℕ) → Again seeds → place < length (seed ∷ seeds) → peeled seed entry ≡ o
-    → option_and_then (λ (p : List ℕ × List ℕ). option_map (λ (q : Found). (p.0 ∷ q.0, q.1)) (opened_through seeds p.1)) o ≡ Some all → IsLayer (seed ∷ seeds) entry all.0 place
+layer-first : (seed : List ℕ) (seeds : List (List ℕ)) (entry : List ℕ) (o : Option (List ℕ × List ℕ)) (all : Found) (place : ℕ) → Again seeds
+    → place < length (seed ∷ seeds) → peeled seed entry ≡ o
+    → option_and_then (λ (p : List ℕ × List ℕ). option_map (λ (q : Found). (p.0 ∷ q.0, q.1)) (opened_through seeds p.1)) o ≡ Some all
+    → IsLayer (seed ∷ seeds) entry all.0 place
 layer-first seed seeds entry None all place again lt first e = absurd cc
-layer-first seed seeds entry (Some p) all place again lt first e = layer-rest seed seeds entry p.0 p.1 (opened_through seeds p.1) all place again lt first refl e
+layer-first seed seeds entry (Some p) all place again lt first e =
+    layer-rest seed seeds entry p.0 p.1 (opened_through seeds p.1) all place again lt first refl e
 
-pub layer-at : (seeds : List (List ℕ)) (entry : List ℕ) (all : Found) (place : ℕ) → opened_through seeds entry ≡ Some all → place < length seeds → IsLayer seeds entry all.0 place
+pub layer-at : (seeds : List (List ℕ)) (entry : List ℕ) (all : Found) (place : ℕ) → opened_through seeds entry ≡ Some all → place < length seeds
+    → IsLayer seeds entry all.0 place
 unfolding opened_through
 layer-at [] entry all place e lt = absurd (omega (arith, lt))
-layer-at (seed ∷ seeds) entry all place e lt = layer-first seed seeds entry (peeled seed entry) all place (λ next rest k others few. layer-at seeds next rest k others few) lt refl e
+layer-at (seed ∷ seeds) entry all place e lt =
+    layer-first seed seeds entry (peeled seed entry) all place (λ next rest k others few. layer-at seeds next rest k others few) lt refl e
 
 -- ---- the keys that were said
 
 -- where every shown seed is that of an outer key, the outer keys that were said are those of the shown seeds
-key-shown : (q : Inquiry) (shuffle n member : ℕ) → seed_fault q shuffle ≡ None → IsMember q member → slots_before q.shape 1 ≤ n → is_slot q.shape 0 member ≡ true
+key-shown : (q : Inquiry) (shuffle n member : ℕ) → seed_fault q shuffle ≡ None → IsMember q member → slots_before q.shape 1 ≤ n
+    → is_slot q.shape 0 member ≡ true
     → key_said q.shape (take n q.past) (outer_place shuffle) member ≡ key_of_seed (outer_seed q member)
 unfolding said_in
 key-shown q shuffle n member none is far speaks =
@@ -161,7 +170,8 @@ pub record IsSubmitted (run : Run) (q : Inquiry) (posts : List Post) (shuffle : 
   pub keys : keys_said (shape_in run.config) said (outer_place shuffle) ≡ map key_of_seed (outer_seeds q)
   pub front : said ≡ take (slots_before (shape_in run.config) (submit_stage q)) (contents_of posts)
 
-pub own-submitted : (run : Run) (q : Inquiry) (shuffle : ℕ) → HonestRun run → (is : IsOwnInquiry run q) → kind_of_stage q.shape q.stage ≡ Some (Final shuffle) → seed_fault q shuffle ≡ None → IsSubmitted run q is.posts shuffle
+pub own-submitted : (run : Run) (q : Inquiry) (shuffle : ℕ) → HonestRun run → (is : IsOwnInquiry run q) → kind_of_stage q.shape q.stage ≡ Some (Final shuffle)
+    → seed_fault q shuffle ≡ None → IsSubmitted run q is.posts shuffle
 own-submitted run q shuffle honest is kind none = record {
   said = contents_of own.row.past;
   is = body;
@@ -182,7 +192,9 @@ own-submitted run q shuffle honest is kind none = record {
     at = ap (λ (s : Shape). kind_of_stage s stage) (sym is.shape) ∙ submit_there q.shape q.stage shuffle kind
 
     own : OwnSaid run is.posts stage
-    own = own-said run q.stage stage is.posts honest is.kept (ap (λ (o : Option StageKind). speaks (shape_in c) o c.number) at ∙ own-speaks c honest.config) (let some = late in omega arith)
+    own =
+        own-said run q.stage stage is.posts honest is.kept
+        (ap (λ (o : Option StageKind). speaks (shape_in c) o c.number) at ∙ own-speaks c honest.config) (let some = late in omega arith)
 
     here : kind_of_stage (shape_in c) own.row.stage ≡ Some (AtSubmit shuffle)
     here = ap (kind_of_stage (shape_in c)) own.at ∙ at
@@ -197,7 +209,8 @@ own-submitted run q shuffle honest is kind none = record {
     keys =
         let n : ℕ = slots_before (shape_in c) stage in
         let some = late in
-        let far : slots_before q.shape 1 ≤ n = omega (arith, slots_before-rises q.shape 1 stage (omega arith), ap (λ (s : Shape). slots_before s stage) is.shape) in
+        let far : slots_before q.shape 1 ≤ n =
+        omega (arith, slots_before-rises q.shape 1 stage (omega arith), ap (λ (s : Shape). slots_before s stage) is.shape) in
         let front : contents_of own.row.past ≡ take n q.past =
         ap contents_of own.front ∙ sym (take-map (λ (p : Post). p.content) n is.posts) ∙ ap (take n) (sym is.past) in
         ap (λ (past : List (List ℕ)). keys_said (shape_in c) past (outer_place shuffle)) front
@@ -205,7 +218,8 @@ own-submitted run q shuffle honest is kind none = record {
         ∙ keys-shown q shuffle n none (is.shows shuffle kind).many far
 
 -- the shown seeds open the own submission, and each layer carries its seed
-pub own-opens : (run : Run) (q : Inquiry) (shuffle : ℕ) → (is : IsOwnInquiry run q) → kind_of_stage q.shape q.stage ≡ Some (Final shuffle) → (own : IsSubmitted run q is.posts shuffle)
+pub own-opens : (run : Run) (q : Inquiry) (shuffle : ℕ) → (is : IsOwnInquiry run q) → kind_of_stage q.shape q.stage ≡ Some (Final shuffle)
+    → (own : IsSubmitted run q is.posts shuffle)
     → opened_through (outer_seeds q) (submission q run.config.number)
     ≡ Some (own_layer_seeds run.config shuffle 2, (own_submission run.config (own_descriptor run.config own.said) own.said shuffle).inner_ciphertext)
 unfolding own_submission
@@ -219,13 +233,17 @@ own-opens run q shuffle is kind own =
     ap (opened_through seeds) (own.is ∙ ap (λ (keys : List (List ℕ)). wrapping_of keys ms blob) own.keys)
     ∙ wrapped_opens seeds ms blob count good.1
 
-carries : (o : Option (List ℕ × List ℕ)) (m next seed : List ℕ) → o ≡ Some (m, next) → m ≡ seed → is_passed (λ x. bytes_eq x seed) (option_map (λ (found : List ℕ × List ℕ). found.0) o) ≡ true
-carries o m next seed e same = ap (λ (o : Option (List ℕ × List ℕ)). is_passed (λ x. bytes_eq x seed) (option_map (λ (found : List ℕ × List ℕ). found.0) o)) e ∙ (bytes_eq-Decides m seed).1 same
+carries : (o : Option (List ℕ × List ℕ)) (m next seed : List ℕ) → o ≡ Some (m, next) → m ≡ seed
+    → is_passed (λ x. bytes_eq x seed) (option_map (λ (found : List ℕ × List ℕ). found.0) o) ≡ true
+carries o m next seed e same =
+    ap (λ (o : Option (List ℕ × List ℕ)). is_passed (λ x. bytes_eq x seed) (option_map (λ (found : List ℕ × List ℕ). found.0) o)) e
+    ∙ (bytes_eq-Decides m seed).1 same
 
 pub submission_not_own : SubmissionNotOwn
 submission_not_own run q shuffle found honest is kind none e own =
     let at = first_below-found (λ place. layer_fault q shuffle (place + 1)) q.shape.members found e in
-    let layer = first_below-found (λ place. fault_unless (has_layer q shuffle (at.0 + 1) (place + 1)) (fault (Submission (place + 1)) (at.0 + 1))) q.shape.members found at.2 in
+    let layer =
+    first_below-found (λ place. fault_unless (has_layer q shuffle (at.0 + 1) (place + 1)) (fault (Submission (place + 1)) (at.0 + 1))) q.shape.members found at.2 in
     let parts = unless-found (has_layer q shuffle (at.0 + 1) (layer.0 + 1)) (fault (Submission (layer.0 + 1)) (at.0 + 1)) found layer.2 in
     let member : at.0 + 1 ≡ run.config.number = ap (λ (f : Fault). f.member) parts.1 ∙ own in
     not_both (has_layer q shuffle run.config.number (layer.0 + 1)) (has layer.0 layer.1) (ap (λ (m : ℕ). has_layer q shuffle m (layer.0 + 1)) (sym member) ∙ parts.0)
@@ -249,4 +267,5 @@ submission_not_own run q shuffle found honest is kind none e own =
         seeds_are_by_layer (own_opening c shuffle 2) c.round shuffle 2 c.number (shape_in c).members place few
         ∙ ap (λ (opening : List ℕ). layer_seed opening c.round shuffle 2 c.number (place + 1)) (sym shows.opening)
         ∙ ap (λ (round : ℕ). layer_seed (outer_opening q c.number) round shuffle 2 c.number (place + 1)) (sym is.round) in
-        carries (option_and_then (peeled (outer_seed q (place + 1))) (inside q (submission q c.number) (place + 1 - 1))) _ found.next (own_layer_seed q shuffle c.number (place + 1)) peels seed
+        carries (option_and_then (peeled (outer_seed q (place + 1))) (inside q (submission q c.number) (place + 1 - 1))) _ found.next
+        (own_layer_seed q shuffle c.number (place + 1)) peels seed

@@ -16,3 +16,10 @@ pub mod Strings
 pub mod Waiting
 pub mod Given
 pub mod Honesty
+pub mod Justified
+pub mod GoLists
+pub mod SealedBytes
+pub mod Turns
+pub mod PastForms
+pub mod OwnItems
+pub mod OwnGrammar

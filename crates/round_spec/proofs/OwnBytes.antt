@@ -16,11 +16,11 @@ byte-small : (k n : ℕ) → byte_at k n < 256
 byte-small zero n = omega arith
 byte-small (suc k) n = let high : ℕ = n / 256 ^ suc k in let small : high % 256 < 256 = omega arith in small
 
-low-first : (i count n : ℕ) → IsBytes (bytes_low_first i count n)
+pub low-first : (i count n : ℕ) → IsBytes (bytes_low_first i count n)
 low-first i zero n = IsBytes-nil
 low-first i (suc count) n = IsBytes-cons (byte_at i n) (bytes_low_first (suc i) count n) (byte-small i n) (low-first (suc i) count n)
 
-packed-bytes : (coefficients : List ℕ) → IsBytes (packed coefficients)
+pub packed-bytes : (coefficients : List ℕ) → IsBytes (packed coefficients)
 packed-bytes (a ∷ b ∷ c ∷ d ∷ rest) = IsBytes-append (bytes_low_first 0 7 (group_number a b c d)) (packed rest) (low-first 0 7 (group_number a b c d)) (packed-bytes rest)
 packed-bytes [] = IsBytes-nil
 packed-bytes (a ∷ []) = IsBytes-nil

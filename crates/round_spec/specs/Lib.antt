@@ -1,6 +1,7 @@
 pub mod Slots
 pub mod Say
 pub mod Embedded
+pub mod Justified
 pub mod Verdict
 pub mod Course
 pub mod Result
@@ -11,6 +12,7 @@ pub mod Reached
 pub mod Rows
 pub mod Beginnings
 pub mod Settled
+pub mod OwnRows
 pub mod Strings
 pub mod Waiting
 pub mod Given

@@ -9,10 +9,12 @@ ghost use Rattle.transcript_form.specs.declared.transcript.Transcript.{Transcrip
 ghost use Rattle.round_spec.specs.Runs.{Run};
 ghost use Rattle.round_spec.specs.Strings.{KeptIsRead, RunHasStrings, TranscriptHasStrings};
 ghost use Rattle.round_spec.specs.Honesty.{RunAfterIsHonest, SettledRunIsHonest, UnforgedIsSaid};
-ghost use Rattle.round_spec.specs.Given.{FirstPostsDelivered, FirstPostsName, ListsAgree};
+ghost use Rattle.round_spec.specs.Given.{FirstPostsDelivered, FirstPostsName, ListsAgree, VotesLookAtLists};
+ghost use Rattle.round_spec.specs.Justified.{FirstBadIsTold, JustifiedExactly, PostsAreFound};
 ghost use Rattle.round_spec.specs.Waiting.{InquiryIsOfLog, OpenRoundsWait};
 ghost use Rattle.round_spec.specs.Settled.{OwnPostsSettled};
 ghost use Rattle.round_spec.specs.Beginnings.{BeginningsAreHonest, KeysAreNotForged, ListsAreHonest, NothingIsForged};
+ghost use Rattle.round_spec.specs.OwnRows.{OwnRowOfGrammar};
 ghost use Rattle.round_spec.specs.Rows.{OnePerSlot, OwnRow, RowPast, RunOfContent, RunUnique};
 ghost use Rattle.round_spec.specs.Say.{Configuration};
 ghost use Rattle.round_spec.specs.Reached.{CourseStops, StandsAreReached};
@@ -78,6 +80,11 @@ pub fn row_laws()
     ensures one_per_slot { OnePerSlot }
 {}
 
+/// Whatever a member has to say over a past of posts that check, each in its slot, is of the grammar.
+pub fn own_row_laws()
+    ensures { OwnRowOfGrammar }
+{}
+
 /// The definitions are not empty. The run of a member that has said nothing is honest, and so is that of one that has
 /// said its keys, for every configuration whose key is the roster's; lists of such runs are honest; and nothing is forged
 /// where nothing is delivered, or the keys alone that such runs said.
@@ -120,9 +127,20 @@ pub fn first_posts_are_delivered()
     ensures name { FirstPostsName }
 {}
 
-/// The list after a turn is that which a replay at the end of its shuffle looks at.
+/// The list after a turn is that which a replay at the end of its shuffle looks at, and a vote on the shuffle looks at
+/// the lists after all its turns.
 pub fn lists_agree()
-    ensures { ListsAgree }
+    ensures replay { ListsAgree }
+    ensures votes { VotesLookAtLists }
+{}
+
+/// A closing content counts as justified exactly where it embeds the post files of its slots and what it says of them is
+/// so. The posts of strings are found exactly where each string is the post file of its slot, and else the first that is
+/// not is told.
+pub fn justified_laws()
+    ensures exactly { JustifiedExactly }
+    ensures posts { PostsAreFound }
+    ensures first_bad { FirstBadIsTold }
 {}
 
 /// The run that deliveries make is honest, if what the member has to say checks; and where nothing was forged, what is
