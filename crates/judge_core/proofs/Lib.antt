@@ -14,3 +14,4 @@ pub mod Replays
 pub mod Convictions
 pub mod PadSlots
 pub mod PadReadings
+pub mod PadChecks

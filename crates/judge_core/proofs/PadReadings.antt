@@ -32,10 +32,10 @@ use Rattle.judge_core.proofs.PadSlots.{last-entries, same-slot, stage-some, stag
 abbrev content_in : GivenSaid → List ℕ
 content_in one = one.content.now
 
-abbrev header_ok : Header → Result Header Short
+abbrev pub header_ok : Header → Result Header Short
 header_ok header = Ok header
 
-header_is : (a b : Header) → header_ok a ≡ header_ok b → a ≡ b
+pub header_is : (a b : Header) → header_ok a ≡ header_ok b → a ≡ b
 header_is a b e = cc
 
 -- ---- a slot

@@ -105,7 +105,7 @@ fn check_accusation(
     requires pads { IsPadsPost (case_of case) pads }
     requires revealed { IsRevealed (shape_in (case_of case)) (contents_said log.now) revealed.now }
     ensures { Gives failed_of (λ x. x) result
-        (value_unless (accusation_failure (case_of case.entry) (contents_said log.now) (pads_row (case_of case.entry) (said_of pads.entry)) case.detail) tt) }
+        (value_unless (accusation_failure (case_of case.entry) (contents_said log.now) (pads_row (case_of case.entry) (said_of pads.entry)) (case_of case.entry).detail) tt) }
 {
     let Some(accusation) = case.detail else {
         return Err(Unjudged::Failed(FailedCheck::OtherMember));
@@ -158,7 +158,8 @@ fn descriptor_in(alloc: Global, members: u8, item: &Option<List<u8>>) -> Mem<Opt
 // The pads of the accused, and empty ones of the other members.
 fn table_of(alloc: Global, case: Case<'_>, pads: Said<'_>) -> Mem<PadTable>
     requires { IsPadsPost (case_of case) pads }
-    ensures { IfOk result (λ table. table.members ≡ table_of (case_of case.entry) (pads_row (case_of case.entry) (said_of pads.entry))) }
+    ensures rows { IfOk result (λ table. All (λ row. length row ≡ (shape_in (case_of case.entry)).members) table.members) }
+    ensures value { IfOk result (λ table. table.members ≡ table_of (case_of case.entry) (pads_row (case_of case.entry) (said_of pads.entry))) }
 {
     let members = case.roster.shape().members;
     let mut rows = Vec::with_capacity(alloc, usize::from(members))?;
@@ -174,7 +175,8 @@ fn table_of(alloc: Global, case: Case<'_>, pads: Said<'_>) -> Mem<PadTable>
 // The row of a member.
 fn row_of(alloc: Global, case: Case<'_>, pads: Said<'_>, member: u8) -> Mem<List<List<u8>>>
     requires { IsPadsPost (case_of case) pads }
-    ensures { IfOk result (λ row. row ≡ row_of (case_of case.entry) (pads_row (case_of case.entry) (said_of pads.entry)) member) }
+    ensures count { IfOk result (λ row. length row ≡ (shape_in (case_of case.entry)).members) }
+    ensures value { IfOk result (λ row. row ≡ row_of (case_of case.entry) (pads_row (case_of case.entry) (said_of pads.entry)) member) }
 {
     if member == case.accused {
         said_pads(alloc, case, pads)
@@ -186,7 +188,8 @@ fn row_of(alloc: Global, case: Case<'_>, pads: Said<'_>, member: u8) -> Mem<List
 // The pads that a post of pads says.
 fn said_pads(alloc: Global, case: Case<'_>, pads: Said<'_>) -> Mem<List<List<u8>>>
     requires { IsPadsPost (case_of case) pads }
-    ensures { IfOk result (λ row. row ≡ pads_row (case_of case.entry) (said_of pads.entry)) }
+    ensures count { IfOk result (λ row. length row ≡ (shape_in (case_of case.entry)).members) }
+    ensures value { IfOk result (λ row. row ≡ pads_row (case_of case.entry) (said_of pads.entry)) }
 {
     let content = read_content(alloc, case.roster.shape(), pads.content)?;
     match content.body {
