@@ -108,10 +108,11 @@ first-alone (Some failed) = refl
 pub compares-all : (case : Case) (past : List (List ℕ)) (kind : Option StageKind) (first : Said) (others : List Said) (place : ℕ) (difference : Option FailedCheck) (told : List Shown)
     → ComparesTo case past kind first others place difference told → drop place others ≡ []
     → (unjustified_from case 2 others ≡ None) × (difference ≡ unlike_from case past 2 others) × (told ≡ parts_shown case kind (first ∷ others))
-compares-all case past kind first others place difference told so is =
-    (so.justified ∙ ap (unjustified_from case (place + 2)) is,
-    sym (so.differs ∙ ap (λ (l : List Said). first_some (difference ∷ unlike_from case past (place + 2) l ∷ [])) is ∙ first-alone difference),
-    sym (append-nil told) ∙ ap (λ (p : List Shown). told ++ p) (sym (ap (parts_shown case kind) is ∙ parts-end case kind)) ∙ so.parts)
+compares-all case past kind first others place difference told so is = (
+  so.justified ∙ ap (unjustified_from case (place + 2)) is,
+  sym (so.differs ∙ ap (λ (l : List Said). first_some (difference ∷ unlike_from case past (place + 2) l ∷ [])) is ∙ first-alone difference),
+  sym (append-nil told) ∙ ap (λ (p : List Shown). told ++ p) (sym (ap (parts_shown case kind) is ∙ parts-end case kind)) ∙ so.parts,
+)
 
 -- ---- the same of what the code holds
 

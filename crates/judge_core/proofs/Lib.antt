@@ -15,3 +15,4 @@ pub mod Convictions
 pub mod PadSlots
 pub mod PadReadings
 pub mod PadChecks
+pub mod PadPosts

@@ -24,7 +24,7 @@ use Rattle.bulk_descriptor.specs.Fields.{description_of}
 use Rattle.bulk_descriptor.specs.SlotState.{AreSlots}
 use Rattle.shuffle_core.specs.Shuffle.{opened_item, opened_list}
 use Rattle.shuffle_blame.specs.Replay.{body_of}
-use Rattle.round_spec.specs.Slots.{bulk_place, descriptors_opened, entries_opened, items_opened, keys_said, list_said, seeds_revealed}
+use Rattle.round_spec.specs.Slots.{bulk_place, descriptors_opened, entries_opened, items_opened, keys_said, list_said, pads_in, seeds_revealed}
 use Rattle.judge_core.specs.declared.hearing.Said.{Said as GivenSaid}
 use Rattle.accusation.specs.declared.holding.AccusationRefusal.{AccusationRefusal}
 use Rattle.accusation.specs.Accusation.{refusal_of}
@@ -59,14 +59,11 @@ descriptors-are shape past seeds list e said =
 -- ---- the table
 
 -- so many pads a post of pads says
-pub pads-count : (case : Case) (one : GivenSaid) (content : Content) (pads : List (List ℕ)) → IsPadsPost case one → content_read (shape_in case) one.content.now ≡ Ok content → OfGrammar (shape_in case) content
-    → content.body ≡ Pads pads → length pads ≡ (shape_in case).members
-pads-count case one content pads is read grammar e =
+pub pads-count : (case : Case) (one : GivenSaid) (content : Content) (row : List (List ℕ)) → IsPadsPost case one → content_read (shape_in case) one.content.now ≡ Ok content → OfGrammar (shape_in case) content
+    → row ≡ pads_in content.body → length row ≡ (shape_in case).members
+pads-count case one content row is read grammar e =
     let said = pads-body case one content is read grammar in
-    ap (λ (l : List (List ℕ)). length l) (pads_are pads said.0 (sym e ∙ said.1)) ∙ said.2
-  where
-    pads_are : (a b : List (List ℕ)) → Pads a ≡ Pads b → a ≡ b
-    pads_are a b e = cc
+    ap (λ (l : List (List ℕ)). length l) (e ∙ ap pads_in said.1) ∙ said.2
 
 -- the descriptors and the table are of as many slots
 pub are-slots : (case : Case) (shape : Shape) (pads seeds list : List (List ℕ)) (descriptors : List (Option Description)) (table : List (List (List ℕ))) → shape ≡ shape_in case → table ≡ table_of case pads
@@ -76,12 +73,14 @@ pub are-slots : (case : Case) (shape : Shape) (pads seeds list : List (List ℕ)
 are-slots case shape pads seeds list descriptors table same is rows count opened hashes =
     let n : ℕ = (shape_in case).members in
     let many : length table ≡ n = ap (λ (t : List (List (List ℕ))). length t) is ∙ length-map-range_with_len (row_of case pads) 1 n in
-    let slots : length descriptors ≡ n = omega (arith, ap (λ (d : List (Option Description)). length d) opened, length-map (opened_list seeds list) (option_and_then (descriptor_read shape.members)), length-map list (opened_item seeds), count) in
-    (record {
-      members = many ∙ sym slots;
-      pads = subst (λ (m : ℕ). All (λ (row : List (List ℕ)). length row ≡ m) table) (sym slots) rows;
-      hashes = subst (λ (m : ℕ). All (λ slot. IfSome slot (λ d. length d.pad_hashes ≡ m)) descriptors) (ap (λ (s : Shape). s.members) same ∙ sym slots) hashes;
-    }, slots)
+    let slots : length descriptors ≡ n = omega (arith, ap (λ (d : List (Option Description)). length d) opened, length-map (opened_list seeds list) (option_and_then (descriptor_read shape.members)), length-map list (opened_item seeds), count) in (
+      record {
+        members = many ∙ sym slots;
+        pads = subst (λ (m : ℕ). All (λ (row : List (List ℕ)). length row ≡ m) table) (sym slots) rows;
+        hashes = subst (λ (m : ℕ). All (λ slot. IfSome slot (λ d. length d.pad_hashes ≡ m)) descriptors) (ap (λ (s : Shape). s.members) same ∙ sym slots) hashes;
+      },
+      slots,
+    )
 
 -- ---- the accusation
 

@@ -113,9 +113,9 @@ some-fails {A} p x xs fails = by_test (p x) (list_all p xs) fails
 one-fails : {A : Type 0} (p : A → Bool) (f : ℕ → A) (a n k : ℕ) → a ≤ k → k < a + n → p (f k) ≡ false → list_all p (map f (range_with_len a n)) ≡ false
 one-fails {A} p f a zero k least lt e = absurd (omega arith)
 one-fails {A} p f a (suc n) k least lt e = some-fails p (f a) (map f (range_with_len (a + 1) n)) (elim (cases_lt a k) [
-    | inl later ↦ inr (one-fails p f (a + 1) n k (omega arith) (omega arith) e)
-    | inr here ↦ inl (let same : a ≡ k = omega arith in ap (λ (m : ℕ). p (f m)) same ∙ e)
-  ])
+  | inl later ↦ inr (one-fails p f (a + 1) n k (omega arith) (omega arith) e)
+  | inr here ↦ inl (let same : a ≡ k = omega arith in ap (λ (m : ℕ). p (f m)) same ∙ e)
+])
 
 -- whether all members revealed
 pub all-revealed : (shape : Shape) (past : List (List ℕ)) → ((k : ℕ) → 1 ≤ k → k < 1 + shape.members → is_reveal (said_in shape past (final_stage shape 1) k) ≡ true) → are_revealed shape past ≡ true

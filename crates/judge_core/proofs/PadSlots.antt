@@ -148,10 +148,12 @@ level-small n k most = omega (arith, most)
 turn-entries : (shape : Shape) (before k : ℕ) (body : Body) (list : List (List ℕ)) → shape.members ≤ 8 → IsBodyAt shape before (AtShuffle 1 k) body → list_of body ≡ Some list → AreEntries shape list
 turn-entries shape before k (Shuffled entries) list most is e =
     let same = list_is entries list e in
-    subst (AreEntries shape) same
-    ((λ i d lt. let long = all-of (λ (entry : List ℕ). length entry ≡ level shape.members 1 k) entries is.0 i d lt in
-      let small = level-small shape.members k most in
-      subst (λ (m : ℕ). m < 2 ^ 32) (sym long) small), is.1)
+    subst (AreEntries shape) same (
+      (λ i d lt. let long = all-of (λ (entry : List ℕ). length entry ≡ level shape.members 1 k) entries is.0 i d lt in
+          let small = level-small shape.members k most in
+          subst (λ (m : ℕ). m < 2 ^ 32) (sym long) small),
+      is.1,
+    )
   where
     list_some : List (List ℕ) → Option (List (List ℕ))
     list_some l = Some l

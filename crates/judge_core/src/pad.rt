@@ -10,10 +10,11 @@ ghost use Rattle.bulk_descriptor.specs.Fields.{description_of};
 ghost use Rattle.shuffle_core.specs.Shuffle.{opened_list};
 ghost use Rattle.group_roster.specs.Roster.{shape_of_roster};
 ghost use Rattle.transcript_form.specs.Claim.{claim_posts};
+ghost use Rattle.round_spec.specs.Slots.{pads_in};
 ghost use Rattle.judge_core.specs.Case.{case_of, said_of, shape_in};
 ghost use Rattle.judge_core.specs.Checks.{WantsMemory, conviction_of, failed_of};
 ghost use Rattle.judge_core.specs.Pad.{accusation_failure, pad_answer, pads_row, row_of, table_of, view_failure};
-ghost use Rattle.judge_core.specs.PadLog.{AreEntries, ArePadPosts, IsListedLog, IsPadsPost, IsRevealed, Reveals, contents_said};
+ghost use Rattle.judge_core.specs.PadLog.{AreEntries, ArePadPosts, ArePads, IsListedLog, IsPadsPost, IsRevealed, Reveals, contents_said};
 
 use crate::failed_check::{FailedCheck, Unjudged};
 use crate::hearing::{Case, Said, take_all};
@@ -192,8 +193,16 @@ fn said_pads(alloc: Global, case: Case<'_>, pads: Said<'_>) -> Mem<List<List<u8>
     ensures value { IfOk result (λ row. row ≡ pads_row (case_of case.entry) (said_of pads.entry)) }
 {
     let content = read_content(alloc, case.roster.shape(), pads.content)?;
-    match content.body {
-        Body::Pads { pads } => Ok(pads),
+    Ok(pads_in(content.body))
+}
+
+// The pads that a body says.
+fn pads_in(body: Body) -> List<List<u8>>
+    requires { ArePads body }
+    ensures { result ≡ pads_in body }
+{
+    match body {
+        Body::Pads { pads } => pads,
         _ => unreachable!(),
     }
 }

@@ -24,7 +24,7 @@ returns-in_err-revealed c =
     let come = checks-are case c.args.said.now c.in-Some.log.now c.in-Some.pads.now c.in-Some.ensures.cases.0 long in
     let p = err_from_is_err_and c.from_residual-in_err-revealed.result c.from_residual-in_err-revealed.ensures.1 in
     let fault = opening-fails (shape_in case) (contents_said c.in-Some.log.now) (view_failure (shape_in case) (contents_said c.in-Some.log.now) (said_of c.in-Some.pads.now))
-        (accusation_failure case (contents_said c.in-Some.log.now) (pads_row case (said_of c.in-Some.pads.now)) case.detail) (failed_of c.in_err-revealed.field-0.0) c.in_ok-check_view.ensures c.in_err-revealed.ensures in
+    (accusation_failure case (contents_said c.in-Some.log.now) (pads_row case (said_of c.in-Some.pads.now)) case.detail) (failed_of c.in_err-revealed.field-0.0) c.in_ok-check_view.ensures c.in_err-revealed.ensures in
     rw (p.1, p.2, come) fault
 
 pub returns : goal.returns
@@ -33,5 +33,5 @@ returns c =
     let long = split-long case c.args.said.now c.in-Some.log.now c.in-Some.pads.now c.requires c.in-Some.ensures.cases.0 in
     let come = checks-are case c.args.said.now c.in-Some.log.now c.in-Some.pads.now c.in-Some.ensures.cases.0 long in
     let decides = accusation-decides (view_failure (shape_in case) (contents_said c.in-Some.log.now) (said_of c.in-Some.pads.now)) (opening_failure (shape_in case) (contents_said c.in-Some.log.now))
-        (accusation_failure case (contents_said c.in-Some.log.now) (pads_row case (said_of c.in-Some.pads.now)) case.detail) c.in_ok-check_view.ensures c.in_ok-revealed.ensures.opens in
+    (accusation_failure case (contents_said c.in-Some.log.now) (pads_row case (said_of c.in-Some.pads.now)) case.detail) c.in_ok-check_view.ensures c.in_ok-revealed.ensures.opens in
     subst (λ (r : Result (Unit {0}) FailedCheck). Gives failed_of (λ x. x) c.check_accusation.result r) (sym (come ∙ decides)) c.check_accusation.ensures

@@ -5,13 +5,13 @@ use Rattle.judge_core.specs.Case.{case_of}
 use Rattle.judge_core.proofs.PadChecks.{pads-body, pads-count}
 use Rattle.judge_core.proofs.pad.said_pads.Goals as goal
 
-pub unreachable-requires : goal.unreachable-requires
-unreachable-requires c =
+pub pads_in-requires : goal.pads_in-requires
+pads_in-requires c =
     let read = ap (λ (s : Shape). content_read s c.args.pads.content.now) (sym c.shape.ensures) ∙ c.in_ok-content.ensures.value in
     let said = pads-body (case_of c.args.case) c.args.pads c.in_ok-content.content c.requires read (rw c.shape.ensures at c.in_ok-content.ensures.grammar) in
-    c.in_default.not-Pads said.0 said.1
+    (said.0, said.1)
 
-pub returns-in-Pads-clause-count : goal.returns-in-Pads-clause-count
-returns-in-Pads-clause-count c =
+pub returns-clause-count : goal.returns-clause-count
+returns-clause-count c =
     let read = ap (λ (s : Shape). content_read s c.args.pads.content.now) (sym c.shape.ensures) ∙ c.in_ok-content.ensures.value in
-    pads-count (case_of c.args.case) c.args.pads c.in_ok-content.content c.in-Pads.pads c.requires read (rw c.shape.ensures at c.in_ok-content.ensures.grammar) c.in-Pads.is
+    pads-count (case_of c.args.case) c.args.pads c.in_ok-content.content c.pads_in.result c.requires read (rw c.shape.ensures at c.in_ok-content.ensures.grammar) c.pads_in.ensures

@@ -39,8 +39,8 @@ loop-place-preserved c = λ said s.
     let other = subst (λ (n : ℕ). KeepsPast (shape_in case) n (past_in case (said_of c.index-others-place.result)) c.in_ok-shows.shows.log) stage c.in_ok-shows.ensures.keeps in
     let shape : c.args.first.now.log.shape ≡ shape_in case = ap (λ (l : Log). l.shape) own.keeps in
     let unlike = c.unlike_log.ensures said.header.stage (past_in case said) (past_in case (said_of c.index-others-place.result))
-        (subst (λ (x : Shape). KeepsPast x said.header.stage (past_in case said) c.args.first.now.log) (sym shape) own)
-        (subst (λ (x : Shape). KeepsPast x said.header.stage (past_in case (said_of c.index-others-place.result)) c.in_ok-shows.shows.log) (sym shape) other) in
+    (subst (λ (x : Shape). KeepsPast x said.header.stage (past_in case said) c.args.first.now.log) (sym shape) own)
+    (subst (λ (x : Shape). KeepsPast x said.header.stage (past_in case (said_of c.index-others-place.result)) c.in_ok-shows.shows.log) (sym shape) other) in
     goes-at case (past_in case said) said c.args.others.now c.loop-place.place c.loop-place.difference c.or-difference.result c.loop-place.told.items c.tell-in-loop-place.new.told.items c.index-others-place.result c.in_ok-shows.shows
     (c.loop-place.invariant said s) within c.index-others-place.is c.in_ok-shows.ensures stage
     (c.or-difference.ensures ∙ ap (option_or c.loop-place.difference) unlike) c.in_ok-tell-2.ensures
@@ -48,5 +48,5 @@ loop-place-preserved c = λ said s.
 pub returns : goal.returns
 returns c = λ said s.
     let all = compares-all (case_of c.args.case) (past_in (case_of c.args.case) said) (kind_of_stage (shape_in (case_of c.args.case)) said.header.stage) said (map said_of c.args.others.now) c.loop-place.place c.loop-place.difference c.loop-place.told.items
-        (c.loop-place.invariant said s) (drop_of_length-le (map said_of c.args.others.now) (omega (arith, c.loop-place-test.false, length-map c.args.others.now said_of))) in
+    (c.loop-place.invariant said s) (drop_of_length-le (map said_of c.args.others.now) (omega (arith, c.loop-place-test.false, length-map c.args.others.now said_of))) in
     record { justified = all.0; difference = all.1; told = all.2 }
