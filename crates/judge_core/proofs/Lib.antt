@@ -15,3 +15,5 @@ pub mod Replays
 pub mod Convictions
 pub mod PadSlots
 pub mod PadReadings
+pub mod PadChecks
+pub mod PadPosts

@@ -1,9 +1,9 @@
 -- The slots before the pads: how many there are, and what is said in them.
-use Rattle.std.proofs.Common.{◌≡◌, ℕ, zero, suc, ◌+◌, ◌*◌, ◌<◌, ◌≤◌, ◌^◌, true, List, [], length, All, get_or, Option, Some, None, refl, sym, ap, subst, ◌∙◌, arith, inl, inr}
+use Rattle.std.proofs.Common.{◌≡◌, ℕ, zero, suc, ◌+◌, ◌*◌, ◌<◌, ◌≤◌, ◌^◌, true, List, [], ◌∷◌, length, All, get_or, Option, Some, None, refl, sym, ap, subst, ◌∙◌, arith, inl, inr}
 use Rattle.std.specs.Prelude.{◌==◌, IsTrue, nat_le, if◌then◌else◌}
 use Rattle.std.specs.List.{AllByRecursion}
 use Rattle.std.proofs.lemmas.Bool.{and_from, cases_Bool, cond-true, cond-false, eq-eqb, le-leb}
-use Rattle.ring_poly.specs.PublicKey.{IsPublicKey}
+use Rattle.ring_encrypt.specs.PublicKey.{IsPublicKey}
 use Rattle.phase_message.specs.declared.content.Body.{Body}
 use Rattle.phase_message.specs.declared.content.Body.TheVariants.{Keys, Submit, Shuffled, Abort, Go, Reveal, Dispute, Pads, Check, Confirm, Differ}
 use Rattle.phase_message.specs.declared.stage.Slot.{Slot}
@@ -148,10 +148,12 @@ level-small n k most = omega (arith, most)
 turn-entries : (shape : Shape) (before k : ℕ) (body : Body) (list : List (List ℕ)) → shape.members ≤ 8 → IsBodyAt shape before (AtShuffle 1 k) body → list_of body ≡ Some list → AreEntries shape list
 turn-entries shape before k (Shuffled entries) list most is e =
     let same = list_is entries list e in
-    subst (AreEntries shape) same
-    ((λ i d lt. let long = all-of (λ (entry : List ℕ). length entry ≡ level shape.members 1 k) entries is.0 i d lt in
-      let small = level-small shape.members k most in
-      subst (λ (m : ℕ). m < 2 ^ 32) (sym long) small), is.1)
+    subst (AreEntries shape) same (
+      (λ i d lt. let long = all-of (λ (entry : List ℕ). length entry ≡ level shape.members 1 k) entries is.0 i d lt in
+          let small = level-small shape.members k most in
+          subst (λ (m : ℕ). m < 2 ^ 32) (sym long) small),
+      is.1,
+    )
   where
     list_some : List (List ℕ) → Option (List (List ℕ))
     list_some l = Some l

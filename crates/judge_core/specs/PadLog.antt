@@ -1,9 +1,9 @@
 -- What is known of the posts of a pad once they are taken, and what the code finds in them.
 use Rattle.std.specs.Prelude.{◌≡◌, ℕ, ◌+◌, ◌<◌, ◌^◌, List, All, length, map, true, false, Option, Some, None, Result, Ok, Err, IsOk, slice_index_or, [], ◌∷◌, ◌++◌}
 use Rattle.std.specs.List.{AllByRecursion}
-use Rattle.ring_poly.specs.PublicKey.{IsPublicKey}
+use Rattle.ring_encrypt.specs.PublicKey.{IsPublicKey}
 use Rattle.phase_message.specs.declared.content.Body.{Body}
-use Rattle.phase_message.specs.declared.content.Body.TheVariants.{Keys}
+use Rattle.phase_message.specs.declared.content.Body.TheVariants.{Keys, Pads}
 use Rattle.phase_message.specs.declared.stage.StageKind.TheVariants.{Pad as AtPad}
 use Rattle.phase_message.specs.Header.{header_of}
 use Rattle.phase_message.specs.Offence.{content_read}
@@ -59,6 +59,10 @@ pub record ArePadPosts (case : Case) (said : List GivenSaid) : Type 0 where
 -- five keys
 abbrev pub AreFiveKeys : Body → Type 0
 AreFiveKeys body = (keys : List (List ℕ)) × (body ≡ Keys keys) × AllByRecursion IsPublicKey keys × (length keys ≡ 5)
+
+-- pads
+abbrev pub ArePads : Body → Type 0
+ArePads body = (pads : List (List ℕ)) × (body ≡ Pads pads)
 
 -- the entries of a list: short ones, and one for each member
 abbrev pub AreEntries : Shape → List (List ℕ) → Type 0

@@ -1,11 +1,12 @@
 //! The log that is listed before a pad: its view, and what its posts say.
 
-ghost use Rattle.std.specs.Prelude.{◌≡◌, ◌<◌, ◌∷◌, [], ◌^◌, ℕ, List, All, IfOk, IfSome, IsTrue, length, slice_index_or};
+ghost use Rattle.std.specs.Prelude.{◌≡◌, ◌<◌, ◌+◌, ◌∷◌, [], ◌^◌, ℕ, List, All, IfOk, IfSome, IsTrue, length, slice_index_or};
+ghost use Rattle.std.specs.List.{slice_range};
 ghost use Rattle.wire_core.specs.declared.tag.Tag.TheVariants.{View};
 ghost use Rattle.wire_core.specs.Hash.{hash_of};
 ghost use Rattle.phase_message.specs.Grammar.{IsBody};
 ghost use Rattle.phase_message.specs.Stages.{is_slot, shape_of};
-ghost use Rattle.phase_message.specs.Slots.{slot_number};
+ghost use Rattle.phase_message.specs.Slots.{slot_number, slots_before};
 ghost use Rattle.stage_log.specs.Log.{view_of};
 ghost use Rattle.stage_log.specs.Running.{Carries};
 ghost use Rattle.shuffle_blame.specs.Replay.{list_of};
@@ -30,11 +31,20 @@ pub(crate) fn view_behind(shape: Shape, log: &[Said<'_>]) -> [u8; 32]
 {
     let mut running = RunningView::new(shape);
     for stage in 0..shape.members + 4 {
-        let first = slots_before(shape, stage) as usize;
-        let end = slots_before(shape, stage + 1) as usize;
-        carry(&mut running, &log[first..end]);
+        carry(&mut running, posts_at(shape, log, stage));
     }
     running.view()
+}
+
+// The posts of a stage.
+fn posts_at<'a, 'b>(shape: Shape, log: &'a [Said<'b>], stage: u8) -> &'a [Said<'b>]
+    requires log { IsListedLog (shape_of shape) log.now }
+    requires earlier { stage < pad_stage (shape_of shape) }
+    ensures { result.now ≡ slice_range log.now (slots_before (shape_of shape) stage) (slots_before (shape_of shape) (stage + 1)) }
+{
+    let first = slots_before(shape, stage) as usize;
+    let end = slots_before(shape, stage + 1) as usize;
+    &log[first..end]
 }
 
 // Carries a view on over the posts of a stage.

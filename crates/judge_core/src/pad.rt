@@ -10,10 +10,11 @@ ghost use Rattle.bulk_descriptor.specs.Fields.{description_of};
 ghost use Rattle.shuffle_core.specs.Shuffle.{opened_list};
 ghost use Rattle.group_roster.specs.Roster.{shape_of_roster};
 ghost use Rattle.transcript_form.specs.Claim.{claim_posts};
+ghost use Rattle.round_spec.specs.Slots.{pads_in};
 ghost use Rattle.judge_core.specs.Case.{case_of, said_of, shape_in};
 ghost use Rattle.judge_core.specs.Checks.{WantsMemory, conviction_of, failed_of};
 ghost use Rattle.judge_core.specs.Pad.{accusation_failure, pad_answer, pads_row, row_of, table_of, view_failure};
-ghost use Rattle.judge_core.specs.PadLog.{AreEntries, ArePadPosts, IsListedLog, IsPadsPost, IsRevealed, Reveals, contents_said};
+ghost use Rattle.judge_core.specs.PadLog.{AreEntries, ArePadPosts, ArePads, IsListedLog, IsPadsPost, IsRevealed, Reveals, contents_said};
 
 use crate::failed_check::{FailedCheck, Unjudged};
 use crate::hearing::{Case, Said, take_all};
@@ -105,7 +106,7 @@ fn check_accusation(
     requires pads { IsPadsPost (case_of case) pads }
     requires revealed { IsRevealed (shape_in (case_of case)) (contents_said log.now) revealed.now }
     ensures { Gives failed_of (λ x. x) result
-        (value_unless (accusation_failure (case_of case.entry) (contents_said log.now) (pads_row (case_of case.entry) (said_of pads.entry)) case.detail) tt) }
+        (value_unless (accusation_failure (case_of case.entry) (contents_said log.now) (pads_row (case_of case.entry) (said_of pads.entry)) (case_of case.entry).detail) tt) }
 {
     let Some(accusation) = case.detail else {
         return Err(Unjudged::Failed(FailedCheck::OtherMember));
@@ -158,7 +159,8 @@ fn descriptor_in(alloc: Global, members: u8, item: &Option<List<u8>>) -> Mem<Opt
 // The pads of the accused, and empty ones of the other members.
 fn table_of(alloc: Global, case: Case<'_>, pads: Said<'_>) -> Mem<PadTable>
     requires { IsPadsPost (case_of case) pads }
-    ensures { IfOk result (λ table. table.members ≡ table_of (case_of case.entry) (pads_row (case_of case.entry) (said_of pads.entry))) }
+    ensures rows { IfOk result (λ table. All (λ row. length row ≡ (shape_in (case_of case.entry)).members) table.members) }
+    ensures value { IfOk result (λ table. table.members ≡ table_of (case_of case.entry) (pads_row (case_of case.entry) (said_of pads.entry))) }
 {
     let members = case.roster.shape().members;
     let mut rows = Vec::with_capacity(alloc, usize::from(members))?;
@@ -174,7 +176,8 @@ fn table_of(alloc: Global, case: Case<'_>, pads: Said<'_>) -> Mem<PadTable>
 // The row of a member.
 fn row_of(alloc: Global, case: Case<'_>, pads: Said<'_>, member: u8) -> Mem<List<List<u8>>>
     requires { IsPadsPost (case_of case) pads }
-    ensures { IfOk result (λ row. row ≡ row_of (case_of case.entry) (pads_row (case_of case.entry) (said_of pads.entry)) member) }
+    ensures count { IfOk result (λ row. length row ≡ (shape_in (case_of case.entry)).members) }
+    ensures value { IfOk result (λ row. row ≡ row_of (case_of case.entry) (pads_row (case_of case.entry) (said_of pads.entry)) member) }
 {
     if member == case.accused {
         said_pads(alloc, case, pads)
@@ -186,11 +189,20 @@ fn row_of(alloc: Global, case: Case<'_>, pads: Said<'_>, member: u8) -> Mem<List
 // The pads that a post of pads says.
 fn said_pads(alloc: Global, case: Case<'_>, pads: Said<'_>) -> Mem<List<List<u8>>>
     requires { IsPadsPost (case_of case) pads }
-    ensures { IfOk result (λ row. row ≡ pads_row (case_of case.entry) (said_of pads.entry)) }
+    ensures count { IfOk result (λ row. length row ≡ (shape_in (case_of case.entry)).members) }
+    ensures value { IfOk result (λ row. row ≡ pads_row (case_of case.entry) (said_of pads.entry)) }
 {
     let content = read_content(alloc, case.roster.shape(), pads.content)?;
-    match content.body {
-        Body::Pads { pads } => Ok(pads),
+    Ok(pads_in(content.body))
+}
+
+// The pads that a body says.
+fn pads_in(body: Body) -> List<List<u8>>
+    requires { ArePads body }
+    ensures { result ≡ pads_in body }
+{
+    match body {
+        Body::Pads { pads } => pads,
         _ => unreachable!(),
     }
 }

@@ -117,9 +117,7 @@ fn show(alloc: Global, case: Case<'_>, number: u32, said: Said<'_>) -> Result<Sh
 {
     let content = read_content(alloc, case.roster.shape(), said.content)?;
     let Some(log) = justifying_log(alloc, case.roster, case.round, &content)? else {
-        return Err(Unjudged::Failed(FailedCheck::NotJustified {
-            post: number,
-        }));
+        return Err(Unjudged::Failed(FailedCheck::NotJustified { post: number }));
     };
     Ok(Shows {
         stage: said.header.stage,
