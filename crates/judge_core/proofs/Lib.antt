@@ -12,6 +12,7 @@ pub mod Takings
 pub mod SeedPlaces
 pub mod Listed
 pub mod Replays
+pub mod PadLaw
 pub mod Convictions
 pub mod PadSlots
 pub mod PadReadings
