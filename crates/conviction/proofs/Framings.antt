@@ -8,11 +8,12 @@ use Rattle.transcript_form.specs.declared.transcript.Transcript.{Transcript}
 use Rattle.transcript_form.specs.Transcript.{IsTranscript, transcript_spelling}
 use Rattle.round_spec.specs.Premises.{NoneCollide}
 use Rattle.round_spec.specs.Runs.{AreHonest, Run, SaidBy}
+use Rattle.round_spec.proofs.Honesty.{unforged_is_said}
 use Rattle.conviction.specs.Accepts.{Convicts}
 use Rattle.conviction.specs.Framing.{NobodyHonestIsConvicted, NoFraming}
 use Rattle.conviction.proofs.BadPads.{frame_pad}
 use Rattle.conviction.proofs.OnePost.{frame_bad_log, frame_wrong_seed}
-use Rattle.conviction.proofs.Posts.{frame_equivocation, frame_malformed, unforged_is_said}
+use Rattle.conviction.proofs.Posts.{frame_equivocation, frame_malformed}
 use Rattle.conviction.proofs.ReplayStrings.{frame_replay}
 
 -- what a claim asks of the listed posts is not shown
@@ -34,4 +35,4 @@ no_framing roster bytes accused claim is accepts runs honest none said =
 
 pub nobody_honest_is_convicted : NobodyHonestIsConvicted
 nobody_honest_is_convicted roster bytes accused claim is accepts runs honest none unforged has =
-    no_framing roster bytes accused claim is accepts runs honest none (unforged_is_said roster bytes runs accused has unforged)
+    no_framing roster bytes accused claim is accepts runs honest none (λ t form spelled. unforged_is_said roster runs accused t.round t.posts (unforged t form spelled) has)

@@ -1,19 +1,19 @@
 -- What transcripts list of the members of honest runs: one or two posts show nothing against them.
-use Rattle.std.proofs.Common.{◌≡◌, ℕ, List, [], ◌∷◌, Ok, ap, sym, ◌∙◌, refl, subst, arith, inl}
+use Rattle.std.proofs.Common.{◌≡◌, ℕ, List, [], ◌∷◌, Ok, ap, sym, ◌∙◌, refl, subst, arith}
 use Rattle.std.specs.Prelude.{Contains}
 use Rattle.std.proofs.lemmas.List.Elements.{All-contains}
 use Rattle.phase_message.specs.declared.header.Header.{Header}
 use Rattle.phase_message.specs.declared.post.Post.{Post}
 use Rattle.phase_message.specs.Grammar.{OfGrammar}
 use Rattle.group_roster.specs.Roster.{Roster, shape_of_roster}
-use Rattle.signed_post.specs.Admission.{Admitted, Says}
+use Rattle.signed_post.specs.Admission.{Says}
 use Rattle.signed_post.specs.Frame.{frame_of}
 use Rattle.signed_post.proofs.Frames.{framed-again}
 use Rattle.round_spec.specs.Rows.{IsRunOf}
-use Rattle.round_spec.specs.Runs.{AreHonest, HasNumber, HonestRun, Run, SaidBy, Sent, sent}
+use Rattle.round_spec.specs.Runs.{AreHonest, HonestRun, Run, SaidBy, Sent, sent}
 use Rattle.round_spec.proofs.Rows.{one_per_slot, own_row, run_of_content, run_unique}
 use Rattle.conviction.specs.Accepts.{Equivocates, SaysMalformed}
-use Rattle.conviction.specs.Framing.{AllSent, NotShown, TheRun, UnforgedIsSaid}
+use Rattle.conviction.specs.Framing.{AllSent, NotShown, TheRun}
 
 -- the post of a content with the signature that a listed post has
 post_said : (roster : Roster) (round : ℕ) (bytes content : List ℕ) (header : Header) → Says roster round bytes content header → Post
@@ -31,16 +31,6 @@ pub said-sent : (roster : Roster) (runs : List Run) (number round : ℕ) (posts 
     → Contains posts bytes → Says roster round bytes content header → header.sender ≡ number → Sent runs number content
 said-sent roster runs number round posts bytes content header said listed says sender =
     said bytes (record { content = content; signature = says.signature }) header listed (says-frame roster round bytes content header says) says.admitted sender
-
-admitted-for : (roster : Roster) (round other : ℕ) (post : Post) (header : Header) → round ≡ other → Admitted roster round post header
-    → Admitted roster other post header
-admitted-for roster round other post header e is = subst (λ (r : ℕ). Admitted roster r post header) e is
-
-pub unforged_is_said : UnforgedIsSaid
-unforged_is_said roster bytes runs number (run, listed, is) unforged t form spelled post_bytes post header given framed admitted sender =
-    let has : HasNumber runs header.sender = (run, listed, is ∙ sym sender) in
-    subst (λ (k : ℕ). Sent runs k post.content) sender
-    (unforged t form spelled post_bytes post header (inl given) framed (admitted-for roster t.round header.round post header (sym admitted.this_round) admitted) has)
 
 -- ---- the run
 

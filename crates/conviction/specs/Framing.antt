@@ -24,11 +24,6 @@ abbrev pub ListsNoForgery : Roster → List ℕ → List Run → Type 0
 ListsNoForgery roster bytes runs = (t : Transcript) → IsTranscript (shape_of_roster roster) t →
     bytes ≡ transcript_spelling t → NoForgery roster t.posts runs
 
--- where no signature was forged, what is listed of the member of a run was said
-abbrev pub UnforgedIsSaid : Type 0
-UnforgedIsSaid = (roster : Roster) (bytes : List ℕ) (runs : List Run) (number : ℕ) →
-    HasNumber runs number → ListsNoForgery roster bytes runs → ListsSaid roster bytes runs number
-
 -- ---- the run of an accused
 
 -- each post of a list that says something for a member in a round says what this run sent

@@ -2,13 +2,7 @@
 
 ghost use Rattle.conviction.specs.Accepts.{Equivocates, ReplaysFault, RevealsWrongSeed, SaysMalformed, ShowsBadLog, ShowsBadPad};
 ghost use Rattle.conviction.specs.Blame.{CommonLogIsOwn, NoGoNotOwn, PadSameLog, ReplayNotOwn, SeedNotOwn, ShuffleNotOwn, SubmissionNotOwn, ViewNotOwn};
-ghost use Rattle.conviction.specs.Framing.{NobodyHonestIsConvicted, NoFraming, NotShown, NotShownUnlessCollide, TheRun, UnforgedIsSaid};
-
-/// Where no signature was forged among the posts of a transcript, what it lists of the member of a run was said by a
-/// run of that member.
-pub fn unforged_is_said()
-    ensures { UnforgedIsSaid }
-{}
+ghost use Rattle.conviction.specs.Framing.{NobodyHonestIsConvicted, NoFraming, NotShown, NotShownUnlessCollide, TheRun};
 
 /// A member that said one of the listed posts of a round has one run in this round, which sent all that is listed of it.
 pub fn the_run()

@@ -21,7 +21,7 @@ fn secret_of(alloc: Global, member: u8, leaf: u32) -> Mem<LmsSecret>
     LmsSecret::make(alloc, MadeHeight::H5, OtsType::W4, &[member; 32], leaf)
 }
 
-pub(crate) fn signature_of(alloc: Global, signer: u8, leaf: u32, content: &[u8]) -> Mem<Vec<u8>>
+fn signature_of(alloc: Global, signer: u8, leaf: u32, content: &[u8]) -> Mem<Vec<u8>>
     requires { leaf < 32 }
 {
     let Ok(mut run) = secret_of(alloc, signer, leaf)?.reserve(alloc, 1) else {

@@ -1,35 +1,40 @@
 -- When the run that deliveries make is honest.
-use Rattle.std.proofs.Common.{◌≡◌, ℕ, ◌<◌, ◌≤◌, true, List, length, get_or, map, Option, Some, None, Result, Ok, ap, sym, ◌∙◌, refl, subst, arith, inl, inr}
+use Rattle.std.proofs.Common.{◌≡◌, ℕ, zero, suc, ◌<◌, ◌≤◌, true, List, [], ◌∷◌, length, get_or, map, take, Option, Some, None, Result, Ok, ap, sym, ◌∙◌, refl, subst, arith, inl, inr}
 use Rattle.std.specs.Prelude.{◌==◌, All, IfSome, slice_index_or, option_map}
 use Rattle.std.specs.List.{slice_get}
-use Rattle.std.proofs.lemmas.Bool.{cases_Bool, cond-false, eqb-true}
-use Rattle.std.proofs.lemmas.List.{length-map}
+use Rattle.std.proofs.lemmas.Bool.{cases_Bool, cases_lt, cond-false, eqb-true}
+use Rattle.std.proofs.lemmas.List.{length-map, length-take-le}
 use Rattle.std.proofs.lemmas.List.Elements.{All-take}
-use Rattle.std.proofs.lemmas.Option.{get_or_from_slice_get, none-some, slice_get-get_or, slice_get-map}
+use Rattle.std.proofs.lemmas.Option.{get_or_from_slice_get, none-some, slice_get-get_or, slice_get-map, slice_get_within}
 use Rattle.wire_core.specs.Bytes.{IsBytes}
 use Rattle.phase_message.specs.declared.content.Content.{Content}
 use Rattle.phase_message.specs.declared.offence.Offence.{Offence}
 use Rattle.phase_message.specs.declared.post.Post.{Post}
 use Rattle.phase_message.specs.declared.stage.Slot.{Slot}
 use Rattle.phase_message.specs.Offence.{content_read}
-use Rattle.phase_message.specs.Shape.{IsShape}
-use Rattle.phase_message.specs.Slots.{slot_count, slots_of}
+use Rattle.phase_message.specs.Shape.{IsShape, Shape}
+use Rattle.phase_message.specs.Slots.{slot_at, slot_count, slots_before, slots_of}
 use Rattle.phase_message.specs.Stages.{is_slot}
-use Rattle.phase_message.proofs.SlotLists.{length-slots_of, slot_at-is}
+use Rattle.phase_message.proofs.SlotLists.{length-slots_of, slot_at-is, slot_number-within, slots_before-most, slots_before-rises}
 use Rattle.signed_post.specs.Admission.{Admitted}
 use Rattle.signed_post.proofs.Admits.{admits_exactly}
-use Rattle.stage_log.specs.Table.{IsKept, IsLog, kept_in}
+use Rattle.stage_log.specs.Log.{before}
+use Rattle.stage_log.specs.Table.{IsKept, IsLog, Log, kept_in}
+use Rattle.stage_log.proofs.Pasts.{all_some-is}
 use Rattle.round_spec.specs.Embedded.{slot_named}
 use Rattle.round_spec.specs.Say.{Configuration, shape_in}
 use Rattle.round_spec.specs.Verdict.{Verdict}
 use Rattle.round_spec.specs.Course.{Others, course_of, own_post_at, post_settled, settled_log}
 use Rattle.round_spec.specs.Reached.{NameSlots}
 use Rattle.round_spec.specs.Result.{counted_part, delivered_counted, first_posts, least_ending, log_after}
-use Rattle.round_spec.specs.Runs.{ChecksIn, HasNumber, IsConfiguration, Sent, own_slot}
+use Rattle.round_spec.specs.OwnRows.{CanSay}
+use Rattle.round_spec.specs.Runs.{ChecksIn, HasNumber, IsConfiguration, IsOwnPost, Sent, own_slot}
 use Rattle.round_spec.specs.Settled.{settled_run}
 use Rattle.round_spec.specs.Honesty.{OthersCheck, OwnPostsCheck, RunAfterIsHonest, SettledRunIsHonest, UnforgedIsSaid}
 use Rattle.round_spec.proofs.Beginnings.{shape-is}
 use Rattle.round_spec.proofs.Given.{first_posts_delivered}
+use Rattle.round_spec.proofs.OwnChecks.{own_post_checks}
+use Rattle.round_spec.proofs.OwnLengths.{take-get}
 use Rattle.round_spec.proofs.Rows.{checks-parts}
 use Rattle.round_spec.proofs.Settling.{own_posts_settled, settled-kept}
 
@@ -62,18 +67,19 @@ kept-speaks c others slot post e = elim (cases_Bool (is_slot (shape_in c) slot.s
 members-least : (c : Configuration) → IsConfiguration c → 1 ≤ (shape_in c).members
 members-least c is = (let least = is.roster.least in omega arith)
 
--- each kept post checks in its slot
-kept-checks : (c : Configuration) (others : Others) (slot : Slot) (post : Post) → IsConfiguration c → OthersCheck c others → OwnPostsCheck c others
+-- a kept post checks in its slot, if the own post of its stage does
+kept-if-own : (c : Configuration) (others : Others) (slot : Slot) (post : Post) → IsConfiguration c → OthersCheck c others
+    → (is_slot (shape_in c) slot.stage c.number ≡ true → IsOwnPost (settled_run c others) slot.stage post → ChecksIn c (own_slot (settled_run c others) slot.stage) post)
     → kept_in (settled_log c others) slot ≡ Some post → ChecksIn c slot post
 unfolding post_settled
-kept-checks c others slot post is check own_check e = elim (cases_Bool (slot.sender == c.number)) [
+kept-if-own c others slot post is check own_check e = elim (cases_Bool (slot.sender == c.number)) [
   | inl own ↦
       let number : slot.sender ≡ c.number = eqb-true slot.sender c.number own in
       let slot_is : slot ≡ own_slot (settled_run c others) slot.stage = ap (λ (s : ℕ). record { stage = slot.stage; sender = s }) number in
       let speaks_own : is_slot (shape_in c) slot.stage c.number ≡ true = sym (ap (λ (s : ℕ). is_slot (shape_in c) slot.stage s) number) ∙ kept-speaks c others slot post e in
       let kept_own : kept_in (settled_log c others) (own_slot (settled_run c others) slot.stage) ≡ Some post = sym (ap (kept_in (settled_log c others)) slot_is) ∙ e in
       let own_post_is = (own_posts_settled c others slot.stage post is.widths.round (members-least c is) (checks-name c others check) speaks_own).0 kept_own in
-      subst (λ (s : Slot). ChecksIn c s post) (sym slot_is) (own_check slot.stage post speaks_own own_post_is)
+      subst (λ (s : Slot). ChecksIn c s post) (sym slot_is) (own_check speaks_own own_post_is)
   | inr other ↦ check slot post (sym (cond-false (slot.sender == c.number) (own_post_at c (course_of c others) slot.stage) (others slot) other)
       ∙ sym (settled-kept c others slot (kept-speaks c others slot post e)) ∙ e)
 ]
@@ -107,8 +113,70 @@ kept-if : (o : Option Post) → ((post : Post) → o ≡ Some post → IsKept po
 kept-if None each = tt
 kept-if (Some post) each = each post refl
 
-settled-is_log : (c : Configuration) (others : Others) → IsConfiguration c → OthersCheck c others → OwnPostsCheck c others → IsLog (settled_log c others)
-settled-is_log c others is check own_check = record { shape = shape-of c others is; places = places-of c others; contents = λ k d lt. each k d lt (slice_get (slots_of (shape_in c)) k) refl }
+-- ---- own posts
+
+-- what stands at a number of the past of the log is what the log keeps in its slot
+past-kept : (c : Configuration) (others : Others) (stage number : ℕ) (past : List Post) (slot : Slot) (post : Post) → before (settled_log c others) stage ≡ Some past
+    → slot_at (shape_in c) number ≡ Some slot → slice_get past number ≡ Some post → kept_in (settled_log c others) slot ≡ Some post
+past-kept c others stage number past slot post e at stands =
+    let log : Log = settled_log c others in
+    let n : ℕ = slots_before log.shape stage in
+    let all : take n log.posts ≡ map (λ x. Some x) past = all_some-is (take n log.posts) past e in
+    let there : slice_get (take n log.posts) number ≡ Some (Some post) =
+    ap (λ (xs : List (Option Post)). slice_get xs number) all ∙ slice_get-map (λ x. Some x) past number ∙ ap (option_map (λ x. Some x)) stands in
+    let found = take-get log.posts n number (Some post) there in
+    let place = place-is c others number None slot at in
+    settled-kept c others slot (slot_at-is (shape_in c) number slot at).0 ∙ sym place ∙ get_or_from_slice_get log.posts number (Some post) None found.1
+
+past-length : (c : Configuration) (others : Others) (stage : ℕ) (past : List Post) → before (settled_log c others) stage ≡ Some past → length past ≡ slots_before (shape_in c) stage
+past-length c others stage past e =
+    let log : Log = settled_log c others in
+    let n : ℕ = slots_before log.shape stage in
+    let all : take n log.posts ≡ map (λ x. Some x) past = all_some-is (take n log.posts) past e in
+    let shape = ap (λ (s : Shape). slots_before s stage) (shape-same c others) in
+    sym (length-map past (λ x. Some x)) ∙ ap length (sym all) ∙ length-take-le n log.posts (omega (arith, places-of c others, slots_before-most log.shape stage)) ∙ shape
+
+-- a slot of the past is of an earlier stage
+earlier-slot : (shape : Shape) (stage number : ℕ) (slot : Slot) → slot_at shape number ≡ Some slot → number < slots_before shape stage → slot.stage < stage
+earlier-slot shape stage number slot at lt =
+    let there = slot_at-is shape number slot at in
+    let within = (slot_number-within shape slot.stage slot.sender there.0).0 in
+    let number_is = there.1 in
+    elim (cases_lt slot.stage stage) [
+      | inl earlier ↦ earlier
+      | inr later ↦ absurd (omega (arith, within, number_is, lt, slots_before-rises shape stage slot.stage later))
+    ]
+
+-- own posts check, stage by stage
+own-checks : (c : Configuration) (others : Others) (bound stage : ℕ) (post : Post) → IsConfiguration c → OthersCheck c others → stage < bound → is_slot (shape_in c) stage c.number ≡ true
+    → IsOwnPost (settled_run c others) stage post → ChecksIn c (own_slot (settled_run c others) stage) post
+own-checks c others zero stage post is check lt speaks own = absurd (omega (arith, lt))
+own-checks c others (suc bound) stage post is check lt speaks own =
+    let length_is = past-length c others stage own.past own.before in
+    let can : CanSay c stage own.past = record {
+      config = is;
+      speaks = speaks;
+      past_is = record {
+        whole = length_is;
+        checks = λ number slot kept at stands. (
+            let within = slice_get_within own.past number kept stands in
+            let earlier = earlier-slot (shape_in c) stage number slot at (omega (arith, within, length_is)) in
+            kept-if-own c others slot kept is check (λ speaks_there own_there. own-checks c others bound slot.stage kept is check (omega (arith, earlier, lt)) speaks_there own_there)
+            (past-kept c others stage number own.past slot kept own.before at stands));
+      };
+    } in
+    subst (ChecksIn c (own_slot (settled_run c others) stage)) (sym own.said) (own_post_checks c stage own.past can own.goes)
+
+pub own_posts_check : OwnPostsCheck
+own_posts_check c others is check stage post speaks own = own-checks c others (suc stage) stage post is check (omega arith) speaks own
+
+kept-checks : (c : Configuration) (others : Others) (slot : Slot) (post : Post) → IsConfiguration c → OthersCheck c others → kept_in (settled_log c others) slot ≡ Some post → ChecksIn c slot post
+kept-checks c others slot post is check e = kept-if-own c others slot post is check (λ speaks own. own_posts_check c others is check slot.stage post speaks own) e
+
+-- ---- honest runs
+
+settled-is_log : (c : Configuration) (others : Others) → IsConfiguration c → OthersCheck c others → IsLog (settled_log c others)
+settled-is_log c others is check = record { shape = shape-of c others is; places = places-of c others; contents = λ k d lt. each k d lt (slice_get (slots_of (shape_in c)) k) refl }
   where
     each : (k : ℕ) (d : Option Post) → k < length (settled_log c others).posts → (o : Option Slot) → slice_get (slots_of (shape_in c)) k ≡ o
         → IfSome (slice_index_or (settled_log c others).posts k d) (λ (post : Post). IsKept post.content)
@@ -117,14 +185,14 @@ settled-is_log c others is check own_check = record { shape = shape-of c others 
         let at = slot_at-is (shape_in c) k slot e in
         let there = place-is c others k d slot e in
         subst (λ (o : Option Post). IfSome o (λ (post : Post). IsKept post.content)) (sym (there ∙ sym (settled-kept c others slot at.0)))
-        (kept-if (kept_in (settled_log c others) slot) (λ post kept. checked-kept c slot post (kept-checks c others slot post is check own_check kept)))
+        (kept-if (kept_in (settled_log c others) slot) (λ post kept. checked-kept c slot post (kept-checks c others slot post is check kept)))
 
 pub settled_run_is_honest : SettledRunIsHonest
-settled_run_is_honest c others is check own_check = record {
+settled_run_is_honest c others is check = record {
   config = is;
-  log = settled-is_log c others is check own_check;
+  log = settled-is_log c others is check;
   shape = shape-same c others;
-  posts = λ slot post e. kept-checks c others slot post is check own_check e;
+  posts = λ slot post e. kept-checks c others slot post is check e;
   own = λ stage post e. (own_posts_settled c others stage post is.widths.round (members-least c is) (checks-name c others check) (kept-speaks c others (own_slot (settled_run c others) stage) post e)).0 e;
 }
 
@@ -138,10 +206,9 @@ counted-bytes c delivered all = by_least (least_ending c delivered)
 
 pub run_after_is_honest : RunAfterIsHonest
 unfolding log_after
-run_after_is_honest c delivered is all own_check =
-    let counted : List (List ℕ) = delivered_counted c delivered in
+run_after_is_honest c delivered is all =
     settled_run_is_honest c (first_posts c (delivered_counted c delivered)) is
-    (λ slot post e. (first_posts_delivered c (delivered_counted c delivered) slot post (counted-bytes c delivered all) e).checks) own_check
+    (λ slot post e. (first_posts_delivered c (delivered_counted c delivered) slot post (counted-bytes c delivered all) e).checks)
 
 pub unforged_is_said : UnforgedIsSaid
 unforged_is_said roster runs number round posts unforged numbered bytes post header listed spelled admitted sender_is =

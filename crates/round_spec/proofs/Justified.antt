@@ -256,7 +256,7 @@ so-said shape content embedded false objects says =
     ∙ and_from _ _ (not-true (votes_agree shape embedded content.header.stage) (λ e. says.0 (votes-are shape (contents_at shape embedded (content.header.stage - 1)) e)))
     ((bytes_eq-Decides content.header.view (view_of shape embedded content.header.stage)).1 says.1)
 
-zip-bytes : (slots : List Slot) (items : List (List ℕ)) → All IsBytes items → All (λ (p : Slot × List ℕ). IsBytes p.1) (zip slots items)
+pub zip-bytes : (slots : List Slot) (items : List (List ℕ)) → All IsBytes items → All (λ (p : Slot × List ℕ). IsBytes p.1) (zip slots items)
 zip-bytes [] items all k d lt = absurd (omega (arith, lt))
 zip-bytes (slot ∷ slots) [] all k d lt = absurd (omega (arith, lt))
 zip-bytes (slot ∷ slots) (item ∷ items) all zero d lt = all 0 item (omega arith)

@@ -23,3 +23,6 @@ pub mod Turns
 pub mod PastForms
 pub mod OwnItems
 pub mod OwnGrammar
+pub mod AgreedClosings
+pub mod OwnLengths
+pub mod OwnChecks

@@ -46,7 +46,7 @@ use Rattle.round_spec.specs.OwnRows.{CanSay, IsPastAt, OwnRowOfGrammar, content_
 use Rattle.round_spec.proofs.OwnBytes.{key-bytes}
 use Rattle.round_spec.proofs.OwnItems.{IsItem, IsPad, is-member, opened-count, own-submission, sent-pad}
 use Rattle.round_spec.proofs.PastForms.{AreEntries, list-is, spelled-bytes, spelled-short, stands-there}
-use Rattle.round_spec.proofs.SealedBytes.{all-drop, all-from, all-map, all-map-from, all-take, bodies-bytes, bodies-long, flat-bytes, prefixed-bytes}
+use Rattle.round_spec.proofs.SealedBytes.{all-drop, all-from, all-items, all-map, all-map-from, all-places, all-take, bodies-bytes, bodies-long, flat-bytes, prefixed-bytes}
 use Rattle.round_spec.proofs.Turns.{pad-late, submit-late, turn-at}
 
 -- a body of the kind of its stage, of bytes
@@ -82,15 +82,6 @@ submit-is c stage shuffle past can kind =
     record { form = is.long; bytes = is.bytes }
 
 -- ---- turns
-
-all-places : {A : Type 0} (P : A → Type 0) (xs : List A) → AllByRecursion P xs → All P xs
-all-places P [] all k d lt = absurd (omega (arith, lt))
-all-places P (x ∷ xs) all zero d lt = all.0
-all-places P (x ∷ xs) all (suc k) d lt = all-places P xs all.1 k d (omega (arith, lt))
-
-all-items : {A : Type 0} (P : A → Type 0) (xs : List A) → All P xs → AllByRecursion P xs
-all-items P [] all = tt
-all-items P (x ∷ xs) all = (all 0 x (omega arith), all-items P xs (λ k d lt. all (suc k) d (omega (arith, lt))))
 
 -- entries in another order
 order-entries : (count size : ℕ) (seed : List ℕ) (entries : List (List ℕ)) → count ≤ 8 → AreEntries count size entries → AreEntries count size (in_drawn_order seed entries)

@@ -47,6 +47,15 @@ all-drop P zero xs all = all
 all-drop P (suc n) [] all = tt
 all-drop P (suc n) (x ∷ xs) all = all-drop P n xs all.1
 
+pub all-places : {A : Type 0} (P : A → Type 0) (xs : List A) → AllByRecursion P xs → All P xs
+all-places P [] all k d lt = absurd (omega (arith, lt))
+all-places P (x ∷ xs) all zero d lt = all.0
+all-places P (x ∷ xs) all (suc k) d lt = all-places P xs all.1 k d (omega (arith, lt))
+
+pub all-items : {A : Type 0} (P : A → Type 0) (xs : List A) → All P xs → AllByRecursion P xs
+all-items P [] all = tt
+all-items P (x ∷ xs) all = (all 0 x (omega arith), all-items P xs (λ k d lt. all (suc k) d (omega (arith, lt))))
+
 pub concat-bytes : (xs : List (List ℕ)) → AllByRecursion IsBytes xs → IsBytes (concat xs)
 concat-bytes [] all = IsBytes-nil
 concat-bytes (x ∷ xs) all = IsBytes-append x (concat xs) all.0 (concat-bytes xs all.1)

@@ -8,13 +8,13 @@ ghost use Rattle.group_roster.specs.Roster.{Roster};
 ghost use Rattle.transcript_form.specs.declared.transcript.Transcript.{Transcript};
 ghost use Rattle.round_spec.specs.Runs.{Run};
 ghost use Rattle.round_spec.specs.Strings.{KeptIsRead, RunHasStrings, TranscriptHasStrings};
-ghost use Rattle.round_spec.specs.Honesty.{RunAfterIsHonest, SettledRunIsHonest, UnforgedIsSaid};
+ghost use Rattle.round_spec.specs.Honesty.{OwnPostsCheck, RunAfterIsHonest, SettledRunIsHonest, UnforgedIsSaid};
 ghost use Rattle.round_spec.specs.Given.{FirstPostsDelivered, FirstPostsName, ListsAgree, VotesLookAtLists};
 ghost use Rattle.round_spec.specs.Justified.{FirstBadIsTold, JustifiedExactly, PostsAreFound};
 ghost use Rattle.round_spec.specs.Waiting.{InquiryIsOfLog, OpenRoundsWait};
 ghost use Rattle.round_spec.specs.Settled.{OwnPostsSettled};
 ghost use Rattle.round_spec.specs.Beginnings.{BeginningsAreHonest, KeysAreNotForged, ListsAreHonest, NothingIsForged};
-ghost use Rattle.round_spec.specs.OwnRows.{OwnRowOfGrammar};
+ghost use Rattle.round_spec.specs.OwnRows.{OwnContentIsShort, OwnPostChecks, OwnRowOfGrammar};
 ghost use Rattle.round_spec.specs.Rows.{OnePerSlot, OwnRow, RowPast, RunOfContent, RunUnique};
 ghost use Rattle.round_spec.specs.Say.{Configuration};
 ghost use Rattle.round_spec.specs.Reached.{CourseStops, StandsAreReached};
@@ -80,9 +80,12 @@ pub fn row_laws()
     ensures one_per_slot { OnePerSlot }
 {}
 
-/// Whatever a member has to say over a past of posts that check, each in its slot, is of the grammar.
+/// Whatever a member has to say over a past of posts that check, each in its slot, is of the grammar. If no verdict ended
+/// the round before, it has at most 11,539,924 bytes, and its post checks and stands in its slot.
 pub fn own_row_laws()
-    ensures { OwnRowOfGrammar }
+    ensures grammar { OwnRowOfGrammar }
+    ensures short { OwnContentIsShort }
+    ensures checks { OwnPostChecks }
 {}
 
 /// The definitions are not empty. The run of a member that has said nothing is honest, and so is that of one that has
@@ -143,9 +146,10 @@ pub fn justified_laws()
     ensures first_bad { FirstBadIsTold }
 {}
 
-/// The run that deliveries make is honest, if what the member has to say checks; and where nothing was forged, what is
-/// listed of a member with a run was said by it.
+/// Where the others' posts check, so does what the member has to say in a course, and the run is honest that any deliveries
+/// make. Where nothing was forged, what is listed of a member with a run was said by it.
 pub fn honesty_laws()
+    ensures own { OwnPostsCheck }
     ensures settled { SettledRunIsHonest }
     ensures after { RunAfterIsHonest }
     ensures said { UnforgedIsSaid }

@@ -1,5 +1,8 @@
-use Rattle.round_spec.proofs.Honesty.{run_after_is_honest, settled_run_is_honest, unforged_is_said}
+use Rattle.round_spec.proofs.Honesty.{own_posts_check, run_after_is_honest, settled_run_is_honest, unforged_is_said}
 use Rattle.round_spec.proofs.laws.honesty_laws.Goals as goal
+
+pub returns-clause-own : goal.returns-clause-own
+returns-clause-own c = own_posts_check
 
 pub returns-clause-settled : goal.returns-clause-settled
 returns-clause-settled c = settled_run_is_honest
