@@ -324,7 +324,7 @@ convicts-found roster t BadLog form is count fits e =
     only_bytes : (a : List ℕ) → AllByRecursion IsBytes (a ∷ []) → IsBytes a
     only_bytes a fits = fits.0
 convicts-found roster t Replay form is count fits e = (let some = members-some roster t form in replay-found roster t is count (omega (arith, some, count)) fits e)
-convicts-found roster t Pad form is count fits e = pad-found roster t form is fits e
+convicts-found roster t Pad form is count fits e = pad-found roster t is count fits e
 
 convicts-again : (roster : Roster) (t : Transcript) (claim : Claim) → IsTranscript (shape_of_roster roster) t → t.claim ≡ claim → AllByRecursion IsBytes t.posts → Convicts roster t claim → conviction_of (case_of_transcript roster t) t.posts ≡ Ok tt
 convicts-again roster t Equivocation form is fits convicts = two-again roster t is convicts
@@ -332,7 +332,7 @@ convicts-again roster t Malformed form is fits convicts = one-again roster t is 
 convicts-again roster t WrongSeed form is fits convicts = seed-again roster t is convicts
 convicts-again roster t BadLog form is fits convicts = log-again roster t is convicts
 convicts-again roster t Replay form is fits convicts = replay-again roster t (members-some roster t form) is convicts
-convicts-again roster t Pad form is fits convicts = pad-again roster t form is convicts
+convicts-again roster t Pad form is fits convicts = pad-again roster t is (form.count ∙ ap (claim_posts (shape_of_roster roster)) is) fits convicts
 
 -- ---- the whole
 

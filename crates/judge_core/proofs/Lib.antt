@@ -12,9 +12,9 @@ pub mod Takings
 pub mod SeedPlaces
 pub mod Listed
 pub mod Replays
-pub mod PadLaw
-pub mod Convictions
 pub mod PadSlots
 pub mod PadReadings
 pub mod PadChecks
 pub mod PadPosts
+pub mod PadLaw
+pub mod Convictions

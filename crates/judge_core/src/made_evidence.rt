@@ -242,22 +242,13 @@ fn reveals_are_judged(rt: &impl Abort, alloc: Global) -> Result<(), Fail> {
     let right = group
         .make(alloc, misviewed(0, 1), &right_keys(alloc)?)?
         .post;
-    for (head, posts, want) in [
-        (
-            [3, 1],
-            [other.as_slice(), bare.as_slice()].as_slice(),
-            accepted(Claim::WrongSeed),
-        ),
-        (
-            [3, 1],
-            &[right.as_slice(), bare.as_slice()],
-            failed(10, 2, 0),
-        ),
-        ([4, 1], &[bare.as_slice()], accepted(Claim::BadLog)),
-        ([4, 1], &[full.as_slice()], failed(11, 1, 0)),
-    ] {
-        judged(rt, alloc, &roster, head, posts, want)?;
-    }
+    let (bare, full) = (bare.as_slice(), full.as_slice());
+    let (other, right) = (other.as_slice(), right.as_slice());
+    let wrong_seed = accepted(Claim::WrongSeed);
+    judged(rt, alloc, &roster, [3, 1], &[other, bare], wrong_seed)?;
+    judged(rt, alloc, &roster, [3, 1], &[right, bare], failed(10, 2, 0))?;
+    judged(rt, alloc, &roster, [4, 1], &[bare], accepted(Claim::BadLog))?;
+    judged(rt, alloc, &roster, [4, 1], &[full], failed(11, 1, 0))?;
     Ok(())
 }
 
@@ -294,21 +285,11 @@ fn disputes_are_judged(rt: &impl Abort, alloc: Global) -> Result<(), Fail> {
         ..misviewed(5, 2)
     };
     let other = group.dispute(alloc, at, all.as_slice())?;
-    for (head, second, want) in [
-        ([5, 1], &same, accepted(Claim::Replay)),
-        ([5, 2], &same, failed(14, 0, 1)),
-        ([5, 1], &wrong, failed(12, 2, 0)),
-        ([5, 1], &other, failed(13, 2, 7)),
-    ] {
-        judged(
-            rt,
-            alloc,
-            &roster,
-            head,
-            &[first.as_slice(), second.as_slice()],
-            want,
-        )?;
-    }
+    let (first, same) = (first.as_slice(), same.as_slice());
+    judged(rt, alloc, &roster, [5, 1], &[first, same], accepted(Claim::Replay))?;
+    judged(rt, alloc, &roster, [5, 2], &[first, same], failed(14, 0, 1))?;
+    judged(rt, alloc, &roster, [5, 1], &[first, wrong.as_slice()], failed(12, 2, 0))?;
+    judged(rt, alloc, &roster, [5, 1], &[first, other.as_slice()], failed(13, 2, 7))?;
     Ok(())
 }
 
