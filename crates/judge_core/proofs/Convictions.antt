@@ -1,43 +1,31 @@
 -- What the judge accepts convicts, and what convicts is accepted.
-use Rattle.std.proofs.Common.{◌≡◌, ◌≢◌, ◌<◌, ℕ, Bool, true, false, not, ◌&&◌, List, [], ◌∷◌, ◌++◌, length, Option, Some, None, Result, Ok, Err, refl, sym, ap, subst, ◌∙◌, arith}
+use Rattle.std.proofs.Common.{◌≡◌, ◌≢◌, ◌<◌, ℕ, true, false, not, List, [], ◌∷◌, length, Option, Some, None, Result, Ok, Err, refl, sym, ap, subst, ◌∙◌, arith}
 use Rattle.std.specs.Prelude.{◌==◌, bytes_eq, is_ok, nat_le}
 use Rattle.std.specs.List.{AllByRecursion}
-use Rattle.std.specs.Int.{w32, to_be_bytes}
-use Rattle.std.proofs.lemmas.Bool.{eqb-true, leb-true, eq-eqb, and_parts, both_ways, not-true, not-false, false_from_ne_true}
+use Rattle.std.proofs.lemmas.Bool.{eqb-true, leb-true, eq-eqb, and_parts, both_ways, not-true, false_from_ne_true}
 use Rattle.std.proofs.lemmas.Slice.Eq.{bytes_eq-Decides}
 use Rattle.wire_core.specs.Bytes.{IsBytes}
-use Rattle.wire_core.proofs.ByteLists.{IsBytes-front, IsBytes-back}
-use Rattle.wire_core.specs.Answers.{fault_as, unless, Gives}
-use Rattle.wire_core.proofs.Readings.{bind_ok, fault_as_ok, guard_ok}
-use Rattle.wire_core.specs.declared.cursor.Short.{Short}
+use Rattle.wire_core.specs.Answers.{fault_as, Gives}
+use Rattle.wire_core.proofs.Readings.{bind_ok, fault_as_ok}
 use Rattle.ring_encrypt.specs.Capsule.{key_of_seed}
 use Rattle.phase_message.specs.declared.content.Body.{Body}
-use Rattle.phase_message.specs.declared.content.Body.TheVariants.{Keys, Submit, Shuffled, Abort, Go, Reveal, Dispute, Pads, Check, Confirm, Differ}
+use Rattle.phase_message.specs.declared.content.Body.TheVariants.{Keys, Reveal}
 use Rattle.phase_message.specs.declared.content.Content.{Content}
 use Rattle.phase_message.specs.declared.stage.StageKind.{StageKind}
 use Rattle.phase_message.specs.declared.stage.StageKind.TheVariants.{Keys as AtKeys, Submit as AtSubmit, Shuffle as AtShuffle, Go as AtGo, Final as AtFinal, Pad as AtPad, Check as AtCheck, Confirm as AtConfirm}
-use Rattle.phase_message.specs.Body.{body_form, form_of}
-use Rattle.phase_message.specs.Slots.{slots_before}
 use Rattle.phase_message.specs.Stages.{kind_of_stage, vote_of}
 use Rattle.phase_message.specs.declared.header.Header.{Header}
-use Rattle.phase_message.specs.declared.post.Post.{Post}
-use Rattle.phase_message.specs.Grammar.{IsBody, OfGrammar, content_text, kind_number}
+use Rattle.phase_message.specs.Grammar.{OfGrammar, content_text}
 use Rattle.phase_message.specs.declared.offence.Offence.{Offence}
 use Rattle.phase_message.specs.Offence.{content_read}
-use Rattle.phase_message.proofs.Whole.{content-header, content-is_spelled, content-is_read}
+use Rattle.phase_message.proofs.Whole.{content-is_spelled, content-is_read}
 use Rattle.phase_message.specs.Shape.{Shape, IsShape}
 use Rattle.group_roster.specs.Roster.{Roster, shape_of_roster, IsRosterForm}
 use Rattle.wire_core.specs.Answers.{fault_unless}
 use Rattle.wire_core.proofs.AnswerLemmas.{fault_unless-holds}
-use Rattle.signed_post.specs.declared.post.PostRefusal.{PostRefusal}
-use Rattle.signed_post.specs.declared.post.PostRefusal.TheVariants.{Frame}
-use Rattle.signed_post.specs.Frame.{frame_of}
-use Rattle.signed_post.specs.Admission.{framed_admission_of, admission_of_bytes, IsPostFile, Says}
-use Rattle.signed_post.proofs.Frames.{framed-found, framed-again, framed-bytes}
-use Rattle.signed_post.proofs.Admits.{admit-found, admit-again}
+use Rattle.signed_post.specs.Admission.{IsPostFile}
 use Rattle.transcript_form.specs.declared.claim.Claim.{Claim}
 use Rattle.transcript_form.specs.declared.claim.Claim.TheVariants.{Equivocation, Malformed, WrongSeed, BadLog, Replay, Pad}
-use Rattle.transcript_form.specs.declared.refusal.FailedForm.{FailedForm}
 use Rattle.transcript_form.specs.declared.refusal.Refused.{Refused}
 use Rattle.transcript_form.specs.Refusals.{failure_of_refusal}
 use Rattle.transcript_form.specs.declared.transcript.Transcript.{Transcript}
@@ -46,21 +34,19 @@ use Rattle.transcript_form.specs.Transcript.{IsTranscript}
 use Rattle.transcript_form.specs.Form.{transcript_read}
 use Rattle.transcript_form.proofs.Transcripts.{transcript_read-found, transcript_read-again, transcript-bytes}
 use Rattle.judge_core.specs.declared.failed_check.FailedCheck.{FailedCheck}
-use Rattle.judge_core.specs.declared.failed_check.FailedCheck.TheVariants.{Form, Post as RefusedPost, Slot, Body as FailedBody, Kind, Same, WellFormed, SeedFits, Justified}
+use Rattle.judge_core.specs.declared.failed_check.FailedCheck.TheVariants.{Form, Same, WellFormed, SeedFits, Justified}
 use Rattle.judge_core.specs.declared.judging.Accepted.{Accepted}
 use Rattle.conviction.specs.Accepts.{Equivocates, SaysMalformed, RevealsWrongSeed, ShowsBadLog, Convicts, Accepts, inner_key}
-use Rattle.judge_core.specs.Checks.{content_of, is_asked, is_closing_stage, is_final_stage, is_keys_stage, is_kind_asked, is_of_bodies, is_seed_right, is_slot_asked, heard_of, taken_of, own_failure, conviction_of, judgement_of, printed_judgement_of, AcceptsExactly}
-use Rattle.judge_core.specs.Case.{Case, Said, case_of_transcript}
-use Rattle.judge_core.specs.Pad.{is_reveal}
-use Rattle.std.specs.Prelude.{IsSome, is_some, option_and_then}
+use Rattle.judge_core.specs.Checks.{is_asked, is_closing_stage, is_final_stage, is_keys_stage, is_kind_asked, is_of_bodies, is_seed_right, own_failure, conviction_of, judgement_of, printed_judgement_of, AcceptsExactly}
+use Rattle.judge_core.specs.Case.{Said, case_of_transcript}
+use Rattle.std.specs.Prelude.{IsSome, option_and_then}
 use Rattle.judge_core.specs.Closing.{is_justified_in, is_read_justified}
-use Rattle.judge_core.specs.WrongSeed.{is_seed_in, is_seed_of_key}
 use Rattle.judge_core.specs.Failures.{failure_of_check}
 use Rattle.judge_core.proofs.PadLaw.{pad-again, pad-found}
 use Rattle.judge_core.proofs.Replays.{replay-again, replay-found}
 use Rattle.judge_core.proofs.SeedPlaces.{is-keys, keys_body, reveal_body, seed-right}
-use Rattle.judge_core.proofs.Listed.{TakenPost, asked-again, asked-found, both-true, closing-is, file-taken, heard-again, heard-found, plain-claim, says-bytes, taken-found}
-use Rattle.judge_core.proofs.Hearings.{BothHeard, both_heard, two-both, other_contents, other_seed, unborne, is-closing, OneHeard, one_heard, one-heard, unformed, taken-plain, taken-heard, taken-read, taken-again}
+use Rattle.judge_core.proofs.Listed.{asked-again, asked-found, both-true, closing-is, file-taken, heard-again, heard-found, plain-claim, says-bytes, taken-found}
+use Rattle.judge_core.proofs.Hearings.{BothHeard, both_heard, two-both, other_contents, other_seed, unborne, is-closing, OneHeard, one_heard, one-heard, unformed, taken-plain, taken-heard}
 
 -- ---- Equivocation
 

@@ -1,17 +1,15 @@
 -- The log of the posts that a closing content embeds: its places, and what is embedded so far.
-use Rattle.std.proofs.Common.{◌≡◌, ℕ, zero, suc, ◌+◌, ◌-◌, ◌*◌, ◌<◌, ◌≤◌, Bool, true, false, not, List, [], ◌∷◌, ◌++◌, length, get_or, map, take, drop, replicate, Option, Some, None, Result, Ok, Err, refl, sym, ap, subst, ◌∙◌, arith, append_assoc, append-nil, length-append, inl, inr}
-use Rattle.std.specs.Prelude.{◌⊎◌, ◌&&◌, ◌==◌, IsErr, IsOk, IsSome, IsTrue, fold, zip, option_and_then, is_some, if◌then◌else◌}
-use Rattle.std.specs.List.{slice_get, slice_range, slice_set, list_all}
+use Rattle.std.proofs.Common.{◌≡◌, ℕ, zero, suc, ◌+◌, ◌-◌, ◌<◌, ◌≤◌, true, false, List, [], ◌∷◌, ◌++◌, length, get_or, map, take, drop, replicate, Option, Some, None, Result, Ok, Err, refl, sym, ap, subst, ◌∙◌, arith, append_assoc, append-nil, length-append, inl, inr}
+use Rattle.std.specs.Prelude.{◌⊎◌, IsErr, IsSome, fold, zip, option_and_then}
+use Rattle.std.specs.List.{slice_get, slice_set}
 use Rattle.std.proofs.Math.Seq.{drop-cons, get_or-append_seam, set-append_seam}
-use Rattle.std.proofs.lemmas.Bool.{cases_Bool, cond-true, cond-false, eqb-true, eq-eqb, false_from_ne_true, and_parts}
+use Rattle.std.proofs.lemmas.Bool.{cond-true, cond-false}
 use Rattle.std.proofs.lemmas.List.{map-append, length-map, length-take-le, length-drop, replicate-append-replicate}
-use Rattle.std.proofs.lemmas.Slice.Zip.{firsts-zip, length-zip}
-use Rattle.wire_core.specs.Answers.{◌>>=◌, fault_as, unless}
-use Rattle.wire_core.proofs.Readings.{bind_ok}
+use Rattle.std.proofs.lemmas.Slice.Zip.{firsts-zip}
+use Rattle.wire_core.specs.Answers.{◌>>=◌, fault_as}
 use Rattle.phase_message.specs.declared.content.Body.{Body}
 use Rattle.phase_message.specs.declared.content.Body.TheVariants.{Keys, Submit, Shuffled, Abort, Go, Reveal, Dispute, Pads, Check, Confirm, Differ}
 use Rattle.phase_message.specs.declared.content.Content.{Content}
-use Rattle.phase_message.specs.declared.header.Header.{Header}
 use Rattle.phase_message.specs.declared.post.Post.{Post}
 use Rattle.phase_message.specs.declared.stage.Slot.{Slot}
 use Rattle.phase_message.specs.declared.stage.StageKind.{StageKind}
@@ -24,7 +22,7 @@ use Rattle.phase_message.specs.Stages.{is_slot, kind_of_stage, vote_of}
 use Rattle.phase_message.proofs.Closings.{closing-follows}
 use Rattle.phase_message.proofs.Counts.{slots_next}
 use Rattle.phase_message.proofs.Read.{closings_are_read}
-use Rattle.phase_message.proofs.SlotLists.{length-slots_of, slot_at-is, slot_at-number, slots_before-most, slots_before-rises}
+use Rattle.phase_message.proofs.SlotLists.{length-slots_of, slot_at-is, slots_before-most}
 use Rattle.phase_message.proofs.Whole.{content-is_read}
 use Rattle.group_roster.specs.Roster.{Roster, shape_of_roster}
 use Rattle.stage_log.specs.Put.{put_log}
@@ -36,8 +34,7 @@ use Rattle.std.specs.Option.{option_flatten}
 use Rattle.std.proofs.lemmas.Option.{slice_get_read}
 use Rattle.std.proofs.Math.ListN.{drop_of_length-le}
 use Rattle.go_nogo.specs.Closing.{IsClosing, embedded_of, is_assent, posts_embedded, slots_embedded}
-use Rattle.go_nogo.proofs.Justification.{votes-before}
-use Rattle.round_spec.specs.Embedded.{BadPost, WhyNot, checked_post, embedded_log, embedded_pairs, log_of, names_slot, post_for_slot, posts_for, posts_in_content}
+use Rattle.round_spec.specs.Embedded.{BadPost, WhyNot, embedded_log, embedded_pairs, log_of, post_for_slot, posts_for}
 use Rattle.judge_core.specs.Embedding.{KeepsEmbedded, StandsThere, first_embedded, places_of}
 
 -- ---- the places of a log

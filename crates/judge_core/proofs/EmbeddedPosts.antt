@@ -1,7 +1,7 @@
 -- An embedded post: what its bytes come to, alone and as the post of a slot.
-use Rattle.std.proofs.Common.{◌≡◌, ◌≢◌, ℕ, ◌<◌, Bool, true, false, not, List, ◌++◌, length, Option, Some, None, Result, Ok, Err, refl, sym, ap, subst, ◌∙◌, arith}
+use Rattle.std.proofs.Common.{◌≡◌, ◌≢◌, ℕ, true, false, not, List, ◌++◌, length, Option, Some, Result, Ok, Err, refl, sym, ap, subst, ◌∙◌, arith}
 use Rattle.std.specs.Int.{w32, to_be_bytes}
-use Rattle.std.specs.Prelude.{◌&&◌, ◌==◌, IsErr, IsTrue, is_some}
+use Rattle.std.specs.Prelude.{◌==◌, IsErr, is_some}
 use Rattle.std.specs.Result.{result_err}
 use Rattle.std.proofs.lemmas.Bool.{and_parts, eqb-true, eq-eqb, false_from_ne_true}
 use Rattle.wire_core.specs.declared.cursor.Short.{Short}
@@ -21,14 +21,14 @@ use Rattle.phase_message.proofs.SlotLists.{slot_at-is, slot_at-number}
 use Rattle.phase_message.proofs.Whole.{content-header}
 use Rattle.group_roster.specs.Roster.{Roster, shape_of_roster}
 use Rattle.signed_post.specs.declared.post.PostRefusal.{PostRefusal}
-use Rattle.signed_post.specs.declared.post.PostRefusal.TheVariants.{Frame, Body as RefusedBody}
+use Rattle.signed_post.specs.declared.post.PostRefusal.TheVariants.{Body as RefusedBody}
 use Rattle.signed_post.specs.Admission.{Admitted, admission_of, check_of, framed_admission_of}
-use Rattle.signed_post.specs.Frame.{FitsFrame, frame_of}
+use Rattle.signed_post.specs.Frame.{frame_of}
 use Rattle.signed_post.proofs.Admits.{admit-again, admit-found, admits_exactly}
 use Rattle.signed_post.proofs.Frames.{framed-bytes, framed-fits, framed-found}
 use Rattle.go_nogo.specs.Stands.{StandsIn}
 use Rattle.go_nogo.proofs.Standing.{stand-read}
-use Rattle.round_spec.specs.Embedded.{Misplaced, Refused, WhyNot, checked_post, names_slot, post_for_slot, slot_named}
+use Rattle.round_spec.specs.Embedded.{Misplaced, Refused, checked_post, names_slot, post_for_slot, slot_named}
 use Rattle.judge_core.specs.Embedding.{StandsThere}
 
 -- ---- what a call answered

@@ -1,6 +1,6 @@
 -- Whether the log that a closing content embeds justifies it.
-use Rattle.std.proofs.Common.{◌≡◌, ℕ, ◌+◌, ◌-◌, Bool, true, false, List, [], ◌∷◌, ◌++◌, length, map, take, drop, replicate, Option, Some, None, Result, Ok, Err, refl, sym, ap, subst, ◌∙◌, arith, length-append}
-use Rattle.std.specs.Prelude.{IsTrue, IsSome, is_some, zip}
+use Rattle.std.proofs.Common.{◌≡◌, ℕ, ◌+◌, ◌-◌, Bool, true, false, List, [], ◌∷◌, ◌++◌, length, map, take, drop, replicate, Option, Some, None, Result, Ok, Err, refl, sym, ap, subst, ◌∙◌, arith}
+use Rattle.std.specs.Prelude.{IsSome, is_some, zip}
 use Rattle.std.specs.List.{list_all, slice_range}
 use Rattle.std.proofs.Math.Seq.{drop-append_seam, take-append_seam}
 use Rattle.std.proofs.lemmas.Bool.{cond-true, cond-false}
@@ -13,10 +13,10 @@ use Rattle.phase_message.specs.Shape.{Shape}
 use Rattle.phase_message.specs.Slots.{slot_count, slots_before}
 use Rattle.group_roster.specs.Roster.{Roster, shape_of_roster}
 use Rattle.stage_log.specs.Table.{Log, is_complete}
-use Rattle.stage_log.specs.Log.{all_some, before, contents_in, contents_of}
+use Rattle.stage_log.specs.Log.{all_some, before, contents_in}
 use Rattle.stage_log.proofs.Pasts.{all_some-map, contents_in-map}
 use Rattle.go_nogo.specs.Closing.{HoldsEmbedded, HoldsFor, embedded_of, is_assent, is_justified, posts_embedded}
-use Rattle.round_spec.specs.Embedded.{BadPost, embedded_log, embedded_pairs, is_content_justified, is_justified_by, log_of, posts_for, posts_in_content}
+use Rattle.round_spec.specs.Embedded.{BadPost, embedded_log, embedded_pairs, is_content_justified, is_justified_by, log_of, posts_for}
 use Rattle.judge_core.specs.Embedding.{KeepsEmbedded, first_embedded, places_of}
 use Rattle.judge_core.proofs.EmbeddedLogs.{Spans, length_replicate}
 

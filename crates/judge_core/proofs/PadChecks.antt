@@ -1,7 +1,7 @@
 -- What the checks of a pad come to.
-use Rattle.std.proofs.Common.{◌≡◌, ℕ, ◌+◌, ◌-◌, ◌<◌, ◌^◌, Bool, true, false, List, [], ◌∷◌, ◌++◌, length, All, get_or, map, take, replicate, Option, Some, None, Result, Ok, Err, refl, sym, ap, subst, ◌∙◌, arith, length-append}
+use Rattle.std.proofs.Common.{◌≡◌, ℕ, List, [], ◌∷◌, ◌++◌, length, All, map, take, Option, Some, None, Result, Ok, Err, refl, sym, ap, subst, ◌∙◌, arith, length-append}
 use Rattle.std.specs.Prelude.{IfSome, ◌==◌}
-use Rattle.std.specs.List.{range_with_len, slice_get}
+use Rattle.std.specs.List.{slice_get}
 use Rattle.std.specs.Option.{option_and_then, option_map}
 use Rattle.std.proofs.Math.Seq.{take-append_seam}
 use Rattle.std.proofs.lemmas.Bool.{eq-eqb}
@@ -9,7 +9,6 @@ use Rattle.std.proofs.lemmas.List.{length-map, map_push}
 use Rattle.std.proofs.lemmas.List.FromFn.{length-map-range_with_len}
 use Rattle.wire_core.specs.Answers.{IsFault, first_some, value_unless}
 use Rattle.wire_core.proofs.AnswerLemmas.{fault_unless-true}
-use Rattle.phase_message.specs.declared.content.Body.{Body}
 use Rattle.phase_message.specs.declared.content.Body.TheVariants.{Pads}
 use Rattle.phase_message.specs.declared.content.Content.{Content}
 use Rattle.phase_message.specs.declared.header.Header.{Header}
@@ -18,12 +17,9 @@ use Rattle.phase_message.specs.Offence.{content_read}
 use Rattle.phase_message.specs.Shape.{Shape}
 use Rattle.phase_message.specs.Stages.{kind_of_stage}
 use Rattle.phase_message.proofs.Whole.{content-header}
-use Rattle.bulk_descriptor.specs.declared.descriptor.Descriptor.{Descriptor}
 use Rattle.bulk_descriptor.specs.Descriptor.{Description, descriptor_read}
-use Rattle.bulk_descriptor.specs.Fields.{description_of}
 use Rattle.bulk_descriptor.specs.SlotState.{AreSlots}
 use Rattle.shuffle_core.specs.Shuffle.{opened_item, opened_list}
-use Rattle.shuffle_blame.specs.Replay.{body_of}
 use Rattle.round_spec.specs.Slots.{bulk_place, descriptors_opened, entries_opened, items_opened, keys_said, list_said, pads_in, seeds_revealed}
 use Rattle.judge_core.specs.declared.hearing.Said.{Said as GivenSaid}
 use Rattle.accusation.specs.declared.holding.AccusationRefusal.{AccusationRefusal}

@@ -1,13 +1,12 @@
 -- A transcript of a pad convicts exactly whose pad its posts show to be bad.
-use Rattle.std.proofs.Common.{◌≡◌, ℕ, zero, suc, ◌+◌, ◌-◌, ◌<◌, ◌≤◌, Bool, true, false, List, [], ◌∷◌, ◌++◌, length, get_or, map, take, replicate, Option, Some, None, Result, Ok, Err, refl, sym, ap, subst, ◌∙◌, arith, inl, inr}
-use Rattle.std.specs.Prelude.{All, IsSome, IsTrue, bytes_eq, is_some, option_map, slice_index_or, unwrap_or, zip, ◌==◌, ◌&&◌, if◌then◌else◌}
+use Rattle.std.proofs.Common.{◌≡◌, ℕ, zero, suc, ◌+◌, ◌-◌, ◌<◌, ◌≤◌, Bool, true, List, [], ◌∷◌, length, get_or, map, take, replicate, Option, Some, None, Result, Ok, refl, sym, ap, subst, ◌∙◌, arith, inl, inr}
+use Rattle.std.specs.Prelude.{All, IsSome, bytes_eq, is_some, option_map, unwrap_or, zip, ◌==◌, ◌&&◌, if◌then◌else◌}
 use Rattle.std.specs.List.{AllByRecursion, list_all, range_with_len, slice_get}
-use Rattle.std.proofs.lemmas.Bool.{and_parts, cond-false, cond-true, eq-eqb, eqb-true, cases_eq, cases_lt}
-use Rattle.std.proofs.lemmas.List.{length-map, length-take-le}
+use Rattle.std.proofs.lemmas.Bool.{and_parts, cond-true, eq-eqb, eqb-true, cases_eq, cases_lt}
+use Rattle.std.proofs.lemmas.List.{length-take-le}
 use Rattle.std.proofs.lemmas.Option.{slice_get_within}
 use Rattle.std.proofs.lemmas.Slice.Eq.{bytes_eq-Decides}
 use Rattle.wire_core.specs.Answers.{fault_unless, first_some, value_unless}
-use Rattle.wire_core.specs.Reading.{◌>>=◌}
 use Rattle.wire_core.specs.Bytes.{IsBytes}
 use Rattle.wire_core.proofs.AnswerLemmas.{fault_unless-holds, fault_unless-true, first_some-none_parts, nothing_mapped, value_unless-ok}
 use Rattle.wire_core.proofs.Readings.{bind_ok}
@@ -20,15 +19,15 @@ use Rattle.phase_message.specs.declared.stage.Slot.{Slot}
 use Rattle.phase_message.specs.declared.stage.StageKind.{StageKind}
 use Rattle.phase_message.specs.declared.stage.StageKind.TheVariants.{Submit as AtSubmit, Shuffle as AtShuffle, Go as AtGo, Final as AtFinal, Pad as AtPad, Check as AtCheck, Confirm as AtConfirm}
 use Rattle.phase_message.specs.declared.offence.Offence.{Offence}
-use Rattle.phase_message.specs.Shape.{Shape, IsShape}
-use Rattle.phase_message.specs.Slots.{slot_at, slot_count, slot_number, slots_before, slots_of}
-use Rattle.phase_message.specs.Stages.{is_member, is_slot, kind_of_stage}
+use Rattle.phase_message.specs.Shape.{Shape}
+use Rattle.phase_message.specs.Slots.{slot_at, slot_number, slots_before, slots_of}
+use Rattle.phase_message.specs.Stages.{kind_of_stage}
 use Rattle.phase_message.proofs.SlotLists.{length-slots_of, slot_at-is, slot_at-number, slots_before-most}
 use Rattle.phase_message.proofs.SlotBounds.{slot-bounds}
 use Rattle.phase_message.proofs.Table.{check_is, confirm_is, final_a_is, final_b_is, go_a_is, go_b_is, nothing_is, pad_is, submit_b_is, turn_b}
 use Rattle.phase_message.proofs.Whole.{content-is_spelled}
 use Rattle.group_roster.specs.Roster.{Roster, shape_of_roster}
-use Rattle.signed_post.specs.Admission.{Admitted, IsPostFile, Says}
+use Rattle.signed_post.specs.Admission.{Admitted, IsPostFile}
 use Rattle.stage_log.specs.Log.{contents_of, view_of}
 use Rattle.stage_log.proofs.Views.{slice_get-take}
 use Rattle.transcript_form.specs.declared.accusation.Accusation.{Accusation}
@@ -42,17 +41,17 @@ use Rattle.shuffle_blame.specs.Replay.{body_of}
 use Rattle.round_spec.specs.Embedded.{slot_named}
 use Rattle.round_spec.specs.Justified.{ArePostsOf, IsPostOf}
 use Rattle.round_spec.specs.Premises.{pairs_listed}
-use Rattle.round_spec.specs.Slots.{bulk_place, by_member, descriptors_opened, final_stage, keys_said, list_said, pad_stage, pads_in, said_in}
+use Rattle.round_spec.specs.Slots.{bulk_place, descriptors_opened, final_stage, keys_said, list_said, pad_stage, pads_in, said_in}
 use Rattle.round_spec.proofs.Justified.{posts_are_found}
 use Rattle.round_spec.proofs.Turns.{pad-late}
 use Rattle.conviction.specs.Accepts.{OpensList, ShowsBadPad, table_of as table_accused}
 use Rattle.judge_core.specs.declared.failed_check.FailedCheck.{FailedCheck}
 use Rattle.judge_core.specs.declared.failed_check.FailedCheck.TheVariants.{View, NotOpened, OtherMember, Accusation as Refuted}
-use Rattle.judge_core.specs.Case.{Case, Said, case_of_transcript, read_of, shape_in}
-use Rattle.judge_core.specs.Checks.{conviction_of, hearing_of, is_asked, is_kind_asked, is_of_bodies, is_pad_stage, own_failure, taken_of}
+use Rattle.judge_core.specs.Case.{Case, Said, case_of_transcript, shape_in}
+use Rattle.judge_core.specs.Checks.{conviction_of, hearing_of, is_kind_asked, is_of_bodies, is_pad_stage, own_failure, taken_of}
 use Rattle.judge_core.specs.Pad.{accusation_failure, are_revealed, count_before_pads, is_reveal, opening_failure, pad_failure, pad_failure_of, pads_row, row_of, table_of, view_failure}
 use Rattle.judge_core.proofs.Hearings.{list_is, taken-heard}
-use Rattle.judge_core.proofs.Listed.{TakenPost, asked-again, asked-found, both-true, file-taken, heard-found, says-bytes, taken-found}
+use Rattle.judge_core.proofs.Listed.{asked-again, asked-found, both-true, file-taken, heard-found, says-bytes, taken-found}
 use Rattle.judge_core.proofs.PadPosts.{asked-last, asked-slot, each-taken, heard-pad, pad-at}
 use Rattle.judge_core.proofs.PadReadings.{all-revealed}
 use Rattle.judge_core.proofs.PadSlots.{before-pads, pads-said}
@@ -107,14 +106,17 @@ post-taken case first a slot bytes one is lt at fits taken =
     let asked = sym (asked-slot case kind first (1 + a) one.header (omega (arith, lt))) ∙ asked-found case Pad first (1 + a) one.header is t.asked in
     let number = eqb-true (slot_number shape one.header.stage one.header.sender) (1 + a - 1) asked in
     let same_number : slot_number shape one.header.stage one.header.sender ≡ a = omega (arith, number) in
-    let named : slot_named one.header ≡ slot = some_is (slot_named one.header) slot (sym (slot_at-number shape one.header.stage one.header.sender says.admitted.slot) ∙ ap (slot_at shape) same_number ∙ at) in
-    (post, record {
-      spelled = says.spelled;
-      content = t.content;
-      admitted = subst (Admitted case.roster case.round post) (sym t.header_is) says.admitted;
-      reads = t.reads;
-      named = ap slot_named t.header_is ∙ named;
-    }, refl)
+    let named : slot_named one.header ≡ slot = some_is (slot_named one.header) slot (sym (slot_at-number shape one.header.stage one.header.sender says.admitted.slot) ∙ ap (slot_at shape) same_number ∙ at) in (
+      post,
+      record {
+        spelled = says.spelled;
+        content = t.content;
+        admitted = subst (Admitted case.roster case.round post) (sym t.header_is) says.admitted;
+        reads = t.reads;
+        named = ap slot_named t.header_is ∙ named;
+      },
+      refl,
+    )
 
 first-bytes : (bytes : List ℕ) (posts : List (List ℕ)) → AllByRecursion IsBytes (bytes ∷ posts) → IsBytes bytes × AllByRecursion IsBytes posts
 first-bytes bytes posts fits = (fits.0, fits.1)
@@ -208,7 +210,7 @@ refusal-same case pads a past least is =
     let own : (1 + (a.member - 1) == case.accused) ≡ true = eq-eqb (1 + (a.member - 1)) case.accused (omega (arith, least, is)) in
     holds_looks_at_one a (descriptors_opened (shape_in case) past) (table_of case pads) (table_accused (shape_in case) case.accused pads) (keys_said (shape_in case) past bulk_place)
     (rows-same (row_of case pads) other 1 (shape_in case).members (a.member - 1)
-      (cond-true (1 + (a.member - 1) == case.accused) pads (replicate (shape_in case).members []) own ∙ sym (cond-true (1 + (a.member - 1) == case.accused) pads [] own)))
+    (cond-true (1 + (a.member - 1) == case.accused) pads (replicate (shape_in case).members []) own ∙ sym (cond-true (1 + (a.member - 1) == case.accused) pads [] own)))
 
 -- what the accusation shows
 pub record IsBorne (case : Case) (past pads : List (List ℕ)) (detail : Option Accusation) : Type 0 where
@@ -235,7 +237,7 @@ borne-found case past pads (Some a) least e =
 borne-again : (case : Case) (past pads : List (List ℕ)) (detail : Option Accusation) → 1 ≤ case.accused → IsBorne case past pads detail → accusation_failure case past pads detail ≡ None
 borne-again case past pads detail least b =
     let none = refusal-same case pads b.accusation past least b.accused
-        ∙ (holds_exactly b.accusation (descriptors_opened (shape_in case) past) (table_accused (shape_in case) case.accused pads) (keys_said (shape_in case) past bulk_place)).1 b.holds in
+    ∙ (holds_exactly b.accusation (descriptors_opened (shape_in case) past) (table_accused (shape_in case) case.accused pads) (keys_said (shape_in case) past bulk_place)).1 b.holds in
     ap (accusation_failure case past pads) b.detail_is
     ∙ rw (eq-eqb b.accusation.member case.accused b.accused, none) refl
 
@@ -474,9 +476,9 @@ pad-again roster t is count fits m =
     let kind : kind_of_stage shape m.header.stage ≡ Some AtPad = ap (kind_of_stage shape) m.at ∙ pad_is shape (pad_stage shape) refl in
     let asks : (m.header.sender == t.accused && is_pad_stage (kind_of_stage shape m.header.stage)) ≡ true = both-true _ _ (eq-eqb _ _ m.sender) (ap is_pad_stage kind) in
     let taken = λ (first : Option Header).
-        file-taken case first (1 + n) m.pads_post (record { header = m.header; body = Pads m.pads }) m.pads_are
-        (asked-again case Pad first (1 + n) m.header is (asked-last case (kind_of_stage shape m.header.stage) first (1 + n) m.header (omega arith) ∙ asks))
-        (subst (λ (c : Claim). is_kind_asked c first (Pads m.pads) ≡ true) (sym is) refl) in
+    file-taken case first (1 + n) m.pads_post (record { header = m.header; body = Pads m.pads }) m.pads_are
+    (asked-again case Pad first (1 + n) m.header is (asked-last case (kind_of_stage shape m.header.stage) first (1 + n) m.header (omega arith) ∙ asks))
+    (subst (λ (c : Claim). is_kind_asked c first (Pads m.pads) ≡ true) (sym is) refl) in
     let end : slice_get t.posts (length slots) ≡ Some m.pads_post = ap (slice_get t.posts) (listed ∙ sym before) ∙ m.last in
     let said = log-again case None 0 slots t.posts m.log m.pads_post pads is (listed-from shape) (omega (arith, listed)) (omega (arith, listed, count)) are end taken in
     let contents : map content_said (take n said.said) ≡ past = ap (λ (k : ℕ). map content_said (take k said.said)) (sym listed) ∙ said.contents in
@@ -486,7 +488,7 @@ pad-again roster t is count fits m =
     let view = fault_unless-true (bytes_eq m.header.view (view_of shape past (pad_stage shape))) (View (n + 1)) ((bytes_eq-Decides m.header.view (view_of shape past (pad_stage shape))).1 m.view) in
     let borne = borne-again case past m.pads t.detail (omega (arith, least, m.sender)) (record { accusation = m.accusation; detail_is = m.detail; accused = m.accused; holds = m.holds }) in
     let failure : pad_failure case said.said ≡ None = failure-by case said.said past pads contents last ∙ no-failure (view_failure shape past pads) (opening_failure shape past) (accusation_failure case past (pads_row case pads) t.detail) view
-        (opens-again shape past m.opens) (ap (λ (p : List (List ℕ)). accusation_failure case past p t.detail) row ∙ borne) in
+    (opens-again shape past m.opens) (ap (λ (p : List (List ℕ)). accusation_failure case past p t.detail) row ∙ borne) in
     heard-pad case t.posts said.said is said.heard ∙ ap (λ (o : Option FailedCheck). value_unless o (tt {0})) failure
   where
     no-failure : (v o a : Option FailedCheck) → v ≡ None → o ≡ None → a ≡ None → first_some (v ∷ o ∷ a ∷ []) ≡ None

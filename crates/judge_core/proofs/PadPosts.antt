@@ -1,15 +1,14 @@
 -- The posts of a pad that are taken are the log before the pads, and a post of pads.
-use Rattle.std.proofs.Common.{◌≡◌, ◌≢◌, ℕ, zero, suc, ◌+◌, ◌-◌, ◌*◌, ◌<◌, ◌≤◌, ◌^◌, Bool, true, false, List, [], ◌∷◌, ◌++◌, length, All, get_or, map, take, Option, Some, None, Result, Ok, Err, refl, sym, ap, subst, ◌∙◌, arith}
+use Rattle.std.proofs.Common.{◌≡◌, ℕ, zero, suc, ◌+◌, ◌-◌, ◌<◌, ◌^◌, true, List, [], ◌∷◌, length, All, get_or, map, take, Option, Some, None, Ok, refl, sym, ap, subst, ◌∙◌, arith}
 use Rattle.std.specs.Prelude.{◌==◌, ◌&&◌, unwrap_or}
 use Rattle.std.proofs.lemmas.Bool.{and_parts, cond-true, cond-false, eq-eqb, eqb-true, false_from_ne_true}
 use Rattle.std.proofs.lemmas.List.{get_or-map, get_or-take, length-map, length-take-le, take_all, take_more}
 use Rattle.wire_core.specs.Answers.{value_unless}
-use Rattle.wire_core.specs.Reading.{◌>>=◌, IsFault}
+use Rattle.wire_core.specs.Reading.{IsFault}
 use Rattle.wire_core.proofs.Readings.{bind_ok}
 use Rattle.phase_message.specs.declared.header.Header.{Header}
 use Rattle.phase_message.specs.declared.stage.StageKind.{StageKind}
 use Rattle.phase_message.specs.declared.stage.StageKind.TheVariants.{Keys as AtKeys, Submit as AtSubmit, Shuffle as AtShuffle, Go as AtGo, Final as AtFinal, Pad as AtPad, Check as AtCheck, Confirm as AtConfirm}
-use Rattle.phase_message.specs.Shape.{Shape}
 use Rattle.phase_message.specs.Slots.{slot_number}
 use Rattle.phase_message.specs.Stages.{kind_of_stage}
 use Rattle.transcript_form.specs.declared.claim.Claim.{Claim}
@@ -20,7 +19,7 @@ use Rattle.judge_core.specs.declared.hearing.Said.{Said as GivenSaid}
 use Rattle.judge_core.specs.Case.{Case, Said, said_of, shape_in}
 use Rattle.judge_core.specs.Checks.{conviction_of, hearing_of, is_of_bodies, is_pad_stage, is_slot_asked, own_failure, taken_of}
 use Rattle.judge_core.specs.Pad.{count_before_pads, pad_answer}
-use Rattle.judge_core.specs.PadLog.{ArePadPosts, IsListedLog, IsPadsPost, IsReadable, StandsAt}
+use Rattle.judge_core.specs.PadLog.{ArePadPosts, IsPadsPost, IsReadable, StandsAt}
 use Rattle.judge_core.proofs.Hearings.{asked-as, heard-parts, list_is, taken-grammar, taken-heard}
 
 -- ---- what is taken, place by place

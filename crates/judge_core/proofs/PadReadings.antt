@@ -1,5 +1,5 @@
 -- What the posts of a listed log say, slot by slot.
-use Rattle.std.proofs.Common.{◌≡◌, ℕ, zero, suc, ◌+◌, ◌-◌, ◌<◌, ◌≤◌, ◌^◌, Bool, true, false, List, [], ◌∷◌, ◌++◌, length, All, get_or, map, take, drop, Option, Some, None, Result, Ok, Err, refl, sym, ap, subst, ◌∙◌, arith, inl, inr, add-one}
+use Rattle.std.proofs.Common.{◌≡◌, ℕ, zero, suc, ◌+◌, ◌-◌, ◌<◌, ◌≤◌, ◌^◌, Bool, true, false, List, [], ◌∷◌, ◌++◌, length, All, get_or, map, take, drop, Option, Some, None, Result, Ok, refl, sym, ap, subst, ◌∙◌, arith, inl, inr, add-one}
 use Rattle.std.specs.Prelude.{IfSome, ◌&&◌, ◌⊎◌}
 use Rattle.std.specs.List.{list_all, range_with_len, slice_range}
 use Rattle.std.proofs.lemmas.Bool.{cases_lt}
@@ -12,7 +12,6 @@ use Rattle.wire_core.specs.Hash.{hash_of}
 use Rattle.phase_message.specs.declared.content.Body.{Body}
 use Rattle.phase_message.specs.declared.content.Content.{Content}
 use Rattle.phase_message.specs.declared.header.Header.{Header}
-use Rattle.phase_message.specs.declared.offence.Offence.{Offence}
 use Rattle.phase_message.specs.Grammar.{IsBody, OfGrammar}
 use Rattle.phase_message.specs.Offence.{content_read}
 use Rattle.phase_message.specs.Shape.{Shape, IsShape}
@@ -25,7 +24,7 @@ use Rattle.stage_log.specs.Running.{Carries}
 use Rattle.shuffle_blame.specs.Replay.{body_of, list_of}
 use Rattle.round_spec.specs.Slots.{final_stage, list_said, pad_stage, said_in, seed_in, submit_stage}
 use Rattle.judge_core.specs.declared.hearing.Said.{Said as GivenSaid}
-use Rattle.judge_core.specs.Pad.{are_revealed, count_before_pads, is_reveal}
+use Rattle.judge_core.specs.Pad.{are_revealed, is_reveal}
 use Rattle.judge_core.specs.PadLog.{AreEntries, IsListedLog, TellsSeeds, contents_said}
 use Rattle.judge_core.proofs.PadSlots.{last-entries, same-slot, stage-some, stage-within}
 

@@ -1,8 +1,8 @@
 -- The slots before the pads: how many there are, and what is said in them.
-use Rattle.std.proofs.Common.{◌≡◌, ℕ, zero, suc, ◌+◌, ◌*◌, ◌<◌, ◌≤◌, ◌^◌, true, List, [], ◌∷◌, length, All, get_or, Option, Some, None, refl, sym, ap, subst, ◌∙◌, arith, inl, inr}
-use Rattle.std.specs.Prelude.{◌==◌, IsTrue, nat_le, if◌then◌else◌}
+use Rattle.std.proofs.Common.{◌≡◌, ℕ, zero, suc, ◌+◌, ◌<◌, ◌≤◌, ◌^◌, true, List, [], ◌∷◌, length, All, get_or, Option, Some, None, refl, sym, ap, subst, ◌∙◌, arith}
+use Rattle.std.specs.Prelude.{nat_le}
 use Rattle.std.specs.List.{AllByRecursion}
-use Rattle.std.proofs.lemmas.Bool.{and_from, cases_Bool, cond-true, cond-false, eq-eqb, le-leb}
+use Rattle.std.proofs.lemmas.Bool.{and_from, eq-eqb, le-leb}
 use Rattle.ring_encrypt.specs.PublicKey.{IsPublicKey}
 use Rattle.phase_message.specs.declared.content.Body.{Body}
 use Rattle.phase_message.specs.declared.content.Body.TheVariants.{Keys, Submit, Shuffled, Abort, Go, Reveal, Dispute, Pads, Check, Confirm, Differ}
@@ -13,14 +13,14 @@ use Rattle.phase_message.specs.Body.{level}
 use Rattle.phase_message.specs.Grammar.{IsBody}
 use Rattle.phase_message.specs.Kinds.{IsBodyAt}
 use Rattle.phase_message.specs.Shape.{Shape, IsShape}
-use Rattle.phase_message.specs.Slots.{senders_of, slot_at, slot_number, slots_before, stage_count}
+use Rattle.phase_message.specs.Slots.{senders_of, slot_at, slot_number, slots_before}
 use Rattle.phase_message.specs.Stages.{is_member, is_sender, is_slot, kind_of_stage, speaks}
 use Rattle.phase_message.proofs.BodyKinds.{bodies_are_of_kinds}
 use Rattle.phase_message.proofs.Counts.{slots_next}
 use Rattle.phase_message.proofs.SlotLists.{past-stage, slot_at-number, slot_number-within, slots_before-rises}
-use Rattle.phase_message.proofs.Table.{final_a_is, go_a_is, keys_is, pad_is, submit_a_is, turn_a}
+use Rattle.phase_message.proofs.Table.{final_a_is, go_a_is, keys_is, submit_a_is, turn_a}
 use Rattle.shuffle_blame.specs.Replay.{list_of}
-use Rattle.round_spec.specs.Slots.{final_stage, pad_stage, submit_stage}
+use Rattle.round_spec.specs.Slots.{pad_stage}
 use Rattle.judge_core.specs.Pad.{count_before_pads}
 use Rattle.judge_core.specs.PadLog.{AreEntries, AreFiveKeys}
 

@@ -1,6 +1,6 @@
 -- A transcript of a replay convicts exactly whom its posts blame.
-use Rattle.std.proofs.Common.{◌≡◌, ℕ, zero, suc, ◌+◌, ◌-◌, ◌<◌, ◌≤◌, Bool, true, false, List, [], ◌∷◌, length, get_or, map, Option, Some, None, Result, Ok, Err, refl, sym, ap, subst, ◌∙◌, arith, inl, inr}
-use Rattle.std.specs.Prelude.{All, IsSome, IsTrue, bytes_eq, min, option_and_then, option_map, slice_index_or, zip, ◌==◌, ◌&&◌}
+use Rattle.std.proofs.Common.{◌≡◌, ℕ, zero, suc, ◌+◌, ◌-◌, ◌<◌, ◌≤◌, Bool, true, List, [], ◌∷◌, length, get_or, map, Option, Some, None, Result, Ok, Err, refl, sym, ap, subst, ◌∙◌, arith, inl, inr}
+use Rattle.std.specs.Prelude.{All, IsSome, bytes_eq, option_and_then, option_map, slice_index_or, ◌==◌, ◌&&◌}
 use Rattle.std.specs.List.{AllByRecursion, range_with_len}
 use Rattle.std.proofs.lemmas.Bool.{and_parts, cases_Bool, cond-true, cond-false, eq-eqb, eqb-true}
 use Rattle.std.proofs.lemmas.List.{ext_get_or, length-map}
@@ -8,7 +8,7 @@ use Rattle.std.proofs.lemmas.List.Elements.{All-cons, All-head, All-nil, All-tai
 use Rattle.std.proofs.lemmas.Option.{none-some}
 use Rattle.std.proofs.lemmas.Slice.Eq.{bytes_eq-Decides}
 use Rattle.std.proofs.lemmas.Slice.Zip.{length-zip}
-use Rattle.wire_core.specs.Answers.{fault_as, fault_unless, first_some, value_unless}
+use Rattle.wire_core.specs.Answers.{fault_as, fault_unless, first_some}
 use Rattle.wire_core.specs.Bytes.{IsBytes}
 use Rattle.wire_core.proofs.AnswerLemmas.{fault_unless-holds, fault_unless-true, first_below-each, first_below-none, first_some-none_parts, nothing_mapped, value_unless-ok}
 use Rattle.wire_core.proofs.Readings.{bind_ok}
@@ -26,7 +26,6 @@ use Rattle.phase_message.specs.Slots.{slots_before}
 use Rattle.phase_message.specs.Stages.{kind_of_stage, vote_of}
 use Rattle.phase_message.proofs.Whole.{content-is_spelled}
 use Rattle.group_roster.specs.Roster.{Roster, shape_of_roster}
-use Rattle.signed_post.specs.Admission.{IsPostFile}
 use Rattle.stage_log.specs.Log.{contents_of}
 use Rattle.transcript_form.specs.declared.claim.Claim.{Claim}
 use Rattle.transcript_form.specs.declared.claim.Claim.TheVariants.{Replay}
@@ -41,9 +40,9 @@ use Rattle.conviction.specs.Accepts.{Objects, ReplaysFault, inquiry_by, parts_sh
 use Rattle.judge_core.specs.declared.failed_check.FailedCheck.{FailedCheck}
 use Rattle.judge_core.specs.declared.failed_check.FailedCheck.TheVariants.{NotJustified, LogsDiffer, Culprit}
 use Rattle.judge_core.specs.Case.{Case, Said, case_of_transcript, read_of, shape_in}
-use Rattle.judge_core.specs.Checks.{conviction_of, hearing_of, is_asked, is_closing_stage, is_kind_asked, is_of_bodies, is_of_one_stage, own_failure, taken_of}
+use Rattle.judge_core.specs.Checks.{conviction_of, hearing_of, is_closing_stage, is_kind_asked, is_of_bodies, is_of_one_stage, own_failure, taken_of}
 use Rattle.judge_core.specs.Closing.{contents_embedded, contents_found, is_justified_in, is_read_justified, past_in}
-use Rattle.judge_core.specs.Replay.{culprit_failure, inquiry_in, parts_shown, replay_answer, replay_failure, shown_of, unjustified_from, unlike_from, unlike_log, unlike_place}
+use Rattle.judge_core.specs.Replay.{culprit_failure, inquiry_in, parts_shown, replay_failure, shown_of, unjustified_from, unlike_from, unlike_log, unlike_place}
 use Rattle.judge_core.specs.Showing.{IsObjection}
 use Rattle.judge_core.proofs.Blaming.{replay-decides}
 use Rattle.judge_core.proofs.EmbeddedLogs.{spans}

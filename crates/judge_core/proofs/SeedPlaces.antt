@@ -1,5 +1,5 @@
 -- Where the keys and the revealed seed stand in contents that are taken for WrongSeed.
-use Rattle.std.proofs.Common.{◌≡◌, ℕ, zero, suc, ◌+◌, ◌*◌, ◌-◌, ◌<◌, ◌≤◌, Bool, true, false, not, List, [], ◌∷◌, ◌++◌, length, take, drop, Option, Some, None, Result, Ok, Err, refl, sym, ap, subst, ◌∙◌, arith, append_assoc, length-append}
+use Rattle.std.proofs.Common.{◌≡◌, ℕ, zero, suc, ◌+◌, ◌*◌, ◌-◌, ◌<◌, ◌≤◌, true, not, List, [], ◌∷◌, ◌++◌, length, take, drop, Option, Some, None, Result, Ok, Err, refl, sym, ap, subst, ◌∙◌, arith, append_assoc, length-append}
 use Rattle.std.specs.Prelude.{bytes_eq, slice_index_or, ◌==◌}
 use Rattle.std.specs.List.{AllByRecursion, flat_map}
 use Rattle.std.proofs.Math.Seq.{drop-append-add, drop-append_seam, take-append_seam}
@@ -10,7 +10,7 @@ use Rattle.wire_core.proofs.Readings.{bind_ok, fault_as_ok, guard_ok}
 use Rattle.ring_poly.specs.PublicKey.{IsPublicKey}
 use Rattle.ring_encrypt.specs.Capsule.{key_of_seed}
 use Rattle.phase_message.specs.declared.content.Body.{Body}
-use Rattle.phase_message.specs.declared.content.Body.TheVariants.{Keys, Submit, Shuffled, Abort, Go, Reveal, Dispute, Pads, Check, Confirm, Differ}
+use Rattle.phase_message.specs.declared.content.Body.TheVariants.{Keys, Reveal}
 use Rattle.phase_message.specs.declared.content.Content.{Content}
 use Rattle.phase_message.specs.declared.header.Header.{Header}
 use Rattle.phase_message.specs.declared.offence.Offence.{Offence}
@@ -25,7 +25,6 @@ use Rattle.phase_message.specs.Slots.{slots_before}
 use Rattle.phase_message.specs.Stages.{kind_of_stage}
 use Rattle.phase_message.proofs.BodyKinds.{bodies_are_of_kinds}
 use Rattle.phase_message.proofs.Whole.{content-is_spelled, length-header_text}
-use Rattle.group_roster.specs.Roster.{shape_of_roster}
 use Rattle.transcript_form.specs.declared.claim.Claim.{Claim}
 use Rattle.transcript_form.specs.declared.claim.Claim.TheVariants.{WrongSeed}
 use Rattle.conviction.specs.Accepts.{inner_key}
@@ -33,7 +32,7 @@ use Rattle.judge_core.specs.declared.failed_check.FailedCheck.TheVariants.{Body 
 use Rattle.judge_core.specs.Case.{Case, Said, read_of, shape_in}
 use Rattle.judge_core.specs.Checks.{content_of, is_keys_stage, is_kind_asked, is_of_bodies, taken_of}
 use Rattle.judge_core.specs.Pad.{is_reveal}
-use Rattle.judge_core.specs.WrongSeed.{IsKeysContent, RevealsSeed, SaysKey, is_seed_in, is_seed_of_key, shuffle_ended}
+use Rattle.judge_core.specs.WrongSeed.{IsKeysContent, RevealsSeed, is_seed_in, is_seed_of_key, shuffle_ended}
 use Rattle.judge_core.proofs.Hearings.{asked-as, heard-parts, taken-heard, taken-read}
 use Rattle.judge_core.proofs.Showings.{read-header}
 

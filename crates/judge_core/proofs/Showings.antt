@@ -1,6 +1,6 @@
 -- What a closing post that dissents shows.
-use Rattle.std.proofs.Common.{◌≡◌, ℕ, Bool, true, false, List, [], ◌∷◌, ◌++◌, length, map, take, replicate, Option, Some, None, Result, Ok, Err, refl, sym, ap, subst, ◌∙◌, arith}
-use Rattle.std.specs.Prelude.{◌-◌, ◌+◌, IsSome, IsTrue, option_to_list, option_and_then}
+use Rattle.std.proofs.Common.{◌≡◌, ℕ, true, false, List, [], ◌∷◌, ◌++◌, length, map, take, replicate, Option, Some, None, Result, Ok, refl, sym, ap, subst, ◌∙◌, arith}
+use Rattle.std.specs.Prelude.{◌-◌, ◌+◌, IsSome, option_to_list, option_and_then}
 use Rattle.std.proofs.Math.Seq.{take-append_seam}
 use Rattle.std.proofs.lemmas.List.{length-map}
 use Rattle.phase_message.specs.declared.content.Body.{Body}
@@ -21,7 +21,7 @@ use Rattle.phase_message.proofs.Read.{closings_are_read}
 use Rattle.phase_message.proofs.Whole.{content-header}
 use Rattle.group_roster.specs.Roster.{Roster, shape_of_roster}
 use Rattle.wire_core.specs.declared.cursor.Short.{Short}
-use Rattle.stage_log.specs.Log.{all_some, before, contents_of}
+use Rattle.stage_log.specs.Log.{all_some, before}
 use Rattle.stage_log.specs.Table.{Log}
 use Rattle.stage_log.proofs.Pasts.{all_some-map}
 use Rattle.go_nogo.specs.Closing.{IsClosing, is_assent}
@@ -31,7 +31,7 @@ use Rattle.round_spec.specs.Embedded.{is_content_justified, posts_in_content}
 use Rattle.round_spec.specs.Verdict.{is_dissent, shown_in}
 use Rattle.judge_core.specs.Case.{Case, Said, read_of, shape_in}
 use Rattle.judge_core.specs.Closing.{IsClosingPost, contents_embedded, contents_found, is_read_justified, shown_by}
-use Rattle.judge_core.specs.Embedding.{KeepsEmbedded, first_embedded, places_of}
+use Rattle.judge_core.specs.Embedding.{KeepsEmbedded, places_of}
 use Rattle.judge_core.specs.Replay.{parts_shown, shown_of}
 use Rattle.judge_core.specs.Showing.{Dissents, IsObjection, IsShown, KeepsPast}
 use Rattle.judge_core.proofs.EmbeddedLogs.{Spans, closing_kind, spans}

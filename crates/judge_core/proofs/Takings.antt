@@ -1,8 +1,8 @@
 -- Taking the listed posts one after the other.
-use Rattle.std.proofs.Common.{◌≡◌, ℕ, ◌+◌, ◌<◌, ◌≤◌, ◌^◌, Bool, true, false, List, [], ◌∷◌, ◌++◌, length, map, Option, Some, None, Result, Ok, Err, refl, sym, ap, subst, ◌∙◌, arith, append_assoc, append-nil, length-append}
-use Rattle.std.specs.Prelude.{All, IsOk, unwrap_or, ◌||◌}
+use Rattle.std.proofs.Common.{◌≡◌, ℕ, ◌+◌, ◌<◌, ◌≤◌, ◌^◌, Bool, false, List, [], ◌∷◌, ◌++◌, length, map, Option, Some, None, Result, Ok, Err, refl, sym, ap, ◌∙◌, arith, append_assoc, append-nil}
+use Rattle.std.specs.Prelude.{All, unwrap_or}
 use Rattle.std.proofs.lemmas.List.{map-append}
-use Rattle.wire_core.specs.Reading.{◌>>=◌, IsFault}
+use Rattle.wire_core.specs.Reading.{◌>>=◌}
 use Rattle.phase_message.specs.declared.header.Header.{Header}
 use Rattle.judge_core.specs.declared.failed_check.FailedCheck.{FailedCheck}
 use Rattle.judge_core.specs.declared.hearing.Said.{Said as GivenSaid}

@@ -1,11 +1,9 @@
 -- What the code finds of the posts that a closing content embeds.
 use Rattle.std.specs.Prelude.{◌≡◌, ℕ, ◌+◌, ◌-◌, List, ◌++◌, length, map, replicate, Option, Some, None, Result, Ok, IsErr, IsTrue, if◌then◌else◌}
 use Rattle.phase_message.specs.declared.content.Content.{Content}
-use Rattle.phase_message.specs.declared.header.Header.{Header}
 use Rattle.phase_message.specs.declared.post.Post.{Post}
-use Rattle.phase_message.specs.declared.stage.Slot.{Slot}
 use Rattle.phase_message.specs.Shape.{Shape}
-use Rattle.phase_message.specs.Slots.{slot_count, slot_number, slots_before}
+use Rattle.phase_message.specs.Slots.{slot_count, slots_before}
 use Rattle.phase_message.specs.Stages.{is_slot}
 use Rattle.signed_post.specs.declared.post.PostRefusal.{PostRefusal}
 use Rattle.group_roster.specs.Roster.{Roster, shape_of_roster}

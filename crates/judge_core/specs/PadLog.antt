@@ -1,5 +1,5 @@
 -- What is known of the posts of a pad once they are taken, and what the code finds in them.
-use Rattle.std.specs.Prelude.{◌≡◌, ℕ, ◌+◌, ◌<◌, ◌^◌, List, All, length, map, true, false, Option, Some, None, Result, Ok, Err, IsOk, slice_index_or, [], ◌∷◌, ◌++◌}
+use Rattle.std.specs.Prelude.{◌≡◌, ℕ, ◌<◌, ◌^◌, List, All, length, map, true, false, Option, Some, None, Result, Ok, Err, IsOk, slice_index_or, [], ◌∷◌, ◌++◌}
 use Rattle.std.specs.List.{AllByRecursion}
 use Rattle.ring_encrypt.specs.PublicKey.{IsPublicKey}
 use Rattle.phase_message.specs.declared.content.Body.{Body}

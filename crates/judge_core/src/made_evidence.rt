@@ -286,10 +286,31 @@ fn disputes_are_judged(rt: &impl Abort, alloc: Global) -> Result<(), Fail> {
     };
     let other = group.dispute(alloc, at, all.as_slice())?;
     let (first, same) = (first.as_slice(), same.as_slice());
-    judged(rt, alloc, &roster, [5, 1], &[first, same], accepted(Claim::Replay))?;
+    judged(
+        rt,
+        alloc,
+        &roster,
+        [5, 1],
+        &[first, same],
+        accepted(Claim::Replay),
+    )?;
     judged(rt, alloc, &roster, [5, 2], &[first, same], failed(14, 0, 1))?;
-    judged(rt, alloc, &roster, [5, 1], &[first, wrong.as_slice()], failed(12, 2, 0))?;
-    judged(rt, alloc, &roster, [5, 1], &[first, other.as_slice()], failed(13, 2, 7))?;
+    judged(
+        rt,
+        alloc,
+        &roster,
+        [5, 1],
+        &[first, wrong.as_slice()],
+        failed(12, 2, 0),
+    )?;
+    judged(
+        rt,
+        alloc,
+        &roster,
+        [5, 1],
+        &[first, other.as_slice()],
+        failed(13, 2, 7),
+    )?;
     Ok(())
 }
 

@@ -1,4 +1,4 @@
-use Rattle.std.proofs.Common.{◌≡◌, ◌∷◌, [], ◌∙◌, ap, sym, subst, true, None, ℕ, List}
+use Rattle.std.proofs.Common.{◌∙◌, ap, sym, subst, None}
 use Rattle.std.specs.Prelude.{◌==◌}
 use Rattle.std.proofs.lemmas.Bool.{and_parts}
 use Rattle.phase_message.specs.Stages.{kind_of_stage}

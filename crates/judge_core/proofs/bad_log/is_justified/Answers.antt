@@ -1,14 +1,11 @@
 use Rattle.group_roster.specs.Given.{roster_of}
-use Rattle.std.proofs.Common.{◌≡◌, ℕ, List, Option, Result, Ok, sym, ap, subst, ◌∙◌}
+use Rattle.std.proofs.Common.{◌≡◌, Result, Ok, sym, subst, ◌∙◌}
 use Rattle.std.specs.Prelude.{IsSome, option_and_then}
 use Rattle.wire_core.specs.declared.cursor.Short.{Short}
 use Rattle.phase_message.specs.declared.header.Header.{Header}
-use Rattle.phase_message.specs.Shape.{Shape}
-use Rattle.phase_message.specs.Offence.{content_read}
 use Rattle.phase_message.specs.Stages.{kind_of_stage, vote_of}
 use Rattle.phase_message.proofs.Whole.{content-header}
 use Rattle.group_roster.specs.Roster.{Roster, shape_of_roster}
-use Rattle.judge_core.specs.Closing.{is_read_justified}
 use Rattle.judge_core.proofs.bad_log.is_justified.Goals as goal
 
 abbrev header_ok : Header → Result Header Short

@@ -1,15 +1,10 @@
 use Rattle.group_roster.specs.Given.{roster_of}
-use Rattle.std.proofs.Common.{◌≡◌, ℕ, List, length, take, Option, Some, None, Result, Ok, Err, sym, ap, ◌∙◌, arith, true, false}
-use Rattle.std.specs.Prelude.{is_some}
+use Rattle.std.proofs.Common.{sym, ap, ◌∙◌, arith}
 use Rattle.wire_core.specs.Bytes.{IsBytes}
-use Rattle.wire_core.proofs.ByteLists.{IsBytes-back, IsBytes-front}
-use Rattle.phase_message.specs.declared.content.Content.{Content}
-use Rattle.phase_message.specs.declared.offence.Offence.{Offence}
 use Rattle.phase_message.specs.declared.post.Post.{Post}
 use Rattle.phase_message.specs.Offence.{content_read, first_offence}
 use Rattle.phase_message.specs.Shape.{Shape}
 use Rattle.group_roster.specs.Roster.{Roster, shape_of_roster}
-use Rattle.signed_post.specs.Frame.{frame_of}
 use Rattle.signed_post.proofs.Frames.{framed-fits}
 use Rattle.judge_core.proofs.EmbeddedPosts.{admitted, checked-found, checked-offends, checked-refused, checked-unframed, framed_content, header-same, read_by, stands-there}
 use Rattle.judge_core.proofs.embedding.check_bytes.Goals as goal

@@ -1,16 +1,14 @@
 use Rattle.group_roster.specs.Given.{roster_of}
-use Rattle.std.proofs.Common.{◌≡◌, ℕ, ◌+◌, ◌<◌, List, length, get_or, Option, Some, None, sym, ap, subst, ◌∙◌, arith}
-use Rattle.std.specs.Prelude.{IsErr}
+use Rattle.std.proofs.Common.{◌≡◌, ℕ, ◌+◌, ◌<◌, List, length, get_or, Some, ap, ◌∙◌, arith}
 use Rattle.wire_core.specs.Answers.{fault_as}
 use Rattle.phase_message.specs.declared.content.Content.{Content}
 use Rattle.phase_message.specs.Shape.{Shape}
-use Rattle.phase_message.specs.Slots.{slot_at, slot_number}
+use Rattle.phase_message.specs.Slots.{slot_at}
 use Rattle.group_roster.specs.Roster.{Roster, shape_of_roster}
 use Rattle.stage_log.specs.Table.{empty_log}
 use Rattle.go_nogo.specs.Closing.{posts_embedded}
-use Rattle.round_spec.specs.Embedded.{BadPost, post_for_slot}
-use Rattle.judge_core.specs.Embedding.{IsPlacedPost, StandsThere, first_embedded}
-use Rattle.judge_core.specs.declared.embedding.Placed.{Placed}
+use Rattle.round_spec.specs.Embedded.{BadPost}
+use Rattle.judge_core.specs.Embedding.{first_embedded}
 use Rattle.judge_core.proofs.EmbeddedLogs.{Next, embeds-all, embeds-bad, embeds-next, embeds-none, next_of, spans}
 use Rattle.judge_core.proofs.embedding.embedded.Goals as goal
 

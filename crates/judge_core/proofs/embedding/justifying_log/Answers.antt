@@ -1,6 +1,6 @@
 use Rattle.group_roster.specs.Given.{roster_of}
-use Rattle.std.proofs.Common.{◌≡◌, sym, ◌∙◌}
-use Rattle.group_roster.specs.Roster.{Roster, shape_of_roster}
+use Rattle.std.proofs.Common.{sym, ◌∙◌}
+use Rattle.group_roster.specs.Roster.{shape_of_roster}
 use Rattle.judge_core.proofs.EmbeddedLogs.{spans}
 use Rattle.judge_core.proofs.Justified.{holds_embedded, justified_by, unjustified_by}
 use Rattle.judge_core.proofs.embedding.justifying_log.Goals as goal

@@ -3,8 +3,7 @@ use Rattle.std.proofs.Common.{◌≡◌, ℕ, List, Result, Ok, refl, sym, ap, �
 use Rattle.phase_message.specs.declared.post.Post.{Post}
 use Rattle.phase_message.specs.Shape.{Shape}
 use Rattle.phase_message.specs.Slots.{slot_number}
-use Rattle.group_roster.specs.Roster.{Roster, shape_of_roster}
-use Rattle.round_spec.specs.Embedded.{WhyNot, post_for_slot}
+use Rattle.round_spec.specs.Embedded.{WhyNot}
 use Rattle.judge_core.specs.Embedding.{post_checked}
 use Rattle.judge_core.proofs.EmbeddedPosts.{placed-elsewhere, placed-there, placed-unchecked}
 use Rattle.judge_core.proofs.embedding.post_for.Goals as goal

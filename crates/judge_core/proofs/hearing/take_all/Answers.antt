@@ -1,5 +1,5 @@
-use Rattle.std.proofs.Common.{◌≡◌, ℕ, ◌^◌, ◌<◌, List, [], ◌∷◌, ◌++◌, length, map, Option, Some, None, Result, Ok, Err, Bool, true, false, refl, sym, ap, subst, ◌∙◌, arith}
-use Rattle.std.specs.Prelude.{All, IsOk, is_ok, not, unwrap_or, if◌then◌else◌}
+use Rattle.std.proofs.Common.{◌≡◌, ◌^◌, ◌<◌, List, [], ◌∷◌, ◌++◌, length, Option, Some, None, Result, Ok, Bool, true, false, refl, sym, ap, subst, ◌∙◌}
+use Rattle.std.specs.Prelude.{All, is_ok, not, unwrap_or, if◌then◌else◌}
 use Rattle.std.proofs.lemmas.Bool.{cond-true}
 use Rattle.std.proofs.lemmas.List.Elements.{All-push}
 use Rattle.std.specs.Option.{option_or}
@@ -7,10 +7,9 @@ use Rattle.std.proofs.lemmas.Result.{err_from_is_err_and}
 use Rattle.phase_message.specs.declared.header.Header.{Header}
 use Rattle.judge_core.specs.declared.failed_check.FailedCheck.{FailedCheck}
 use Rattle.judge_core.specs.declared.hearing.Said.{Said as GivenSaid}
-use Rattle.judge_core.specs.Case.{Said, case_of, said_of}
-use Rattle.judge_core.specs.Checks.{hearing_of}
+use Rattle.judge_core.specs.Case.{Said, case_of}
 use Rattle.judge_core.proofs.Hearings.{ok_is}
-use Rattle.judge_core.proofs.Takings.{takes-all, takes-fails, takes-next, takes-none}
+use Rattle.judge_core.proofs.Takings.{takes-all, takes-fails, takes-next}
 use Rattle.judge_core.proofs.hearing.take_all.Goals as goal
 
 or_first : (first : Option Header) (header : Header) → option_or first (Some header) ≡ Some (unwrap_or first header)

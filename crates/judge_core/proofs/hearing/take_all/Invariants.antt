@@ -1,4 +1,4 @@
-use Rattle.judge_core.specs.Case.{case_of, said_of}
+use Rattle.judge_core.specs.Case.{case_of}
 use Rattle.judge_core.proofs.Takings.{Takes}
 use Rattle.judge_core.proofs.hearing.take_all.Given as goal
 

@@ -1,11 +1,10 @@
-use Rattle.std.proofs.Common.{◌≡◌, rules, ap, sym, ◌∙◌, Result, Err}
+use Rattle.std.proofs.Common.{◌≡◌, ap, sym, ◌∙◌, Result, Err}
 use Rattle.judge_core.specs.declared.failed_check.Unjudged.{Unjudged}
 use Rattle.judge_core.specs.declared.failed_check.Unjudged.TheVariants.{Memory}
 use Rattle.judge_core.specs.declared.judging.Accepted.{Accepted}
 use Rattle.std.proofs.lemmas.Result.{err_from_is_err_and}
 use Rattle.phase_message.specs.Shape.{Shape}
 use Rattle.transcript_form.specs.Form.{transcript_read}
-use Rattle.phase_message.specs.Stages.{shape_of}
 use Rattle.judge_core.proofs.judging.judgement.Goals as goal
 
 abbrev unjudged : Unjudged → Result Accepted Unjudged

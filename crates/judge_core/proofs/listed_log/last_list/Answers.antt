@@ -1,13 +1,9 @@
-use Rattle.std.proofs.Common.{◌≡◌, ℕ, ◌+◌, List, Option, Some, None, sym, ap, ◌∙◌, arith}
-use Rattle.std.specs.Prelude.{IfSome}
-use Rattle.phase_message.specs.declared.content.Body.{Body}
+use Rattle.std.proofs.Common.{◌+◌, arith}
 use Rattle.phase_message.specs.Shape.{Shape}
 use Rattle.phase_message.specs.Stages.{shape_of}
-use Rattle.shuffle_blame.specs.Replay.{list_of}
-use Rattle.round_spec.specs.Slots.{said_in}
-use Rattle.judge_core.specs.PadLog.{AreEntries, contents_said}
+use Rattle.judge_core.specs.PadLog.{contents_said}
 use Rattle.judge_core.proofs.PadReadings.{last-list, list-entries}
-use Rattle.judge_core.proofs.PadSlots.{last-entries, last_turn-slot, slot-within}
+use Rattle.judge_core.proofs.PadSlots.{last_turn-slot, slot-within}
 use Rattle.judge_core.proofs.listed_log.last_list.Goals as goal
 
 pub read_slot-requires-clause-there : goal.read_slot-requires-clause-there

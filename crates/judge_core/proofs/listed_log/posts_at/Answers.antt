@@ -1,6 +1,4 @@
-use Rattle.std.proofs.Common.{◌≡◌, ℕ, ◌+◌, ◌≤◌, length, arith}
-use Rattle.phase_message.specs.Shape.{Shape}
-use Rattle.phase_message.specs.Slots.{slots_before}
+use Rattle.std.proofs.Common.{◌+◌, ◌≤◌, length, arith}
 use Rattle.phase_message.specs.Stages.{shape_of}
 use Rattle.phase_message.proofs.SlotLists.{slots_before-rises}
 use Rattle.judge_core.proofs.PadSlots.{stage-within}

@@ -1,4 +1,3 @@
-use Rattle.std.proofs.Common.{◌≡◌, ℕ}
 use Rattle.phase_message.specs.Stages.{shape_of}
 use Rattle.judge_core.proofs.PadReadings.{slot-body, slot-said}
 use Rattle.judge_core.proofs.listed_log.read_slot.Goals as goal

@@ -1,9 +1,8 @@
-use Rattle.std.proofs.Common.{◌≡◌, ℕ, ◌+◌, ◌<◌, ◌^◌, List, [], All, length, sym, ap, subst, arith}
+use Rattle.std.proofs.Common.{◌+◌, ◌<◌, ◌^◌, List, All, length, sym, ap, subst, arith}
 use Rattle.phase_message.specs.Shape.{Shape}
 use Rattle.phase_message.specs.Slots.{slots_before}
 use Rattle.phase_message.specs.Stages.{shape_of}
 use Rattle.stage_log.specs.Log.{view_of}
-use Rattle.stage_log.specs.Running.{Carries}
 use Rattle.judge_core.specs.declared.hearing.Said.{Said as GivenSaid}
 use Rattle.judge_core.specs.PadLog.{contents_said}
 use Rattle.judge_core.proofs.PadReadings.{range-some, seen-next, short-range}

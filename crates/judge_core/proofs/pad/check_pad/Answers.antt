@@ -1,6 +1,6 @@
-use Rattle.std.proofs.Common.{◌≡◌, ℕ, List, Result, Ok, Err, sym, ap, subst, ◌∙◌}
+use Rattle.std.proofs.Common.{Result, sym, subst, ◌∙◌}
 use Rattle.std.proofs.lemmas.Result.{err_from_is_err_and}
-use Rattle.wire_core.specs.Answers.{Gives, IsFault}
+use Rattle.wire_core.specs.Answers.{Gives}
 use Rattle.judge_core.specs.declared.failed_check.FailedCheck.{FailedCheck}
 use Rattle.judge_core.specs.Case.{Case, case_of, said_of, shape_in}
 use Rattle.judge_core.specs.Checks.{failed_of}

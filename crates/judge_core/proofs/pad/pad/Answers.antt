@@ -1,5 +1,5 @@
 use Rattle.group_roster.specs.Given.{roster_of}
-use Rattle.std.proofs.Common.{◌≡◌, List, map, Result, Ok, sym, ap, subst, ◌∙◌}
+use Rattle.std.proofs.Common.{List, map, Result, sym, ap, subst, ◌∙◌}
 use Rattle.std.proofs.lemmas.Result.{err_from_is_err_and}
 use Rattle.wire_core.specs.Answers.{Gives}
 use Rattle.group_roster.specs.Roster.{shape_of_roster}

@@ -1,4 +1,3 @@
-use Rattle.group_roster.specs.Given.{roster_of}
 use Rattle.std.proofs.Common.{◌≡◌, ℕ, ◌∷◌, List, length, map, Option, None, sym, ap, subst, ◌∙◌, arith}
 use Rattle.std.proofs.lemmas.List.{length-map, nil_from_length}
 use Rattle.std.proofs.lemmas.Option.{MatchOption-at_none}

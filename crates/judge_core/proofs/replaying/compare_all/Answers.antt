@@ -1,14 +1,10 @@
-use Rattle.std.proofs.Common.{◌≡◌, ℕ, ◌<◌, List, length, map, sym, ap, subst, ◌∙◌, arith}
-use Rattle.std.specs.Option.{option_or}
+use Rattle.std.proofs.Common.{map, ◌∙◌, arith}
 use Rattle.std.proofs.Math.ListN.{drop_of_length-le}
 use Rattle.std.proofs.lemmas.List.{length-map}
 use Rattle.std.proofs.lemmas.Result.{err_from_is_err_and}
-use Rattle.phase_message.specs.Shape.{Shape}
 use Rattle.phase_message.specs.Stages.{kind_of_stage}
-use Rattle.stage_log.specs.Table.{Log}
-use Rattle.judge_core.specs.Case.{Case, case_of, said_of, shape_in}
+use Rattle.judge_core.specs.Case.{case_of, said_of, shape_in}
 use Rattle.judge_core.specs.Closing.{past_in}
-use Rattle.judge_core.specs.Showing.{KeepsPast}
 use Rattle.judge_core.proofs.Comparisons.{compares-all, compares-none, fails-at, goes-at}
 use Rattle.judge_core.proofs.Objections.{object-at}
 use Rattle.judge_core.proofs.replaying.compare_all.Goals as goal

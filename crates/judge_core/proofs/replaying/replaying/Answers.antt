@@ -1,12 +1,12 @@
 use Rattle.group_roster.specs.Given.{roster_of}
-use Rattle.std.proofs.Common.{◌≡◌, List, length, map, Result, Ok, Err, sym, ap, subst, ◌∙◌, arith}
+use Rattle.std.proofs.Common.{List, length, map, Result, sym, ap, subst, ◌∙◌, arith}
 use Rattle.std.proofs.lemmas.Result.{err_from_is_err_and}
 use Rattle.wire_core.specs.Answers.{Gives}
 use Rattle.group_roster.specs.Roster.{shape_of_roster}
 use Rattle.transcript_form.specs.Claim.{claim_posts}
 use Rattle.judge_core.specs.declared.failed_check.FailedCheck.{FailedCheck}
 use Rattle.judge_core.specs.declared.hearing.Said.{Said as GivenSaid}
-use Rattle.judge_core.specs.Case.{Said, case_of, said_of}
+use Rattle.judge_core.specs.Case.{case_of, said_of}
 use Rattle.judge_core.specs.Checks.{failed_of, is_of_logs}
 use Rattle.judge_core.specs.Replay.{replay_answer}
 use Rattle.judge_core.specs.Showing.{AreOfOneStage}

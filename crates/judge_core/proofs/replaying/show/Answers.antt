@@ -1,8 +1,6 @@
-use Rattle.group_roster.specs.Given.{roster_of}
-use Rattle.std.proofs.Common.{◌≡◌, Ok, sym, ap, ◌∙◌}
+use Rattle.std.proofs.Common.{sym, ap, ◌∙◌}
 use Rattle.phase_message.specs.Offence.{content_read}
 use Rattle.phase_message.specs.Shape.{Shape}
-use Rattle.group_roster.specs.Roster.{shape_of_roster}
 use Rattle.judge_core.specs.Case.{case_of, said_of}
 use Rattle.judge_core.proofs.Showings.{closing-content, shown-is}
 use Rattle.judge_core.proofs.replaying.show.Goals as goal

@@ -1,4 +1,4 @@
-use Rattle.std.proofs.Common.{◌≡◌, ℕ, ap, ◌∙◌}
+use Rattle.std.proofs.Common.{ℕ, ap, ◌∙◌}
 use Rattle.std.specs.Prelude.{option_map}
 use Rattle.judge_core.specs.declared.failed_check.FailedCheck.TheVariants.{LogsDiffer}
 use Rattle.judge_core.proofs.replaying.unlike_log.Goals as goal

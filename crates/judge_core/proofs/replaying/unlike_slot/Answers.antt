@@ -1,4 +1,4 @@
-use Rattle.std.proofs.Common.{◌≡◌, ℕ, Some, None, ap, ◌∙◌}
+use Rattle.std.proofs.Common.{ℕ, Some, None, ap, ◌∙◌}
 use Rattle.phase_message.specs.Shape.{Shape}
 use Rattle.phase_message.specs.Slots.{slot_number}
 use Rattle.judge_core.proofs.Unlike.{unlike-is}

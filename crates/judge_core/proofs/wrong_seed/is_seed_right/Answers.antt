@@ -1,4 +1,4 @@
-use Rattle.std.proofs.Common.{◌≡◌, ℕ, List, [], Option, Some, None, refl, sym, ap, ◌∙◌}
+use Rattle.std.proofs.Common.{◌≡◌, ℕ, List, [], Option, Some, refl, sym, ap, ◌∙◌}
 use Rattle.std.specs.Prelude.{bytes_eq, slice_index_or}
 use Rattle.ring_encrypt.specs.Capsule.{key_of_seed}
 use Rattle.phase_message.specs.declared.content.Body.TheVariants.{Keys, Reveal}
@@ -6,7 +6,6 @@ use Rattle.phase_message.specs.declared.stage.StageKind.{StageKind}
 use Rattle.phase_message.specs.Offence.{content_read}
 use Rattle.phase_message.specs.Shape.{Shape}
 use Rattle.phase_message.specs.Stages.{kind_of_stage, shape_of}
-use Rattle.conviction.specs.Accepts.{inner_key}
 use Rattle.judge_core.specs.WrongSeed.{RevealsSeed, SaysKey, is_seed_of_key, shuffle_ended}
 use Rattle.judge_core.proofs.SeedPlaces.{ended-is, seed-right}
 use Rattle.round_spec.specs.Slots.{inner_place}

@@ -1,4 +1,4 @@
-use Rattle.std.proofs.Common.{◌≡◌, ℕ, ◌+◌, ◌-◌, ◌*◌, ◌≤◌, List, length, take, drop, ap, ◌∙◌, arith, rules}
+use Rattle.std.proofs.Common.{◌≡◌, ℕ, ◌+◌, ◌-◌, ◌*◌, ◌≤◌, length, take, drop, ap, ◌∙◌, arith, rules}
 use Rattle.wire_core.specs.Bytes.{IsBytes}
 use Rattle.judge_core.proofs.SeedPlaces.{keys-laid}
 use Rattle.judge_core.proofs.wrong_seed.key_in.Goals as goal

@@ -1,5 +1,5 @@
 use Rattle.std.proofs.Common.{◌≡◌, ℕ, ◌-◌, ◌≤◌, List, length, take, drop, sym, ap, ◌∙◌, arith, length-drop}
-use Rattle.std.proofs.lemmas.List.{length-take-le, take_all}
+use Rattle.std.proofs.lemmas.List.{take_all}
 use Rattle.wire_core.specs.Bytes.{IsBytes}
 use Rattle.judge_core.proofs.SeedPlaces.{seed-laid}
 use Rattle.judge_core.proofs.wrong_seed.seed_in.Goals as goal
