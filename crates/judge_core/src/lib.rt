@@ -13,6 +13,8 @@ mod laws;
 mod made_evidence;
 mod listed_log;
 mod pad;
+#[cfg(test)]
+mod pad_evidence;
 mod reading;
 mod replaying;
 #[cfg(test)]
