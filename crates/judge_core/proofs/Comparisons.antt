@@ -110,10 +110,11 @@ first-alone (Some failed) = refl
 pub compares-all : (case : Case) (past : List (List ℕ)) (kind : Option StageKind) (first : Said) (others : List Said) (place : ℕ) (difference : Option FailedCheck) (told : List Shown)
     → ComparesTo case past kind first others place difference told → drop place others ≡ []
     → (unjustified_from case 2 others ≡ None) × (difference ≡ unlike_from case past 2 others) × (told ≡ parts_shown case kind (first ∷ others))
-compares-all case past kind first others place difference told so is =
-    (so.justified ∙ ap (unjustified_from case (place + 2)) is,
-    sym (so.differs ∙ ap (λ (l : List Said). first_some (difference ∷ unlike_from case past (place + 2) l ∷ [])) is ∙ first-alone difference),
-    sym (append-nil told) ∙ ap (λ (p : List Shown). told ++ p) (sym (ap (parts_shown case kind) is ∙ parts-end case kind)) ∙ so.parts)
+compares-all case past kind first others place difference told so is = (
+  so.justified ∙ ap (unjustified_from case (place + 2)) is,
+  sym (so.differs ∙ ap (λ (l : List Said). first_some (difference ∷ unlike_from case past (place + 2) l ∷ [])) is ∙ first-alone difference),
+  sym (append-nil told) ∙ ap (λ (p : List Shown). told ++ p) (sym (ap (parts_shown case kind) is ∙ parts-end case kind)) ∙ so.parts,
+)
 
 -- ---- the same of what the code holds
 
@@ -151,8 +152,8 @@ goes-at case first own others place d difference now unlike told more shows s ob
     let shape : own.log.shape ≡ shape_in case = ap (λ (l : Log). l.shape) s.keeps.keeps in
     let other = subst (λ (n : ℕ). KeepsPast (shape_in case) n (past_in case (said_of one)) shows.log) stage shown.keeps in
     let found = finds first.header.stage (past_in case first) (past_in case (said_of one))
-        (subst (λ (x : Shape). KeepsPast x first.header.stage (past_in case first) own.log) (sym shape) s.keeps)
-        (subst (λ (x : Shape). KeepsPast x first.header.stage (past_in case (said_of one)) shows.log) (sym shape) other) in
+    (subst (λ (x : Shape). KeepsPast x first.header.stage (past_in case first) own.log) (sym shape) s.keeps)
+    (subst (λ (x : Shape). KeepsPast x first.header.stage (past_in case (said_of one)) shows.log) (sym shape) other) in
     let at = given-at others place d lt in
     let part = shown.told ∙ ap (λ (n : ℕ). parts_shown case (kind_of_stage (shape_in case) n) (said_of one ∷ [])) stage in
     compares-next case (past_in case first) (kind_of_stage (shape_in case) first.header.stage) first (map said_of others) place difference now told more (option_to_list shows.shown) (said_of one)

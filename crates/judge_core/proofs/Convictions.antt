@@ -43,19 +43,20 @@ use Rattle.transcript_form.specs.Refusals.{failure_of_refusal}
 use Rattle.transcript_form.specs.declared.transcript.Transcript.{Transcript}
 use Rattle.transcript_form.specs.Claim.{claim_posts}
 use Rattle.transcript_form.specs.Transcript.{IsTranscript}
-use Rattle.transcript_form.specs.Form.{claim_read, transcript_read}
-use Rattle.transcript_form.proofs.Transcripts.{transcript_read-found, transcript_read-again, claim_read-transcript, transcript-bytes}
+use Rattle.transcript_form.specs.Form.{transcript_read}
+use Rattle.transcript_form.proofs.Transcripts.{transcript_read-found, transcript_read-again, transcript-bytes}
 use Rattle.judge_core.specs.declared.failed_check.FailedCheck.{FailedCheck}
 use Rattle.judge_core.specs.declared.failed_check.FailedCheck.TheVariants.{Form, Post as RefusedPost, Slot, Body as FailedBody, Kind, Same, WellFormed, SeedFits, Justified}
 use Rattle.judge_core.specs.declared.judging.Accepted.{Accepted}
 use Rattle.conviction.specs.Accepts.{Equivocates, SaysMalformed, RevealsWrongSeed, ShowsBadLog, Convicts, Accepts, inner_key}
-use Rattle.judge_core.specs.Checks.{content_of, is_decided, undecided, is_asked, is_closing_stage, is_final_stage, is_keys_stage, is_kind_asked, is_of_bodies, is_seed_right, is_slot_asked, heard_of, taken_of, own_failure, conviction_of, judgement_of, printed_judgement_of, AcceptsExactly}
+use Rattle.judge_core.specs.Checks.{content_of, is_asked, is_closing_stage, is_final_stage, is_keys_stage, is_kind_asked, is_of_bodies, is_seed_right, is_slot_asked, heard_of, taken_of, own_failure, conviction_of, judgement_of, printed_judgement_of, AcceptsExactly}
 use Rattle.judge_core.specs.Case.{Case, Said, case_of_transcript}
 use Rattle.judge_core.specs.Pad.{is_reveal}
 use Rattle.std.specs.Prelude.{IsSome, is_some, option_and_then}
 use Rattle.judge_core.specs.Closing.{is_justified_in, is_read_justified}
 use Rattle.judge_core.specs.WrongSeed.{is_seed_in, is_seed_of_key}
 use Rattle.judge_core.specs.Failures.{failure_of_check}
+use Rattle.judge_core.proofs.PadLaw.{pad-again, pad-found}
 use Rattle.judge_core.proofs.Replays.{replay-again, replay-found}
 use Rattle.judge_core.proofs.SeedPlaces.{is-keys, keys_body, reveal_body, seed-right}
 use Rattle.judge_core.proofs.Listed.{TakenPost, asked-again, asked-found, both-true, closing-is, file-taken, heard-again, heard-found, plain-claim, says-bytes, taken-found}
@@ -285,63 +286,6 @@ log-again roster t is m =
 
 -- ---- by claim
 
-convicts-found : (roster : Roster) (t : Transcript) (claim : Claim) → 0 < (shape_of_roster roster).members → t.claim ≡ claim → is_decided claim ≡ true → length t.posts ≡ claim_posts (shape_of_roster roster) claim → AllByRecursion IsBytes t.posts
-    → conviction_of (case_of_transcript roster t) t.posts ≡ Ok tt → Convicts roster t claim
-convicts-found roster t Equivocation some is decided count fits e =
-    let two = two_listed t.posts count in
-    let bytes : IsBytes two.0 × IsBytes two.1 = two_bytes two.0 two.1 (subst (λ (x : List (List ℕ)). AllByRecursion IsBytes x) two.2 fits) in
-    two-found roster t two.0 two.1 is two.2 bytes.0 bytes.1 (both_heard (case_of_transcript roster t) two.0 two.1 (sym (ap (conviction_of (case_of_transcript roster t)) two.2) ∙ e))
-  where
-    two_bytes : (a b : List ℕ) → AllByRecursion IsBytes (a ∷ b ∷ []) → IsBytes a × IsBytes b
-    two_bytes a b fits = (fits.0, fits.1.0)
-convicts-found roster t Malformed some is decided count fits e =
-    let one = one_listed t.posts count in
-    let bytes : IsBytes one.0 = only_bytes one.0 (subst (λ (x : List (List ℕ)). AllByRecursion IsBytes x) one.1 fits) in
-    one-found roster t one.0 is one.1 bytes (one_heard (case_of_transcript roster t) one.0 (sym (ap (conviction_of (case_of_transcript roster t)) one.1) ∙ e))
-  where
-    only_bytes : (a : List ℕ) → AllByRecursion IsBytes (a ∷ []) → IsBytes a
-    only_bytes a fits = fits.0
-convicts-found roster t WrongSeed some is decided count fits e =
-    let two = two_listed t.posts count in
-    let bytes : IsBytes two.0 × IsBytes two.1 = two_bytes two.0 two.1 (subst (λ (x : List (List ℕ)). AllByRecursion IsBytes x) two.2 fits) in
-    seed-found roster t two.0 two.1 is two.2 bytes.0 bytes.1 (both_heard (case_of_transcript roster t) two.0 two.1 (sym (ap (conviction_of (case_of_transcript roster t)) two.2) ∙ e))
-  where
-    two_bytes : (a b : List ℕ) → AllByRecursion IsBytes (a ∷ b ∷ []) → IsBytes a × IsBytes b
-    two_bytes a b fits = (fits.0, fits.1.0)
-convicts-found roster t BadLog some is decided count fits e =
-    let one = one_listed t.posts count in
-    let bytes : IsBytes one.0 = only_bytes one.0 (subst (λ (x : List (List ℕ)). AllByRecursion IsBytes x) one.1 fits) in
-    log-found roster t one.0 is one.1 bytes (one_heard (case_of_transcript roster t) one.0 (sym (ap (conviction_of (case_of_transcript roster t)) one.1) ∙ e))
-  where
-    only_bytes : (a : List ℕ) → AllByRecursion IsBytes (a ∷ []) → IsBytes a
-    only_bytes a fits = fits.0
-convicts-found roster t Replay some is decided count fits e = replay-found roster t is count (omega (arith, some, count)) fits e
-convicts-found roster t Pad some is decided count fits e = absurd cc
-
-convicts-again : (roster : Roster) (t : Transcript) (claim : Claim) → 0 < (shape_of_roster roster).members → t.claim ≡ claim → AllByRecursion IsBytes t.posts → Convicts roster t claim → (is_decided claim ≡ true) × (conviction_of (case_of_transcript roster t) t.posts ≡ Ok tt)
-convicts-again roster t Equivocation some is fits convicts = (refl, two-again roster t is convicts)
-convicts-again roster t Malformed some is fits convicts = (refl, one-again roster t is fits convicts)
-convicts-again roster t WrongSeed some is fits convicts = (refl, seed-again roster t is convicts)
-convicts-again roster t BadLog some is fits convicts = (refl, log-again roster t is convicts)
-convicts-again roster t Replay some is fits convicts = (refl, replay-again roster t some is convicts)
-convicts-again roster t Pad some is fits convicts = ?
-
--- ---- the whole
-
-abbrev accepted_ok : Accepted → Result Accepted FailedCheck
-accepted_ok a = Ok a
-
-abbrev claim_ok : Claim → Result Claim FailedForm
-claim_ok claim = Ok claim
-
-one_claim : (a b : Claim) → claim_ok a ≡ claim_ok b → a ≡ b
-one_claim a b e = cc
-
--- the claim that was found at the head is that of the transcript
-pub decided_claim : (shape : Shape) (bytes : List ℕ) (t : Transcript) (claim : Claim) → claim_read bytes ≡ Ok claim → transcript_read shape bytes ≡ Ok t → is_decided claim ≡ true → is_decided t.claim ≡ true
-decided_claim shape bytes t claim head read decided =
-    subst (λ (c : Claim). is_decided c ≡ true) (one_claim claim t.claim (sym head ∙ claim_read-transcript shape bytes t read)) decided
-
 -- a transcript accuses a member, so that there is one
 members-some : (roster : Roster) (t : Transcript) → IsTranscript (shape_of_roster roster) t → 0 < (shape_of_roster roster).members
 members-some roster t form =
@@ -349,29 +293,71 @@ members-some roster t form =
     let parts = and_parts (nat_le 1 t.accused) (nat_le t.accused n) form.accused in
     omega (arith, leb-true 1 t.accused parts.0, leb-true t.accused n parts.1)
 
+convicts-found : (roster : Roster) (t : Transcript) (claim : Claim) → IsTranscript (shape_of_roster roster) t → t.claim ≡ claim → length t.posts ≡ claim_posts (shape_of_roster roster) claim → AllByRecursion IsBytes t.posts
+    → conviction_of (case_of_transcript roster t) t.posts ≡ Ok tt → Convicts roster t claim
+convicts-found roster t Equivocation form is count fits e =
+    let two = two_listed t.posts count in
+    let bytes : IsBytes two.0 × IsBytes two.1 = two_bytes two.0 two.1 (subst (λ (x : List (List ℕ)). AllByRecursion IsBytes x) two.2 fits) in
+    two-found roster t two.0 two.1 is two.2 bytes.0 bytes.1 (both_heard (case_of_transcript roster t) two.0 two.1 (sym (ap (conviction_of (case_of_transcript roster t)) two.2) ∙ e))
+  where
+    two_bytes : (a b : List ℕ) → AllByRecursion IsBytes (a ∷ b ∷ []) → IsBytes a × IsBytes b
+    two_bytes a b fits = (fits.0, fits.1.0)
+convicts-found roster t Malformed form is count fits e =
+    let one = one_listed t.posts count in
+    let bytes : IsBytes one.0 = only_bytes one.0 (subst (λ (x : List (List ℕ)). AllByRecursion IsBytes x) one.1 fits) in
+    one-found roster t one.0 is one.1 bytes (one_heard (case_of_transcript roster t) one.0 (sym (ap (conviction_of (case_of_transcript roster t)) one.1) ∙ e))
+  where
+    only_bytes : (a : List ℕ) → AllByRecursion IsBytes (a ∷ []) → IsBytes a
+    only_bytes a fits = fits.0
+convicts-found roster t WrongSeed form is count fits e =
+    let two = two_listed t.posts count in
+    let bytes : IsBytes two.0 × IsBytes two.1 = two_bytes two.0 two.1 (subst (λ (x : List (List ℕ)). AllByRecursion IsBytes x) two.2 fits) in
+    seed-found roster t two.0 two.1 is two.2 bytes.0 bytes.1 (both_heard (case_of_transcript roster t) two.0 two.1 (sym (ap (conviction_of (case_of_transcript roster t)) two.2) ∙ e))
+  where
+    two_bytes : (a b : List ℕ) → AllByRecursion IsBytes (a ∷ b ∷ []) → IsBytes a × IsBytes b
+    two_bytes a b fits = (fits.0, fits.1.0)
+convicts-found roster t BadLog form is count fits e =
+    let one = one_listed t.posts count in
+    let bytes : IsBytes one.0 = only_bytes one.0 (subst (λ (x : List (List ℕ)). AllByRecursion IsBytes x) one.1 fits) in
+    log-found roster t one.0 is one.1 bytes (one_heard (case_of_transcript roster t) one.0 (sym (ap (conviction_of (case_of_transcript roster t)) one.1) ∙ e))
+  where
+    only_bytes : (a : List ℕ) → AllByRecursion IsBytes (a ∷ []) → IsBytes a
+    only_bytes a fits = fits.0
+convicts-found roster t Replay form is count fits e = (let some = members-some roster t form in replay-found roster t is count (omega (arith, some, count)) fits e)
+convicts-found roster t Pad form is count fits e = pad-found roster t is count fits e
+
+convicts-again : (roster : Roster) (t : Transcript) (claim : Claim) → IsTranscript (shape_of_roster roster) t → t.claim ≡ claim → AllByRecursion IsBytes t.posts → Convicts roster t claim → conviction_of (case_of_transcript roster t) t.posts ≡ Ok tt
+convicts-again roster t Equivocation form is fits convicts = two-again roster t is convicts
+convicts-again roster t Malformed form is fits convicts = one-again roster t is fits convicts
+convicts-again roster t WrongSeed form is fits convicts = seed-again roster t is convicts
+convicts-again roster t BadLog form is fits convicts = log-again roster t is convicts
+convicts-again roster t Replay form is fits convicts = replay-again roster t (members-some roster t form) is convicts
+convicts-again roster t Pad form is fits convicts = pad-again roster t is (form.count ∙ ap (claim_posts (shape_of_roster roster)) is) fits convicts
+
+-- ---- the whole
+
+abbrev accepted_ok : Accepted → Result Accepted FailedCheck
+accepted_ok a = Ok a
+
 pub judgement-found : (roster : Roster) (bytes : List ℕ) (a : Accepted) → IsBytes bytes → judgement_of roster bytes ≡ Ok a → Accepts roster bytes a.accused a.claim
 unfolding judgement_of
 judgement-found roster bytes a fits e =
-    let head = bind_ok (fault_as (λ failed. Form failed) (claim_read bytes)) _ a e in
-    let test = bind_ok (unless (not (is_decided head.0)) undecided head.0) _ a head.2 in
-    let read = bind_ok (fault_as (λ failed. Form failed) (transcript_read (shape_of_roster roster) bytes)) _ a test.2 in
+    let read = bind_ok (fault_as (λ failed. Form failed) (transcript_read (shape_of_roster roster) bytes)) _ a e in
     let t : Transcript = read.0 in
     let convicted = bind_ok (conviction_of (case_of_transcript roster t) t.posts) _ a read.2 in
     let found = fault_as_ok (λ failed. Form failed) (transcript_read (shape_of_roster roster) bytes) t read.1 in
-    let passed = not-false (is_decided head.0) (guard_ok (not (is_decided head.0)) undecided head.0 test.0 test.1).0 in
-    let decided = decided_claim (shape_of_roster roster) bytes t head.0 (fault_as_ok (λ failed. Form failed) (claim_read bytes) head.0 head.1) found passed in
     let spelled = transcript_read-found (shape_of_roster roster) bytes t fits found in
     let posts = transcript-bytes t (subst (λ (x : List ℕ). IsBytes x) spelled.1 fits) in
-    let convicts = convicts-found roster t t.claim (members-some roster t spelled.0) refl decided spelled.0.count posts convicted.1 in
+    let convicts = convicts-found roster t t.claim spelled.0 refl spelled.0.count posts convicted.1 in
     let made : Accepted = record { accused = t.accused; claim = t.claim } in
     let same : made ≡ a = (let e : accepted_ok made ≡ accepted_ok a = convicted.2 in cc) in
     subst (λ (a : Accepted). Accepts roster bytes a.accused a.claim) same
     (record { transcript = t; form = spelled.0; spelled = spelled.1; accused_is = refl; claim_is = refl; convicts = convicts })
 
-judges : (roster : Roster) (bytes : List ℕ) (t : Transcript) → claim_read bytes ≡ Ok t.claim → is_decided t.claim ≡ true → transcript_read (shape_of_roster roster) bytes ≡ Ok t → conviction_of (case_of_transcript roster t) t.posts ≡ Ok tt
+judges : (roster : Roster) (bytes : List ℕ) (t : Transcript) → transcript_read (shape_of_roster roster) bytes ≡ Ok t → conviction_of (case_of_transcript roster t) t.posts ≡ Ok tt
     → judgement_of roster bytes ≡ Ok (record { accused = t.accused; claim = t.claim })
 unfolding judgement_of
-judges roster bytes t e1 e2 e3 e4 = rw (e1, e2, e3, e4) refl
+judges roster bytes t e1 e2 = rw (e1, e2) refl
 
 pub judgement-again : (roster : Roster) (bytes : List ℕ) (accused : ℕ) (claim : Claim) → IsRosterForm roster → IsBytes bytes → Accepts roster bytes accused claim → judgement_of roster bytes ≡ Ok (record { accused = accused; claim = claim })
 judgement-again roster bytes accused claim form fits accepts =
@@ -379,9 +365,8 @@ judgement-again roster bytes accused claim form fits accepts =
     let shape = shape_of_roster roster in
     let is_shape : IsShape shape.version shape.members = record { first = form.version; least = form.least; most = form.most } in
     let read : transcript_read shape bytes ≡ Ok t = ap (transcript_read shape) accepts.spelled ∙ transcript_read-again shape t is_shape accepts.form in
-    let convicts = convicts-again roster t claim (omega (arith, form.least)) accepts.claim_is (transcript-bytes t (subst (λ (x : List ℕ). IsBytes x) accepts.spelled fits)) accepts.convicts in
-    let decided : is_decided t.claim ≡ true = ap is_decided accepts.claim_is ∙ convicts.0 in
-    judges roster bytes t (claim_read-transcript shape bytes t read) decided read convicts.1
+    let convicts = convicts-again roster t claim accepts.form accepts.claim_is (transcript-bytes t (subst (λ (x : List ℕ). IsBytes x) accepts.spelled fits)) accepts.convicts in
+    judges roster bytes t read convicts
     ∙ ap (λ (m : ℕ). ok m t.claim) accepts.accused_is
     ∙ ap (λ (c : Claim). ok accused c) accepts.claim_is
   where

@@ -42,12 +42,12 @@ use Rattle.transcript_form.specs.declared.refusal.Refused.{Refused}
 use Rattle.transcript_form.specs.Refusals.{failure_of_refusal}
 use Rattle.transcript_form.specs.declared.transcript.Transcript.{Transcript}
 use Rattle.transcript_form.specs.Claim.{claim_posts}
-use Rattle.transcript_form.specs.Form.{claim_read, transcript_read}
-use Rattle.transcript_form.proofs.Transcripts.{transcript_read-found, transcript_read-again, claim_read-transcript, transcript-bytes}
+use Rattle.transcript_form.specs.Form.{transcript_read}
+use Rattle.transcript_form.proofs.Transcripts.{transcript_read-found, transcript_read-again, transcript-bytes}
 use Rattle.judge_core.specs.declared.failed_check.FailedCheck.{FailedCheck}
 use Rattle.judge_core.specs.declared.failed_check.FailedCheck.TheVariants.{Form, Post as RefusedPost, Slot, Body as FailedBody, Kind, Same, WellFormed, SeedFits, Justified}
 use Rattle.judge_core.specs.declared.judging.Accepted.{Accepted}
-use Rattle.judge_core.specs.Checks.{content_of, is_decided, undecided, is_asked, is_closing_stage, is_final_stage, is_keys_stage, is_kind_asked, is_of_bodies, is_seed_right, is_slot_asked, heard_of, taken_of, own_failure, conviction_of, judgement_of, printed_judgement_of, AcceptsExactly}
+use Rattle.judge_core.specs.Checks.{content_of, is_asked, is_closing_stage, is_final_stage, is_keys_stage, is_kind_asked, is_of_bodies, is_seed_right, is_slot_asked, heard_of, taken_of, own_failure, conviction_of, judgement_of, printed_judgement_of, AcceptsExactly}
 use Rattle.judge_core.specs.Case.{Case, Said, case_of_transcript}
 use Rattle.judge_core.specs.Pad.{is_reveal}
 use Rattle.std.specs.Prelude.{IsSome, is_some, option_and_then}

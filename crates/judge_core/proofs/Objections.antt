@@ -83,9 +83,14 @@ pub objections : (case : Case) (posts : List (List ℕ)) (given : List GivenSaid
     → (length given ≡ length posts) × AreOfOneStage case given
 objections case posts given is e short =
     let all = all-object case posts (map said_of given) is e in
-    let stage : ℕ = all.1.0 in
-    (omega (arith, length-map given said_of, all.0), (stage, λ k d lt.
-      (subst (IsObjection case stage) (get_or-map said_of given k d (said_of d) lt) (all.1.1 k (said_of d) (omega (arith, length-map given said_of, lt))), short k d lt)))
+    let stage : ℕ = all.1.0 in (
+      omega (arith, length-map given said_of, all.0),
+      (
+        stage,
+        λ k d lt.
+            (subst (IsObjection case stage) (get_or-map said_of given k d (said_of d) lt) (all.1.1 k (said_of d) (omega (arith, length-map given said_of, lt))), short k d lt),
+      ),
+    )
 
 -- of such posts the first, and the others
 pub record IsFirst (case : Case) (stage : ℕ) (first : GivenSaid) (others : List GivenSaid) : Type 0 where

@@ -108,8 +108,8 @@ behind-heard case first number (post ∷ posts) (s ∷ said) d long each =
     let zero_more : number ≡ number + 0 = omega arith in
     let here : taken_of case (Some first) number post ≡ Ok s = ap (λ (n : ℕ). taken_of case (Some first) n post) zero_more ∙ each 0 (omega arith) in
     let rest = behind-heard case first (number + 1) posts said d (omega arith)
-        (λ k lt. let next : number + 1 + k ≡ number + suc k = omega arith in
-          ap (λ (n : ℕ). taken_of case (Some first) n (slice_index_or posts k [])) next ∙ each (suc k) (omega arith)) in
+    (λ k lt. let next : number + 1 + k ≡ number + suc k = omega arith in
+    ap (λ (n : ℕ). taken_of case (Some first) n (slice_index_or posts k [])) next ∙ each (suc k) (omega arith)) in
     rw (here, rest) refl
 
 -- each post is taken, behind the header of the first
@@ -155,8 +155,8 @@ all-heard case [] first others long each = absurd (omega arith)
 all-heard case (post ∷ posts) first others long each =
     let here : taken_of case None 1 post ≡ Ok first = each 0 (omega arith) in
     let rest = behind-heard case first.header 2 posts others first (omega arith)
-        (λ k lt. let number : 2 + k ≡ suc k + 1 = omega arith in
-          ap (λ (n : ℕ). taken_of case (Some first.header) n (slice_index_or posts k [])) number ∙ each (suc k) (omega arith)) in
+    (λ k lt. let number : 2 + k ≡ suc k + 1 = omega arith in
+    ap (λ (n : ℕ). taken_of case (Some first.header) n (slice_index_or posts k [])) number ∙ each (suc k) (omega arith)) in
     rw (here, rest) refl
 
 -- ---- justified posts
@@ -214,8 +214,8 @@ unfolding unlike_place
 same-past past other long e =
     ext_get_or [] other past long
     (λ place lt. sym ((bytes_eq-Decides (slice_index_or past place []) (slice_index_or other place [])).0
-      (fault_unless-holds (is_alike past other place) place
-      (first_below-each (λ place. fault_unless (is_alike past other place) place) (length past) e place (omega (arith, lt, long))))))
+    (fault_unless-holds (is_alike past other place) place
+    (first_below-each (λ place. fault_unless (is_alike past other place) place) (length past) e place (omega (arith, lt, long))))))
 
 past-same : (past : List (List ℕ)) → unlike_place past past ≡ None
 unfolding unlike_place
@@ -258,9 +258,18 @@ past-long case stage one content grammar o read good =
     let past : past_in case one ≡ contents_of found.0 = ap (contents_embedded case.roster case.round) read ∙ ap contents_found found.1 in
     let pairs = posts-long case.roster case.round 0 (embedded_pairs case.roster content) found.0 found.1 in
     let at : slots_before shape content.header.stage ≡ slots_before shape stage =
-        ap (λ (h : Header). slots_before shape h.stage) (sym (read-header case one content o.post.header read)) ∙ ap (slots_before shape) o.at in
-    omega (arith, ap (λ (p : List (List ℕ)). length p) past, length-map found.0 (λ (post : Post). post.content), pairs,
-    length-zip (slots_embedded shape content) (posts_embedded content.body), span.slots_long, span.posts_long, objects.0, at)
+    ap (λ (h : Header). slots_before shape h.stage) (sym (read-header case one content o.post.header read)) ∙ ap (slots_before shape) o.at in
+    omega (
+      arith,
+      ap (λ (p : List (List ℕ)). length p) past,
+      length-map found.0 (λ (post : Post). post.content),
+      pairs,
+      length-zip (slots_embedded shape content) (posts_embedded content.body),
+      span.slots_long,
+      span.posts_long,
+      objects.0,
+      at,
+    )
 
 -- ---- what is replayed
 
@@ -272,7 +281,7 @@ by_range f g a (one ∷ others) d each =
     let first : a + 0 ≡ a = omega arith in
     ap (λ (s : Shown). s ∷ map f others) (each 0 (omega arith) ∙ ap g first)
     ∙ ap (λ (t : List Shown). g a ∷ t) (by_range f g (a + 1) others d
-      (λ k lt. let next : a + suc k ≡ a + 1 + k = omega arith in each (suc k) (omega arith) ∙ ap g next))
+    (λ k lt. let next : a + suc k ≡ a + 1 + k = omega arith in each (suc k) (omega arith) ∙ ap g next))
 
 parts-same : (case : Case) (kind : Option StageKind) (all : List Said) (d : Said) (said : ℕ → Content) → length all ≡ (shape_in case).members
     → ((k : ℕ) → k < length all → shown_of case (get_or all k d) ≡ shown_in (said (1 + k)).body) → parts_shown case kind all ≡ parts_said (shape_in case) kind said
@@ -343,7 +352,7 @@ stands-at case posts first others is each fits good k lt =
     let at : one.header.stage ≡ first.header.stage = at-first first others k o.1 in
     let object : IsObjection case first.header.stage one = record { post = o.0.post; dissents = o.0.dissents; at = at } in
     let spelled = content-is_spelled (shape_in case) taken.file.text taken.content
-        (says-bytes case.roster case.round bytes taken.file.text taken.content.header (fits k lt) taken.file.says) taken.file.reads in
+    (says-bytes case.roster case.round bytes taken.file.text taken.content.header (fits k lt) taken.file.says) taken.file.reads in
     record {
       taken = taken;
       object = object;
@@ -358,7 +367,7 @@ objects case posts first place one past s is same =
     let header : Option Header = first_header first.header place in
     let kind : Option StageKind = kind_of_stage (shape_in case) one.header.stage in
     let slot = and_parts ((one.header.sender == place + 1) && is_closing_stage kind) (is_of_one_stage header one.header)
-        (asked-found case Replay header (place + 1) one.header is s.taken.asked) in
+    (asked-found case Replay header (place + 1) one.header is s.taken.asked) in
     let sender = and_parts (one.header.sender == place + 1) (is_closing_stage kind) slot.0 in
     let justified : is_content_justified case.roster case.round s.taken.content ≡ true = sym (ap (is_read_justified case.roster case.round) s.taken.reads) ∙ s.justified in
     let found = justified-posts case.roster case.round s.taken.content justified in
@@ -438,7 +447,7 @@ found-of roster t first others is count fits long taken passes some =
         let other : Content = record { header = first.header; body = Abort } in
         let back : 1 + k - 1 ≡ k = omega arith in
         let there : said_by case first all (1 + k) ≡ content =
-            ap (λ (n : ℕ). content_or other (read_of case (get_or all n first))) back ∙ ap (content_or other) read in
+        ap (λ (n : ℕ). content_or other (read_of case (get_or all n first))) back ∙ ap (content_or other) read in
         ap (λ (r : Result Content Offence). shown_in (body_of r)) read ∙ ap (λ (c : Content). shown_in c.body) (sym there)
 
 pub replay-found : (roster : Roster) (t : Transcript) → t.claim ≡ Replay → length t.posts ≡ (shape_of_roster roster).members → 0 < length t.posts
@@ -450,7 +459,7 @@ replay-found roster t is count some fits e =
     let passes = value_unless-ok (own_failure case.claim case said.0) (tt {0}) (tt {0}) said.2 in
     let all = all-taken case t.posts said.0 some said.1 in
     let replays : replay_failure case (all.first ∷ all.others) ≡ None =
-        ap (replay_failure case) (sym all.all) ∙ subst (λ (c : Claim). own_failure c case said.0 ≡ None) is passes.0 in
+    ap (replay_failure case) (sym all.all) ∙ subst (λ (c : Claim). own_failure c case said.0 ≡ None) is passes.0 in
     found-of roster t all.first all.others is count fits all.long all.taken replays some
 
 -- ---- and what they show convicts
@@ -462,9 +471,9 @@ listed zero a P each = ([], refl, λ k d lt. absurd (omega arith))
 listed (suc n) a P each =
     let first = each 0 (omega arith) in
     let rest = listed n (a + 1) P (λ k lt.
-        let s = each (suc k) (omega arith) in
-        let next : a + suc k ≡ a + 1 + k = omega arith in
-        (s.0, subst (λ (j : ℕ). P j s.0) next s.1)) in
+    let s = each (suc k) (omega arith) in
+    let next : a + suc k ≡ a + 1 + k = omega arith in
+    (s.0, subst (λ (j : ℕ). P j s.0) next s.1)) in
     (first.0 ∷ rest.0, omega (arith, rest.1), by_place first.0 first.1 rest.0 rest.2)
   where
     by_place : (s : Said) → P (a + 0) s → (all : List Said) → ((k : ℕ) (d : Said) → k < n → P (a + 1 + k) (get_or all k d))
@@ -483,7 +492,7 @@ speaks : (roster : Roster) (t : Transcript) (r : ReplaysFault roster t) (place :
 speaks roster t r place lt =
     let back : place + 1 - 1 ≡ place = omega arith in
     let o = subst (λ (k : ℕ). Objects roster t.round r.stage r.past (place + 1) (slice_index_or t.posts k []) (r.said (place + 1))) back
-        (r.object (place + 1) (omega arith) (omega arith)) in
+    (r.object (place + 1) (omega arith) (omega arith)) in
     (record { header = (r.said (place + 1)).header; content = o.file.text }, record { objects = o; is = refl })
 
 -- what is read of it
@@ -514,7 +523,7 @@ speaks-taken roster t r is first at place one s =
     let content : Content = r.said (place + 1) in
     let kind : Option StageKind = kind_of_stage (shape_in case) content.header.stage in
     let closing : is_closing_stage kind ≡ true =
-        closing-is kind (subst (λ (stage : ℕ). IsSome (option_and_then vote_of (kind_of_stage (shape_in case) stage))) (sym s.objects.at) r.closing) in
+    closing-is kind (subst (λ (stage : ℕ). IsSome (option_and_then vote_of (kind_of_stage (shape_in case) stage))) (sym s.objects.at) r.closing) in
     let sender : (content.header.sender == place + 1) ≡ true = eq-eqb _ _ s.objects.sender in
     let stage = one-stage first place content.header (s.objects.at ∙ sym at) in
     let slot = asked-again case Replay (first_header first place) (place + 1) content.header is (both-true _ _ (both-true _ _ sender closing) stage) in
@@ -533,13 +542,13 @@ again-of roster t r is first others long each =
     let stage : first.header.stage ≡ r.stage = speaks-stage roster t r 0 first here in
     let past : past_in case first ≡ r.past = speaks-past roster t r 0 first here in
     let heard_all = all-heard case t.posts first others (long ∙ sym r.count)
-        (λ k lt. speaks-taken roster t r is first.header stage k (get_or all k first) (each k (omega (arith, lt, r.count)))) in
+    (λ k lt. speaks-taken roster t r is first.header stage k (get_or all k first) (each k (omega (arith, lt, r.count)))) in
     let good : All (λ (one : Said). is_justified_in case one ≡ true) others =
-        λ k d lt. behind k d lt (λ one. is_justified_in case one ≡ true) (speaks-justified roster t r) in
+    λ k d lt. behind k d lt (λ one. is_justified_in case one ≡ true) (speaks-justified roster t r) in
     let same : All (λ (one : Said). past_in case one ≡ past_in case first) others =
-        λ k d lt. behind k d lt (λ one. past_in case one ≡ past_in case first) (λ place one s. speaks-past roster t r place one s ∙ sym past) in
+    λ k d lt. behind k d lt (λ one. past_in case one ≡ past_in case first) (λ place one s. speaks-past roster t r place one s ∙ sym past) in
     let inquiry = inquiry-by case first all first r.stage r.past r.said past stage long
-        (λ k lt. shown-said k (get_or all k first) (each k (omega (arith, lt, long)))) in
+    (λ k lt. shown-said k (get_or all k first) (each k (omega (arith, lt, long)))) in
     heard case t.posts all is heard_all
     ∙ replay-decides case first others (Some r.fault) None (speaks-justified roster t r 0 first here) (none-unjustified case 2 others good)
     (sym (none-unlike case (past_in case first) 2 others same)) (sym (ap culprit_of inquiry ∙ r.blames))
@@ -566,7 +575,7 @@ pub replay-again : (roster : Roster) (t : Transcript) → 0 < (shape_of_roster r
 replay-again roster t some is r =
     let n : ℕ = (shape_of_roster roster).members in
     let all = listed n 0 (Speaks roster t r) (λ k lt. let zero_more : k ≡ 0 + k = omega arith in
-        let s = speaks roster t r k lt in (s.0, subst (λ (j : ℕ). Speaks roster t r j s.0) zero_more s.1)) in
+    let s = speaks roster t r k lt in (s.0, subst (λ (j : ℕ). Speaks roster t r j s.0) zero_more s.1)) in
     by_list all.0 all.1 (λ k d lt. let zero_more : 0 + k ≡ k = omega arith in subst (λ (j : ℕ). Speaks roster t r j (get_or all.0 k d)) zero_more (all.2 k d lt))
   where
     by_list : (all : List Said) → length all ≡ (shape_of_roster roster).members

@@ -164,8 +164,8 @@ keys-laid shape bytes fits k =
     let front : List ℕ = header_text c.header ++ (1 ∷ []) in
     let rest : List ℕ = flat_map (λ key. key) keys in
     let text : bytes ≡ front ++ rest =
-        found.0 ∙ ap (λ (b : Body). header_text c.header ++ ((kind_number b ∷ []) ++ body_text b)) body.1
-        ∙ sym (append_assoc (header_text c.header) (1 ∷ []) rest) in
+    found.0 ∙ ap (λ (b : Body). header_text c.header ++ ((kind_number b ∷ []) ++ body_text b)) body.1
+    ∙ sym (append_assoc (header_text c.header) (1 ∷ []) rest) in
     let front_long : length front ≡ 76 = omega (arith, length-append (header_text c.header) (1 ∷ []), length-header_text shape c.header found.1.0) in
     record {
       header = c.header;

@@ -145,9 +145,9 @@ number-of shape stage past others log other k k' slot differ =
       there = there;
       within = omega (arith, one.0, k.long, past-long shape stage past log k);
       unlike = false_from_ne_true _ (λ same. differ.contents (
-        ap (λ (p : Post). p.content) one.1 ∙ sym (past-at shape stage past log k n one.0)
-        ∙ (bytes_eq-Decides (slice_index_or past n []) (slice_index_or others n [])).0 same
-        ∙ past-at shape stage others other k' n two.0 ∙ sym (ap (λ (p : Post). p.content) two.1)));
+          ap (λ (p : Post). p.content) one.1 ∙ sym (past-at shape stage past log k n one.0)
+          ∙ (bytes_eq-Decides (slice_index_or past n []) (slice_index_or others n [])).0 same
+          ∙ past-at shape stage others other k' n two.0 ∙ sym (ap (λ (p : Post). p.content) two.1)));
     }
 
 -- ---- the least

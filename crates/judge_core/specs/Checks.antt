@@ -18,10 +18,9 @@ use Rattle.signed_post.specs.Admission.{admission_of_bytes}
 use Rattle.round_spec.specs.Verdict.{is_dissent}
 use Rattle.transcript_form.specs.declared.claim.Claim.{Claim}
 use Rattle.transcript_form.specs.declared.claim.Claim.TheVariants.{Equivocation, Malformed, WrongSeed, BadLog, Replay, Pad}
-use Rattle.transcript_form.specs.declared.refusal.FailedForm.TheVariants.{Form as WrongForm}
 use Rattle.transcript_form.specs.declared.transcript.Transcript.{Transcript}
 use Rattle.transcript_form.specs.Claim.{claim_posts}
-use Rattle.transcript_form.specs.Form.{claim_read, transcript_read}
+use Rattle.transcript_form.specs.Form.{transcript_read}
 use Rattle.transcript_form.specs.Refusals.{Failure}
 use Rattle.judge_core.specs.declared.failed_check.FailedCheck.{FailedCheck}
 use Rattle.judge_core.specs.declared.failed_check.FailedCheck.TheVariants.{Form, Post, Slot, Body as FailedBody, Kind, Same, WellFormed, SeedFits, Justified}
@@ -35,21 +34,6 @@ use Rattle.judge_core.specs.Closing.{is_justified_in}
 use Rattle.judge_core.specs.Pad.{is_reveal, pad_failure}
 use Rattle.judge_core.specs.Replay.{replay_failure}
 use Rattle.judge_core.specs.WrongSeed.{is_seed_of_key}
-
--- ---- the claims that are decided
-
--- whether a claim is decided: Pad is not so far
-abbrev pub is_decided : Claim → Bool
-is_decided Equivocation = true
-is_decided Malformed = true
-is_decided WrongSeed = true
-is_decided BadLog = true
-is_decided Replay = true
-is_decided claim = false
-
--- any other claim fails the form, at its byte
-abbrev pub undecided : FailedCheck
-undecided = Form (WrongForm 5)
 
 -- ---- check 5: the slot of a listed post
 
@@ -184,12 +168,9 @@ conviction_of case posts = do
 
 -- ---- the whole
 
--- what the bytes of a transcript come to: who is convicted of what, or the first check that fails. A claim
--- that is not decided fails before what follows it is looked at
+-- what the bytes of a transcript come to: who is convicted of what, or the first check that fails
 unfoldable pub judgement_of : Roster → List ℕ → Result Accepted FailedCheck
 judgement_of roster bytes = do
-  claim ← fault_as (λ failed. Form failed) (claim_read bytes)
-  decided ← unless (not (is_decided claim)) undecided claim
   t ← fault_as (λ failed. Form failed) (transcript_read (shape_of_roster roster) bytes)
   convicts ← conviction_of (case_of_transcript roster t) t.posts
   Ok (record { accused = t.accused; claim = t.claim })

@@ -11,7 +11,7 @@ use transcript_form::{FailedForm, Refused};
 /// The first check that a transcript fails, with what its numbers are made of.
 #[derive(Clone, Copy, Debug, PartialEq, Eq)]
 pub enum FailedCheck {
-    /// Checks 1 to 3: the bytes are no transcript, or the claim is none that is decided yet.
+    /// Checks 1 to 3: the bytes are no transcript.
     Form(FailedForm),
     /// Check 4: a listed post is refused before a look at its body. Posts are numbered from 1.
     Post { post: u32, refusal: PostRefusal },

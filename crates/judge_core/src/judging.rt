@@ -1,7 +1,7 @@
 //! The judge of transcripts: whoever reads one comes to the same answer.
 
 ghost use Rattle.group_roster.specs.Given.{roster_of};
-ghost use Rattle.std.specs.Prelude.{◌≡◌, ◌<◌, ◌^◌, ℕ, List, length, Some, Ok, Err, IfOk, IsTrue, is_ok};
+ghost use Rattle.std.specs.Prelude.{◌≡◌, ◌<◌, ◌^◌, ℕ, List, length, Some, Ok, Err, IfOk, is_ok};
 ghost use Rattle.wire_core.specs.Answers.{Gives};
 ghost use Rattle.phase_message.specs.Offence.{content_read};
 ghost use Rattle.phase_message.specs.Stages.{shape_of};
@@ -10,18 +10,19 @@ ghost use Rattle.transcript_form.specs.Claim.{claim_posts};
 ghost use Rattle.transcript_form.specs.Refusals.{failure_of_refusal};
 ghost use Rattle.conviction.specs.Accepts.{Accepts};
 ghost use Rattle.conviction.specs.Framing.{HasNoHonestRun, NoRunsSaid};
-ghost use Rattle.judge_core.specs.Checks.{JudgingWantsMemory, WantsMemory, conviction_of, failed_of, is_decided, judgement_of, printed_judgement_of};
+ghost use Rattle.judge_core.specs.Checks.{JudgingWantsMemory, WantsMemory, conviction_of, failed_of, judgement_of, printed_judgement_of};
 ghost use Rattle.judge_core.specs.Case.{case_of};
 
 use crate::bad_log::bad_log;
 use crate::failed_check::{FailedCheck, Unjudged};
 use crate::hearing::{Case, hear};
+use crate::pad::pad;
 use crate::replaying::replaying;
 use crate::wrong_seed::wrong_seed;
 use group_roster::Roster;
 use phase_message::{Shape, first_offence};
 use std::alloc::Global;
-use transcript_form::{Claim, FailedForm, ListedPosts, Refused, read_claim, read_listed};
+use transcript_form::{Claim, ListedPosts, Refused, read_listed};
 
 /// What a transcript shows.
 #[derive(Clone, Copy, Debug, PartialEq, Eq)]
@@ -32,9 +33,8 @@ pub struct Accepted {
 }
 
 /// Whom the bytes of a transcript convict under a roster, and of what. `Check` names the first check
-/// that they fail, as `FailedCheck` has them. Pad is not decided so far: it fails check 2 at 5, before what
-/// follows it is looked at. Nothing of the bytes is copied before all listed posts pass the checks 1 to 7, and out of
-/// memory hides none of these; in Equivocation, Malformed and WrongSeed it hides nothing.
+/// that they fail, as `FailedCheck` has them. Nothing of the bytes is copied before all listed posts pass the checks
+/// 1 to 7, and out of memory hides none of these; in Equivocation, Malformed and WrongSeed it never comes.
 ///
 /// It stands on no premise: what convicts is accepted, whoever wrote it down, and nothing else is. A
 /// member that follows the rules is not convicted, unless its signature was forged or two hashed strings collide.
@@ -66,9 +66,6 @@ fn judgement(alloc: Global, roster: &Roster, bytes: &[u8]) -> Result<Accepted, U
     ensures exact { Gives failed_of (λ a. a) result (judgement_of (roster_of roster.now) bytes.now) }
     ensures memory { result ≡ Err Unjudged.Memory → JudgingWantsMemory (roster_of roster.now) bytes.now }
 {
-    if !is_decided(read_claim(bytes)?) {
-        return Err(Unjudged::from(FailedForm::Form { at: 5 }));
-    }
     let listed = read_listed(roster.shape(), bytes)?;
     let case = Case {
         roster,
@@ -84,22 +81,8 @@ fn judgement(alloc: Global, roster: &Roster, bytes: &[u8]) -> Result<Accepted, U
     })
 }
 
-fn is_decided(claim: Claim) -> bool
-    ensures { result ≡ is_decided claim }
-{
-    matches!(
-        claim,
-        Claim::Equivocation
-            | Claim::Malformed
-            | Claim::WrongSeed
-            | Claim::BadLog
-            | Claim::Replay
-    )
-}
-
 // Whether the listed posts are what the claim asks.
 fn convict(alloc: Global, case: Case<'_>, posts: ListedPosts<'_>) -> Result<(), Unjudged>
-    requires decided { IsTrue (is_decided case.claim) }
     requires count { length posts ≡ claim_posts (shape_of_roster (roster_of case.roster.now)) case.claim }
     ensures exact { Gives failed_of (λ x. x) result (conviction_of (case_of case.entry) posts.entry) }
     ensures memory { result ≡ Err Unjudged.Memory → WantsMemory (case_of case.entry) posts.entry }
@@ -110,7 +93,7 @@ fn convict(alloc: Global, case: Case<'_>, posts: ListedPosts<'_>) -> Result<(), 
         Claim::WrongSeed => Ok(wrong_seed(case, posts)?),
         Claim::BadLog => bad_log(alloc, case, posts),
         Claim::Replay => replaying(alloc, case, posts),
-        _ => unreachable!(),
+        Claim::Pad => pad(alloc, case, posts),
     }
 }
 

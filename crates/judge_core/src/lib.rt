@@ -9,9 +9,9 @@ mod failed_check;
 mod hearing;
 mod judging;
 mod laws;
+mod listed_log;
 #[cfg(test)]
 mod made_evidence;
-mod listed_log;
 mod pad;
 #[cfg(test)]
 mod pad_evidence;

@@ -12,6 +12,7 @@ use wire_core::{Mem, Register, Tag, put_bytes, put_u8, put_u32, put_u64};
 
 // A seed that is revealed, and a view that is none.
 const SEED: [u8; 32] = [7; 32];
+
 pub(crate) const WRONG: [u8; 32] = [9; 32];
 
 // A group whose members make evidence in round 1.
@@ -227,21 +228,27 @@ fn reveals_are_judged(rt: &impl Abort, alloc: Global) -> Result<(), Fail> {
     let mut full = Vec::new(alloc);
     put_u8(&mut full, 6)?;
     for sender in [1, 2] {
-        put_sized(&mut full, &group.make(alloc, misviewed(4, sender), &[5, 1])?.post)?;
+        put_sized(
+            &mut full,
+            &group.make(alloc, misviewed(4, sender), &[5, 1])?.post,
+        )?;
     }
     put_bytes(&mut full, &SEED)?;
     let bare = group.make(alloc, misviewed(5, 1), &bare)?.post;
     let full = group.make(alloc, misviewed(5, 1), &full)?.post;
-    let other = group.make(alloc, misviewed(0, 1), &zeros(alloc, 1, 9120)?)?.post;
-    let right = group.make(alloc, misviewed(0, 1), &right_keys(alloc)?)?.post;
-    for (head, posts, want) in [
-        ([3, 1], [other.as_slice(), bare.as_slice()].as_slice(), accepted(Claim::WrongSeed)),
-        ([3, 1], &[right.as_slice(), bare.as_slice()], failed(10, 2, 0)),
-        ([4, 1], &[bare.as_slice()], accepted(Claim::BadLog)),
-        ([4, 1], &[full.as_slice()], failed(11, 1, 0)),
-    ] {
-        judged(rt, alloc, &roster, head, posts, want)?;
-    }
+    let other = group
+        .make(alloc, misviewed(0, 1), &zeros(alloc, 1, 9120)?)?
+        .post;
+    let right = group
+        .make(alloc, misviewed(0, 1), &right_keys(alloc)?)?
+        .post;
+    let (bare, full) = (bare.as_slice(), full.as_slice());
+    let (other, right) = (other.as_slice(), right.as_slice());
+    let wrong_seed = accepted(Claim::WrongSeed);
+    judged(rt, alloc, &roster, [3, 1], &[other, bare], wrong_seed)?;
+    judged(rt, alloc, &roster, [3, 1], &[right, bare], failed(10, 2, 0))?;
+    judged(rt, alloc, &roster, [4, 1], &[bare], accepted(Claim::BadLog))?;
+    judged(rt, alloc, &roster, [4, 1], &[full], failed(11, 1, 0))?;
     Ok(())
 }
 
@@ -253,26 +260,36 @@ fn disputes_are_judged(rt: &impl Abort, alloc: Global) -> Result<(), Fail> {
     all.push(group.make(alloc, misviewed(4, 1), &[5, 1])?)?;
     all.push(group.make(alloc, misviewed(4, 2), &[5, 0])?)?;
     let view = view_behind(all.as_slice(), 5);
-    let at = Place { view, ..misviewed(5, 1) };
+    let at = Place {
+        view,
+        ..misviewed(5, 1)
+    };
     let first = group.dispute(alloc, at, all.as_slice())?;
-    let at = Place { view, ..misviewed(5, 2) };
+    let at = Place {
+        view,
+        ..misviewed(5, 2)
+    };
     let same = group.dispute(alloc, at, all.as_slice())?;
     let wrong = group.dispute(alloc, misviewed(5, 2), all.as_slice())?;
     all.pop();
-    all.push(group.make(alloc, Place { view, ..misviewed(4, 2) }, &[5, 0])?)?;
+    all.push(group.make(
+        alloc,
+        Place {
+            view,
+            ..misviewed(4, 2)
+        },
+        &[5, 0],
+    )?)?;
     let at = Place {
         view: view_behind(all.as_slice(), 5),
         ..misviewed(5, 2)
     };
     let other = group.dispute(alloc, at, all.as_slice())?;
-    for (head, second, want) in [
-        ([5, 1], &same, accepted(Claim::Replay)),
-        ([5, 2], &same, failed(14, 0, 1)),
-        ([5, 1], &wrong, failed(12, 2, 0)),
-        ([5, 1], &other, failed(13, 2, 7)),
-    ] {
-        judged(rt, alloc, &roster, head, &[first.as_slice(), second.as_slice()], want)?;
-    }
+    let (first, same) = (first.as_slice(), same.as_slice());
+    judged(rt, alloc, &roster, [5, 1], &[first, same], accepted(Claim::Replay))?;
+    judged(rt, alloc, &roster, [5, 2], &[first, same], failed(14, 0, 1))?;
+    judged(rt, alloc, &roster, [5, 1], &[first, wrong.as_slice()], failed(12, 2, 0))?;
+    judged(rt, alloc, &roster, [5, 1], &[first, other.as_slice()], failed(13, 2, 7))?;
     Ok(())
 }
 
@@ -284,10 +301,24 @@ fn all_are_justified_first(rt: &impl Abort, alloc: Global) -> Result<(), Fail> {
         all.push(group.make(alloc, misviewed(5, sender), &[5, 0])?)?;
     }
     let view = view_behind(all.as_slice(), 6);
-    let first = group.dispute(alloc, Place { view, ..misviewed(6, 1) }, all.as_slice())?;
+    let first = group.dispute(
+        alloc,
+        Place {
+            view,
+            ..misviewed(6, 1)
+        },
+        all.as_slice(),
+    )?;
     let third = group.dispute(alloc, misviewed(6, 3), all.as_slice())?;
     all.pop();
-    all.push(group.make(alloc, Place { view, ..misviewed(5, 3) }, &[5, 0])?)?;
+    all.push(group.make(
+        alloc,
+        Place {
+            view,
+            ..misviewed(5, 3)
+        },
+        &[5, 0],
+    )?)?;
     let at = Place {
         view: view_behind(all.as_slice(), 6),
         ..misviewed(6, 2)

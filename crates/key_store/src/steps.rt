@@ -28,7 +28,7 @@ pub fn put<D: Disk>(disk: &mut D, image: &mut [u8; 128], at: u32, bytes: &[u8]) 
     overwrite(image, at as usize, bytes);
     match disk.write_at(at, bytes) {
         DiskAnswer::Done => settle(disk),
-        DiskAnswer::Failed => DiskAnswer::Failed,
+        failed => failed,
     }
 }
 

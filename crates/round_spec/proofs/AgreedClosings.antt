@@ -1,26 +1,20 @@
 -- Closing contents of stages behind which a round goes on: they embed votes, which are short.
-use Rattle.std.proofs.Common.{◌≡◌, ℕ, zero, suc, ◌+◌, ◌-◌, ◌<◌, ◌≤◌, true, false, List, [], ◌∷◌, ◌++◌, length, get_or, drop, map, take, Option, Some, None, Result, Ok, ap, sym, ◌∙◌, refl, subst, arith, rules, inl, inr}
-use Rattle.std.specs.Prelude.{All, Contains, IsSome, IsTrue, is_some, option_and_then, option_map, slice_index_or, zip}
+use Rattle.std.proofs.Common.{◌≡◌, ℕ, ◌+◌, ◌-◌, ◌<◌, ◌≤◌, true, List, [], ◌∷◌, ◌++◌, length, drop, take, Option, Some, Result, Ok, ap, sym, ◌∙◌, refl, subst, arith, rules}
+use Rattle.std.specs.Prelude.{Contains, is_some, option_and_then, zip}
 use Rattle.std.specs.Int.{to_be_bytes, w32}
-use Rattle.std.specs.List.{AllByRecursion, AllZip, flat_map, slice_get, slice_range}
+use Rattle.std.specs.List.{AllByRecursion, slice_get, slice_range}
 use Rattle.std.proofs.lemmas.Bool.{cond-true}
 use Rattle.std.proofs.lemmas.List.{get_or-take, length-drop, length-take-le}
 use Rattle.std.proofs.lemmas.Option.{get_or_from_slice_get, slice_get_within}
-use Rattle.wire_core.specs.Bytes.{IsBytes, prefixed}
+use Rattle.wire_core.specs.Bytes.{IsBytes}
 use Rattle.wire_core.proofs.ByteLists.{IsBytes-back, IsBytes-front}
-use Rattle.phase_message.specs.declared.content.Body.{Body}
-use Rattle.phase_message.specs.declared.content.Body.TheVariants.{Reveal, Dispute, Confirm as ConfirmBody, Differ}
 use Rattle.phase_message.specs.declared.content.Content.{Content}
-use Rattle.phase_message.specs.declared.header.Header.{Header}
 use Rattle.phase_message.specs.declared.offence.Offence.{Offence}
 use Rattle.phase_message.specs.declared.post.Post.{Post}
 use Rattle.phase_message.specs.declared.stage.Slot.{Slot}
 use Rattle.phase_message.specs.declared.stage.StageKind.{StageKind}
-use Rattle.phase_message.specs.declared.stage.StageKind.TheVariants.{Keys, Submit, Shuffle, Go, Final, Pad, Check, Confirm}
-use Rattle.phase_message.specs.Grammar.{body_text}
-use Rattle.phase_message.specs.Kinds.{IsBodyAt}
+use Rattle.phase_message.specs.declared.stage.StageKind.TheVariants.{Go, Final, Check, Confirm}
 use Rattle.phase_message.specs.Offence.{content_read}
-use Rattle.phase_message.specs.Post.{post_spelling}
 use Rattle.phase_message.specs.Shape.{Shape}
 use Rattle.phase_message.specs.Slots.{senders_of, slot_number, slots_before, slots_of}
 use Rattle.phase_message.specs.Stages.{is_member, is_slot, kind_of_stage, speaks, vote_of}
@@ -33,14 +27,14 @@ use Rattle.signed_post.proofs.Lengths.{votes_are_short}
 use Rattle.go_nogo.specs.Closing.{IsClosing, is_assent, posts_embedded, slots_embedded}
 use Rattle.go_nogo.proofs.EmbeddedSlots.{assent-slots}
 use Rattle.transcript_form.specs.declared.transcript.Transcript.{Transcript}
-use Rattle.round_spec.specs.Cases.{IsMemberOf, IsWhole, agree_before}
+use Rattle.round_spec.specs.Cases.{IsWhole}
 use Rattle.round_spec.specs.Course.{closing_of}
 use Rattle.round_spec.specs.Embedded.{embedded_pairs, posts_in_content}
 use Rattle.round_spec.specs.Justified.{ArePostsOf, IsPostOf}
 use Rattle.round_spec.specs.OwnRows.{IsPastAt}
 use Rattle.round_spec.specs.Runs.{AllGo, ChecksIn}
 use Rattle.round_spec.specs.Say.{Configuration, shape_in}
-use Rattle.round_spec.specs.Verdict.{ClosedStage, Convicts, Goes, Verdict, closing_content, is_closing, no_post, post_in, shape_at, verdict_of}
+use Rattle.round_spec.specs.Verdict.{ClosedStage, Convicts, Goes, Verdict, is_closing, no_post, post_in, verdict_of}
 use Rattle.round_spec.proofs.GoLists.{there}
 use Rattle.round_spec.proofs.Justified.{posts_are_found, zip-bytes}
 use Rattle.round_spec.proofs.PastForms.{said-there}
@@ -90,7 +84,8 @@ closing-is shape stage k = ap (λ (o : Option StageKind). is_some (option_and_th
 -- ---- embedded votes
 
 -- a vote's post file is short
-vote-short : (roster : Roster) (round : ℕ) (slot : Slot) (bytes : List ℕ) (post : Post) (vote : StageKind) → IsBytes bytes → kind_of_stage (shape_of_roster roster) slot.stage ≡ Some vote → IsVoteStage vote
+vote-short : (roster : Roster) (round : ℕ) (slot : Slot) (bytes : List ℕ) (post : Post) (vote : StageKind) → IsBytes bytes
+    → kind_of_stage (shape_of_roster roster) slot.stage ≡ Some vote → IsVoteStage vote
     → IsPostOf roster round slot bytes post → length bytes ≤ 9405
 vote-short roster round slot bytes post vote are at votes is =
     let stage : is.content.header.stage ≡ slot.stage = ap (λ (s : Slot). s.stage) is.named in
@@ -112,7 +107,8 @@ contains-at : {A : Type 0} (xs : List A) (k : ℕ) (x : A) → slice_get xs k �
 contains-at xs k x e = (k, slice_get_within xs k x e, get_or_from_slice_get xs k x x e)
 
 -- as many slots as members are embedded by a content that assents
-assent-count : (shape : Shape) (content : Content) → (k : ClosingKind shape content.header.stage) → is_assent content.body ≡ true → length (slots_embedded shape content) ≡ shape.members
+assent-count : (shape : Shape) (content : Content) → (k : ClosingKind shape content.header.stage) → is_assent content.body ≡ true
+    → length (slots_embedded shape content) ≡ shape.members
 assent-count shape content k assents =
     let stage : ℕ = content.header.stage in
     let follows = closing-follows shape stage k.kind k.vote k.is k.closes in
@@ -123,7 +119,8 @@ assent-count shape content k assents =
     ∙ length-take-le (b - a) (drop a (slots_of shape)) (omega (arith, next, slots_before-most shape (stage - 1 + 1), length-slots_of shape, length-drop a (slots_of shape)))
     ∙ omega (arith, next, k.all_vote)
 
-pub votes-short : (roster : Roster) (round : ℕ) (content : Content) (posts : List Post) → ClosingKind (shape_of_roster roster) content.header.stage → is_assent content.body ≡ true
+pub votes-short : (roster : Roster) (round : ℕ) (content : Content) (posts : List Post) → ClosingKind (shape_of_roster roster) content.header.stage
+    → is_assent content.body ≡ true
     → length (posts_embedded content.body) ≤ (shape_of_roster roster).members → AllByRecursion IsBytes (posts_embedded content.body) → posts_in_content roster round content ≡ Ok posts
     → AllByRecursion (λ v. length v ≤ 9405) (posts_embedded content.body)
 votes-short roster round content posts k assents few bytes e =
@@ -156,7 +153,8 @@ record StandsAt (c : Configuration) (past : List Post) (stage member : ℕ) : Ty
   pub checks : ChecksIn c (record { stage = stage; sender = member }) post
   pub closed : post_in (stage_passed c past stage) stage member ≡ post
 
-stands-at : (c : Configuration) (later stage member : ℕ) (past : List Post) → IsPastAt c later past → stage < later → is_slot (shape_in c) stage member ≡ true → StandsAt c past stage member
+stands-at : (c : Configuration) (later stage member : ℕ) (past : List Post) → IsPastAt c later past → stage < later
+    → is_slot (shape_in c) stage member ≡ true → StandsAt c past stage member
 stands-at c later stage member past is lt speaks_there =
     let shape = shape_in c in
     let number : ℕ = slot_number shape stage member in
@@ -169,7 +167,8 @@ stands-at c later stage member past is lt speaks_there =
       closed = get_or-take (slots_before shape (stage + 1)) past number no_post within ∙ get_or_from_slice_get past number found.0 no_post found.1;
     }
 
-whole-stage : (c : Configuration) (later stage : ℕ) (past : List Post) → IsPastAt c later past → 1 ≤ (shape_in c).members → stage < later → ClosingKind (shape_in c) stage → IsWhole (stage_passed c past stage)
+whole-stage : (c : Configuration) (later stage : ℕ) (past : List Post) → IsPastAt c later past → 1 ≤ (shape_in c).members → stage < later
+    → ClosingKind (shape_in c) stage → IsWhole (stage_passed c past stage)
 whole-stage c later stage past is some lt k = record {
   members = some;
   closing = closing-is (shape_in c) stage k;
@@ -190,7 +189,8 @@ pub record IsAgreed (c : Configuration) (content : Content) : Type 0 where
 goes-spares : (verdict : Verdict) (t : Transcript) → verdict ≡ Goes → verdict ≡ Convicts t → ⊥
 goes-spares verdict t goes is = (let both = sym goes ∙ is in cc)
 
-pub agreed-there : (c : Configuration) (later stage member : ℕ) (past : List Post) (post : Post) (content : Content) → IsPastAt c later past → 1 ≤ (shape_in c).members → AllGo c past later → stage < later
+pub agreed-there : (c : Configuration) (later stage member : ℕ) (past : List Post) (post : Post) (content : Content) → IsPastAt c later past
+    → 1 ≤ (shape_in c).members → AllGo c past later → stage < later
     → ClosingKind (shape_in c) stage → 1 ≤ member → member ≤ (shape_in c).members → slice_get past (slot_number (shape_in c) stage member) ≡ Some post → content_read (shape_in c) post.content ≡ Ok content
     → IsAgreed c content
 agreed-there c later stage member past post content is some goes lt k first last stands reads =

@@ -1,7 +1,7 @@
 -- The lists that a vote on a shuffle looks at.
-use Rattle.std.proofs.Common.{◌≡◌, ℕ, zero, suc, ◌+◌, ◌-◌, ◌<◌, ◌≤◌, List, [], ◌∷◌, length, map, take, drop, get_or, Option, Some, None, Result, Ok, Err, ap, sym, ◌∙◌, refl, arith, inl, inr}
+use Rattle.std.proofs.Common.{◌≡◌, ℕ, zero, suc, ◌+◌, ◌-◌, ◌<◌, ◌≤◌, List, [], ◌∷◌, length, map, take, drop, Option, Some, Result, Ok, Err, ap, sym, ◌∙◌, refl, arith, inl, inr}
 use Rattle.std.specs.Prelude.{◌==◌, slice_index_or}
-use Rattle.std.specs.List.{range_with_len, slice_get, slice_range}
+use Rattle.std.specs.List.{range_with_len, slice_get}
 use Rattle.std.proofs.lemmas.Bool.{cases_Bool, cond-false, cond-true}
 use Rattle.std.proofs.lemmas.Option.{get_or_from_slice_get}
 use Rattle.phase_message.specs.declared.content.Body.TheVariants.{Keys, Submit, Shuffled, Abort, Go, Reveal, Dispute, Pads, Check, Confirm, Differ}
@@ -17,10 +17,10 @@ use Rattle.phase_message.specs.Stages.{kind_of_stage}
 use Rattle.phase_message.proofs.Counts.{slots_next}
 use Rattle.phase_message.proofs.Table.{turn_a, turn_b}
 use Rattle.stage_log.specs.Log.{all_some}
-use Rattle.go_nogo.specs.Rows.{list_in, list_read, lists_before, turns_before}
+use Rattle.go_nogo.specs.Rows.{list_in, list_read, turns_before}
 use Rattle.shuffle_blame.specs.Replay.{body_of, list_of}
 use Rattle.round_spec.specs.Given.{VotesLookAtLists}
-use Rattle.round_spec.specs.Slots.{final_stage, list_said, said_in, submit_stage}
+use Rattle.round_spec.specs.Slots.{list_said, said_in, submit_stage}
 
 -- ---- parts of a list
 
@@ -38,7 +38,8 @@ drop-here {A} (y ∷ ys) zero x e = ap (λ (z : A). z ∷ ys) (some-is y x e)
 drop-here {A} (y ∷ ys) (suc k) x e = drop-here ys k x e
 
 -- a function of the items of a part of a list, and one of the places
-parts-same : {A B : Type 0} (f : A → B) (g : ℕ → B) (xs : List A) (n a s : ℕ) → a + n ≤ length xs → ((i : ℕ) (x : A) → i < n → slice_get xs (a + i) ≡ Some x → f x ≡ g (s + i))
+parts-same : {A B : Type 0} (f : A → B) (g : ℕ → B) (xs : List A) (n a s : ℕ) → a + n ≤ length xs
+    → ((i : ℕ) (x : A) → i < n → slice_get xs (a + i) ≡ Some x → f x ≡ g (s + i))
     → map f (take n (drop a xs)) ≡ map g (range_with_len s n)
 parts-same f g xs zero a s le each = refl
 parts-same {A} {B} f g xs (suc n) a s le each =
@@ -56,14 +57,16 @@ parts-same {A} {B} f g xs (suc n) a s le each =
 -- ---- the turns of a shuffle
 
 -- the stage of a turn is one
-pub turn-kind : (shape : Shape) (shuffle k : ℕ) → 1 ≤ k → k ≤ shape.members → (number : ℕ) × (kind_of_stage shape (submit_stage shape shuffle + k) ≡ Some (Shuffle number k))
+pub turn-kind : (shape : Shape) (shuffle k : ℕ) → 1 ≤ k → k ≤ shape.members
+    → (number : ℕ) × (kind_of_stage shape (submit_stage shape shuffle + k) ≡ Some (Shuffle number k))
 turn-kind shape shuffle k least most = elim (cases_Bool (shuffle == 1)) [
   | inl a ↦ (1, (let at = cond-true (shuffle == 1) 1 (shape.members + 7) a in turn_a shape (submit_stage shape shuffle + k) k (omega (arith, at)) least most))
   | inr b ↦ (2, (let at = cond-false (shuffle == 1) 1 (shape.members + 7) b in turn_b shape (submit_stage shape shuffle + k) k (omega (arith, at)) least most))
 ]
 
 -- so many slots stand before each
-turn-slots : (shape : Shape) (shuffle i : ℕ) → i ≤ shape.members → slots_before shape (submit_stage shape shuffle + suc i) ≡ slots_before shape (submit_stage shape shuffle + 1) + i
+turn-slots : (shape : Shape) (shuffle i : ℕ) → i ≤ shape.members
+    → slots_before shape (submit_stage shape shuffle + suc i) ≡ slots_before shape (submit_stage shape shuffle + 1) + i
 turn-slots shape shuffle zero most = omega arith
 turn-slots shape shuffle (suc i) most =
     let kind = turn-kind shape shuffle (suc i) (omega arith) most in
@@ -90,7 +93,8 @@ read-list : (r : Result Content Offence) → list_read r ≡ list_of (body_of r)
 read-list (Ok content) = body-list content.body
 read-list (Err offence) = refl
 
-turn-list : (shape : Shape) (past : List (List ℕ)) (shuffle i : ℕ) (text : List ℕ) → i < shape.members → slice_get past (slots_before shape (submit_stage shape shuffle + 1) + i) ≡ Some text
+turn-list : (shape : Shape) (past : List (List ℕ)) (shuffle i : ℕ) (text : List ℕ) → i < shape.members
+    → slice_get past (slots_before shape (submit_stage shape shuffle + 1) + i) ≡ Some text
     → list_read (content_read shape text) ≡ list_said shape past shuffle (suc i)
 unfolding said_in
 turn-list shape past shuffle i text lt at =

@@ -1,6 +1,6 @@
 -- When a closing content is justified.
-use Rattle.std.proofs.Common.{◌≡◌, ℕ, zero, suc, ◌+◌, ◌-◌, ◌<◌, Bool, true, false, List, [], ◌∷◌, length, Option, Some, None, Result, Ok, Err, ap, sym, ◌∙◌, refl, subst, arith}
-use Rattle.std.specs.Prelude.{not, bytes_eq, ◌&&◌, All, zip, slice_get, slice_index_or}
+use Rattle.std.proofs.Common.{◌≡◌, ℕ, zero, suc, ◌+◌, ◌-◌, ◌<◌, Bool, true, false, List, [], ◌∷◌, Option, Some, None, Result, Ok, Err, ap, sym, ◌∙◌, refl, subst, arith}
+use Rattle.std.specs.Prelude.{not, bytes_eq, ◌&&◌, All, zip, slice_get}
 use Rattle.std.specs.List.{AllZip}
 use Rattle.std.proofs.lemmas.Bool.{and_from, and_parts, cond-false, cond-true, eq-eqb}
 use Rattle.std.proofs.lemmas.Slice.Eq.{bytes_eq-Decides}
@@ -38,7 +38,8 @@ header-same : (a b : Header) (r : Result Header Short) → r ≡ Ok a → r ≡ 
 header-same a b r e e' = let both = sym e ∙ e' in cc
 
 -- what is found for a slot is its post
-pub found-is : (roster : Roster) (round : ℕ) (slot : Slot) (bytes : List ℕ) (post : Post) → IsBytes bytes → post_for_slot roster round slot bytes ≡ Ok post → IsPostOf roster round slot bytes post
+pub found-is : (roster : Roster) (round : ℕ) (slot : Slot) (bytes : List ℕ) (post : Post) → IsBytes bytes
+    → post_for_slot roster round slot bytes ≡ Ok post → IsPostOf roster round slot bytes post
 found-is roster round slot bytes post are e =
     let is = post-for-slot roster round slot bytes post e in
     let framed = framed-found bytes post are is.spelled in
@@ -57,7 +58,8 @@ names-self : (header : Header) → names_slot (slot_named header) header ≡ tru
 names-self header = rw (eq-eqb header.stage header.stage refl, eq-eqb header.sender header.sender refl) refl
 
 -- and its post is found
-pub is-found : (roster : Roster) (round : ℕ) (slot : Slot) (bytes : List ℕ) (post : Post) → IsBytes bytes → IsPostOf roster round slot bytes post → post_for_slot roster round slot bytes ≡ Ok post
+pub is-found : (roster : Roster) (round : ℕ) (slot : Slot) (bytes : List ℕ) (post : Post) → IsBytes bytes → IsPostOf roster round slot bytes post
+    → post_for_slot roster round slot bytes ≡ Ok post
 unfolding post_for_slot checked_post
 is-found roster round slot bytes post are is =
     let framed : frame_of bytes ≡ Ok post = ap frame_of is.spelled ∙ framed-again post is.admitted.frame in
@@ -80,7 +82,8 @@ bad-same a b e = cc
 never : {A : Type 0} (posts : List Post) (bad : BadPost) (r : Result (List Post) BadPost) → r ≡ Ok posts → r ≡ Err bad → A
 never {A} posts bad r e e' = absurd (let both = sym e ∙ e' in cc)
 
-all-found : (roster : Roster) (round place : ℕ) (pairs : List (Slot × List ℕ)) (posts : List Post) → posts_for roster round place pairs ≡ Ok posts → AllZip (Found roster round) pairs posts
+all-found : (roster : Roster) (round place : ℕ) (pairs : List (Slot × List ℕ)) (posts : List Post) → posts_for roster round place pairs ≡ Ok posts
+    → AllZip (Found roster round) pairs posts
 unfolding posts_for
 all-found roster round place [] posts e = subst (AllZip (Found roster round) []) (posts-same [] posts e) tt
 all-found roster round place (pair ∷ pairs) posts e =
@@ -90,7 +93,8 @@ all-found roster round place (pair ∷ pairs) posts e =
     subst (AllZip (Found roster round) (pair ∷ pairs)) (posts-same (first.0 ∷ others.0) posts others.2)
     (fault_as_ok bad (post_for_slot roster round pair.0 pair.1) first.0 first.1, all-found roster round (place + 1) pairs others.0 others.1)
 
-from-found : (roster : Roster) (round place : ℕ) (pairs : List (Slot × List ℕ)) (posts : List Post) → AllZip (Found roster round) pairs posts → posts_for roster round place pairs ≡ Ok posts
+from-found : (roster : Roster) (round place : ℕ) (pairs : List (Slot × List ℕ)) (posts : List Post) → AllZip (Found roster round) pairs posts
+    → posts_for roster round place pairs ≡ Ok posts
 unfolding posts_for
 from-found roster round place [] [] all = refl
 from-found roster round place [] (post ∷ posts) all = absurd all
@@ -100,17 +104,20 @@ from-found roster round place (pair ∷ pairs) (post ∷ posts) all = rw (all.0,
 first-bytes : (pair : Slot × List ℕ) (pairs : List (Slot × List ℕ)) → All (λ (p : Slot × List ℕ). IsBytes p.1) (pair ∷ pairs) → IsBytes pair.1
 first-bytes pair pairs all = all 0 pair (omega arith)
 
-rest-bytes : (pair : Slot × List ℕ) (pairs : List (Slot × List ℕ)) → All (λ (p : Slot × List ℕ). IsBytes p.1) (pair ∷ pairs) → All (λ (p : Slot × List ℕ). IsBytes p.1) pairs
+rest-bytes : (pair : Slot × List ℕ) (pairs : List (Slot × List ℕ)) → All (λ (p : Slot × List ℕ). IsBytes p.1) (pair ∷ pairs)
+    → All (λ (p : Slot × List ℕ). IsBytes p.1) pairs
 rest-bytes pair pairs all k d lt = all (suc k) d (omega (arith, lt))
 
-are-posts : (roster : Roster) (round : ℕ) (pairs : List (Slot × List ℕ)) (posts : List Post) → All (λ (p : Slot × List ℕ). IsBytes p.1) pairs → AllZip (Found roster round) pairs posts → ArePostsOf roster round pairs posts
+are-posts : (roster : Roster) (round : ℕ) (pairs : List (Slot × List ℕ)) (posts : List Post) → All (λ (p : Slot × List ℕ). IsBytes p.1) pairs
+    → AllZip (Found roster round) pairs posts → ArePostsOf roster round pairs posts
 are-posts roster round [] [] bytes all = tt
 are-posts roster round [] (post ∷ posts) bytes all = absurd all
 are-posts roster round (pair ∷ pairs) [] bytes all = absurd all
 are-posts roster round (pair ∷ pairs) (post ∷ posts) bytes all =
     (found-is roster round pair.0 pair.1 post (first-bytes pair pairs bytes) all.0, are-posts roster round pairs posts (rest-bytes pair pairs bytes) all.1)
 
-are-found : (roster : Roster) (round : ℕ) (pairs : List (Slot × List ℕ)) (posts : List Post) → All (λ (p : Slot × List ℕ). IsBytes p.1) pairs → ArePostsOf roster round pairs posts → AllZip (Found roster round) pairs posts
+are-found : (roster : Roster) (round : ℕ) (pairs : List (Slot × List ℕ)) (posts : List Post) → All (λ (p : Slot × List ℕ). IsBytes p.1) pairs
+    → ArePostsOf roster round pairs posts → AllZip (Found roster round) pairs posts
 are-found roster round [] [] bytes all = tt
 are-found roster round [] (post ∷ posts) bytes all = absurd all
 are-found roster round (pair ∷ pairs) [] bytes all = absurd all
@@ -132,7 +139,8 @@ record FirstFrom (roster : Roster) (round place : ℕ) (pairs : List (Slot × Li
   pub is : bad.place ≡ place + k
   pub at : slice_get pairs k ≡ Some pair
   pub why : post_for_slot roster round pair.0 pair.1 ≡ Err bad.why
-  pub earlier : (i : ℕ) (other : Slot × List ℕ) → i < k → slice_get pairs i ≡ Some other → (post : Post) × (post_for_slot roster round other.0 other.1 ≡ Ok post)
+  pub earlier : (i : ℕ) (other : Slot × List ℕ) → i < k → slice_get pairs i ≡ Some other
+      → (post : Post) × (post_for_slot roster round other.0 other.1 ≡ Ok post)
 
 pair-same : (a b : Slot × List ℕ) → (let told : Slot × List ℕ → Option (Slot × List ℕ) = λ z. Some z in told a ≡ told b) → a ≡ b
 pair-same a b e = cc
@@ -145,7 +153,8 @@ earlier-found roster round k pair pairs post is each zero other lt e = (post, su
 earlier-found roster round k pair pairs post is each (suc i) other lt e = each i other (omega (arith, lt)) e
 
 -- what is told of the others, behind a first that is found
-behind-first : (roster : Roster) (round place : ℕ) (pair : Slot × List ℕ) (pairs : List (Slot × List ℕ)) (post : Post) (bad : BadPost) → Found roster round pair post
+behind-first : (roster : Roster) (round place : ℕ) (pair : Slot × List ℕ) (pairs : List (Slot × List ℕ)) (post : Post) (bad : BadPost)
+    → Found roster round pair post
     → FirstFrom roster round (place + 1) pairs bad → FirstFrom roster round place (pair ∷ pairs) bad
 behind-first roster round place pair pairs post bad is found =
     let at = found.is in
@@ -158,19 +167,23 @@ behind-first roster round place pair pairs post bad is found =
       earlier = earlier-found roster round found.k pair pairs post is found.earlier;
     }
 
-first-from : (roster : Roster) (round place : ℕ) (pairs : List (Slot × List ℕ)) (bad : BadPost) → posts_for roster round place pairs ≡ Err bad → FirstFrom roster round place pairs bad
+first-from : (roster : Roster) (round place : ℕ) (pairs : List (Slot × List ℕ)) (bad : BadPost) → posts_for roster round place pairs ≡ Err bad
+    → FirstFrom roster round place pairs bad
 unfolding posts_for
 first-from roster round place [] bad e = never [] bad (Ok []) refl e
 first-from roster round place (pair ∷ pairs) bad e = by_post (λ other at. first-from roster round (place + 1) pairs other at) (post_for_slot roster round pair.0 pair.1) refl e
   where
-    by_rest : ((other : BadPost) → posts_for roster round (place + 1) pairs ≡ Err other → FirstFrom roster round (place + 1) pairs other) → (post : Post) (r : Result (List Post) BadPost) → post_for_slot roster round pair.0 pair.1 ≡ Ok post → posts_for roster round (place + 1) pairs ≡ r → (r >>= λ posts. Ok (post ∷ posts)) ≡ Err bad
+    by_rest : ((other : BadPost) → posts_for roster round (place + 1) pairs ≡ Err other → FirstFrom roster round (place + 1) pairs other)
+        → (post : Post) (r : Result (List Post) BadPost) → post_for_slot roster round pair.0 pair.1 ≡ Ok post
+        → posts_for roster round (place + 1) pairs ≡ r → (r >>= λ posts. Ok (post ∷ posts)) ≡ Err bad
         → FirstFrom roster round place (pair ∷ pairs) bad
     by_rest next post (Ok posts) is at all = never (post ∷ posts) bad (Ok (post ∷ posts)) refl all
     by_rest next post (Err other) is at all =
         behind-first roster round place pair pairs post bad is
         (subst (FirstFrom roster round (place + 1) pairs) (bad-same other bad all) (next other at))
 
-    by_post : ((other : BadPost) → posts_for roster round (place + 1) pairs ≡ Err other → FirstFrom roster round (place + 1) pairs other) → (r : Result Post WhyNot) → post_for_slot roster round pair.0 pair.1 ≡ r
+    by_post : ((other : BadPost) → posts_for roster round (place + 1) pairs ≡ Err other → FirstFrom roster round (place + 1) pairs other)
+        → (r : Result Post WhyNot) → post_for_slot roster round pair.0 pair.1 ≡ r
         → (fault_as (λ why. record { place = place; why = why }) r >>= λ post. posts_for roster round (place + 1) pairs >>= λ posts. Ok (post ∷ posts)) ≡ Err bad → FirstFrom roster round place (pair ∷ pairs) bad
     by_post next (Err why) is all =
         let same : record { place = place; why = why } ≡ bad = bad-same (record { place = place; why = why }) bad all in
@@ -185,7 +198,8 @@ first-from roster round place (pair ∷ pairs) bad e = by_post (λ other at. fir
     by_post next (Ok post) is all = by_rest next post (posts_for roster round (place + 1) pairs) is refl all
 
 -- and it is told
-told-from : (roster : Roster) (round place : ℕ) (k : ℕ) (pairs : List (Slot × List ℕ)) (pair : Slot × List ℕ) (why : WhyNot) → slice_get pairs k ≡ Some pair → post_for_slot roster round pair.0 pair.1 ≡ Err why
+told-from : (roster : Roster) (round place : ℕ) (k : ℕ) (pairs : List (Slot × List ℕ)) (pair : Slot × List ℕ) (why : WhyNot)
+    → slice_get pairs k ≡ Some pair → post_for_slot roster round pair.0 pair.1 ≡ Err why
     → ((i : ℕ) (other : Slot × List ℕ) → i < k → slice_get pairs i ≡ Some other → (post : Post) × (post_for_slot roster round other.0 other.1 ≡ Ok post))
     → posts_for roster round place pairs ≡ Err (record { place = place + k; why = why })
 unfolding posts_for
@@ -238,7 +252,8 @@ true-not : (b : Bool) → not b ≡ true → b ≡ true → ⊥
 true-not true e e' = absurd cc
 true-not false e e' = absurd cc
 
-says-so : (shape : Shape) (content : Content) (embedded : List (List ℕ)) (b : Bool) → is_assent content.body ≡ b → is_justified shape content embedded ≡ true → IsTrueOf b shape content embedded
+says-so : (shape : Shape) (content : Content) (embedded : List (List ℕ)) (b : Bool) → is_assent content.body ≡ b
+    → is_justified shape content embedded ≡ true → IsTrueOf b shape content embedded
 unfolding is_justified
 says-so shape content embedded true assents e =
     votes-are shape embedded (sym (cond-true (is_assent content.body) (are_unanimous shape embedded) _ assents) ∙ e)
@@ -248,7 +263,8 @@ says-so shape content embedded false objects e =
       (bytes_eq-Decides content.header.view (view_of shape embedded content.header.stage)).0 both.1,
     )
 
-so-said : (shape : Shape) (content : Content) (embedded : List (List ℕ)) (b : Bool) → is_assent content.body ≡ b → IsTrueOf b shape content embedded → is_justified shape content embedded ≡ true
+so-said : (shape : Shape) (content : Content) (embedded : List (List ℕ)) (b : Bool) → is_assent content.body ≡ b → IsTrueOf b shape content embedded
+    → is_justified shape content embedded ≡ true
 unfolding is_justified
 so-said shape content embedded true assents says = cond-true (is_assent content.body) (are_unanimous shape embedded) _ assents ∙ are-votes shape embedded says
 so-said shape content embedded false objects says =
@@ -272,7 +288,8 @@ justified_exactly roster round content bytes = (by_posts (posts_in_content roste
     pairs-bytes : All (λ (p : Slot × List ℕ). IsBytes p.1) (embedded_pairs roster content)
     pairs-bytes = zip-bytes (slots_embedded (shape_of_roster roster) content) (posts_embedded content.body) bytes
 
-    by_posts : (r : Result (List Post) BadPost) → posts_in_content roster round content ≡ r → is_justified_by (shape_of_roster roster) content (posts_in_content roster round content) ≡ true → IsJustified roster round content
+    by_posts : (r : Result (List Post) BadPost) → posts_in_content roster round content ≡ r
+        → is_justified_by (shape_of_roster roster) content (posts_in_content roster round content) ≡ true → IsJustified roster round content
     by_posts (Err bad) is e = absurd (let both = sym (ap (is_justified_by (shape_of_roster roster) content) is) ∙ e in cc)
     by_posts (Ok posts) is e = record {
       posts = posts;

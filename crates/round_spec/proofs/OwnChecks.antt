@@ -1,5 +1,5 @@
 -- What a member says checks, and stands in its slot.
-use Rattle.std.proofs.Common.{◌≡◌, ℕ, zero, suc, ◌+◌, ◌-◌, ◌*◌, ◌<◌, ◌≤◌, Bool, true, false, List, [], ◌∷◌, ◌++◌, cond, length, Ok, ap, sym, ◌∙◌, refl, subst, arith, rules}
+use Rattle.std.proofs.Common.{◌≡◌, ℕ, zero, suc, ◌+◌, ◌-◌, ◌*◌, ◌<◌, ◌≤◌, Bool, true, List, ◌∷◌, ◌++◌, cond, length, Ok, ap, sym, ◌∙◌, refl, subst, arith, rules}
 use Rattle.std.specs.Prelude.{◌==◌, count_by}
 use Rattle.std.specs.List.{list_all, range_with_len, sum_by}
 use Rattle.std.proofs.lemmas.Bool.{eqb-true}
@@ -104,7 +104,8 @@ due-slot : (c : Configuration) (past : List Post) (stage : ℕ) → slot_named (
 unfolding content_with
 due-slot c past stage = refl
 
-sendable : (c : Configuration) (stage : ℕ) (past : List Post) → CanSay c stage past → AllGo c past stage → IsSendable c.roster c.round (own_content c past stage) (own_header c past stage)
+sendable : (c : Configuration) (stage : ℕ) (past : List Post) → CanSay c stage past → AllGo c past stage
+    → IsSendable c.roster c.round (own_content c past stage) (own_header c past stage)
 sendable c stage past can goes =
     let member = is-member c stage past can in
     let short = own_content_is_short c stage past can goes in
@@ -125,7 +126,8 @@ sendable c stage past can goes =
 own-signature : Configuration → List Post → ℕ → List ℕ
 own-signature c past stage = lms_signature c.key (c.first + number_said_before c stage) (own_content c past stage)
 
-own-post-is : (c : Configuration) (past : List Post) (stage : ℕ) → own_post c past stage ≡ record { content = own_content c past stage; signature = own-signature c past stage }
+own-post-is : (c : Configuration) (past : List Post) (stage : ℕ)
+    → own_post c past stage ≡ record { content = own_content c past stage; signature = own-signature c past stage }
 unfolding own_post own-signature
 own-post-is c past stage = refl
 

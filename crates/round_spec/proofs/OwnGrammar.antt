@@ -1,8 +1,8 @@
 -- What a member says over a past of posts that check is of the grammar.
-use Rattle.std.proofs.Common.{◌≡◌, ℕ, zero, suc, ◌+◌, ◌-◌, ◌*◌, ◌<◌, ◌≤◌, ◌^◌, true, false, List, [], ◌∷◌, ◌++◌, length, map, drop, take, Option, Some, None, ap, sym, ◌∙◌, refl, subst, arith, inl, inr}
-use Rattle.std.specs.Prelude.{◌⊎◌, All, Bool, ◌==◌, option_map, if◌then◌else◌}
+use Rattle.std.proofs.Common.{◌≡◌, ℕ, zero, suc, ◌+◌, ◌-◌, ◌*◌, ◌<◌, ◌≤◌, ◌^◌, true, false, List, [], ◌∷◌, ◌++◌, length, map, drop, Option, Some, None, ap, sym, ◌∙◌, refl, subst, arith, inl, inr}
+use Rattle.std.specs.Prelude.{◌⊎◌, Bool, ◌==◌, option_map, if◌then◌else◌}
 use Rattle.std.specs.Int.{to_be_bytes, w64}
-use Rattle.std.specs.List.{AllByRecursion, flat_map, range_with_len, slice_range}
+use Rattle.std.specs.List.{AllByRecursion, flat_map, range_with_len}
 use Rattle.std.proofs.lemmas.Bool.{cases_Bool, cond-false, cond-true, eqb-true}
 use Rattle.std.proofs.lemmas.List.{length-drop, length-map, length-take-le}
 use Rattle.std.proofs.lemmas.List.Sorted.{All-permutation, length_permutation}
@@ -14,18 +14,16 @@ use Rattle.ring_encrypt.proofs.KeyLemmas.{key_is_public_key}
 use Rattle.ring_encrypt.specs.PublicKey.{IsPublicKey}
 use Rattle.phase_message.specs.declared.content.Body.{Body}
 use Rattle.phase_message.specs.declared.content.Body.TheVariants.{Keys as KeysBody, Submit as SubmitBody, Shuffled, Abort, Go as GoBody, Reveal, Dispute, Pads, Check as CheckBody, Confirm as ConfirmBody, Differ}
-use Rattle.phase_message.specs.declared.content.Content.{Content}
 use Rattle.phase_message.specs.declared.post.Post.{Post}
-use Rattle.phase_message.specs.declared.stage.Slot.{Slot}
 use Rattle.phase_message.specs.declared.stage.StageKind.{StageKind}
 use Rattle.phase_message.specs.declared.stage.StageKind.TheVariants.{Keys, Submit, Shuffle, Go, Final, Pad, Check, Confirm}
 use Rattle.phase_message.specs.Body.{level}
-use Rattle.phase_message.specs.Grammar.{IsBody, OfGrammar, body_text, content_text, flag_text, header_text, kind_number}
-use Rattle.phase_message.specs.Kinds.{ArePosts, IsBodyAt}
+use Rattle.phase_message.specs.Grammar.{body_text, flag_text, header_text, kind_number}
+use Rattle.phase_message.specs.Kinds.{IsBodyAt}
 use Rattle.phase_message.specs.Post.{post_spelling}
 use Rattle.phase_message.specs.Shape.{Shape}
-use Rattle.phase_message.specs.Slots.{senders_of, slots_before, stage_count}
-use Rattle.phase_message.specs.Stages.{is_sender, is_slot, kind_of_stage, speaks, vote_of}
+use Rattle.phase_message.specs.Slots.{senders_of, slots_before}
+use Rattle.phase_message.specs.Stages.{kind_of_stage, speaks, vote_of}
 use Rattle.phase_message.proofs.Closings.{closing-follows}
 use Rattle.phase_message.proofs.Counts.{slots_next}
 use Rattle.phase_message.proofs.BodyKinds.{bodies_are_of_kinds}
@@ -40,11 +38,11 @@ use Rattle.shuffle_core.proofs.Turns.{turn_says_bodies}
 use Rattle.go_nogo.specs.Rows.{check_row, confirm_row, final_row, go_row, posts_at, written}
 use Rattle.go_nogo.specs.Votes.{votes_agree}
 use Rattle.shuffle_blame.specs.Replay.{outer_place}
-use Rattle.round_spec.specs.Slots.{bulk_place, inner_place, items_opened, list_said, submit_stage}
+use Rattle.round_spec.specs.Slots.{inner_place, items_opened, list_said}
 use Rattle.round_spec.specs.Say.{Configuration, content_with, keys_row, own_body_at, own_body_if, own_content, own_descriptor, own_header, own_key_seed, own_opening, own_order_seed, own_secret, own_submission, pad_for, pads_row, shape_in, turn_over, turn_row}
 use Rattle.round_spec.specs.OwnRows.{CanSay, IsPastAt, OwnRowOfGrammar, content_due}
 use Rattle.round_spec.proofs.OwnBytes.{key-bytes}
-use Rattle.round_spec.proofs.OwnItems.{IsItem, IsPad, is-member, opened-count, own-submission, sent-pad}
+use Rattle.round_spec.proofs.OwnItems.{IsItem, is-member, opened-count, own-submission, sent-pad}
 use Rattle.round_spec.proofs.PastForms.{AreEntries, list-is, spelled-bytes, spelled-short, stands-there}
 use Rattle.round_spec.proofs.SealedBytes.{all-drop, all-from, all-items, all-map, all-map-from, all-places, all-take, bodies-bytes, bodies-long, flat-bytes, prefixed-bytes}
 use Rattle.round_spec.proofs.Turns.{pad-late, submit-late, turn-at}
@@ -84,7 +82,8 @@ submit-is c stage shuffle past can kind =
 -- ---- turns
 
 -- entries in another order
-order-entries : (count size : ℕ) (seed : List ℕ) (entries : List (List ℕ)) → count ≤ 8 → AreEntries count size entries → AreEntries count size (in_drawn_order seed entries)
+order-entries : (count size : ℕ) (seed : List ℕ) (entries : List (List ℕ)) → count ≤ 8 → AreEntries count size entries
+    → AreEntries count size (in_drawn_order seed entries)
 order-entries count size seed entries few are =
     let moved = entries_are_permuted seed entries (omega (arith, few, are.count)) in
     let other : (P : List ℕ → Type 0) → AllByRecursion P entries → AllByRecursion P (in_drawn_order seed entries) =
@@ -96,7 +95,8 @@ order-entries count size seed entries few are =
     }
 
 -- their bodies
-stripped-entries : (count size : ℕ) (seed : List ℕ) (entries bodies : List (List ℕ)) → AreEntries count (size + 2272) entries → stripped seed entries ≡ Some bodies → AreEntries count size bodies
+stripped-entries : (count size : ℕ) (seed : List ℕ) (entries bodies : List (List ℕ)) → AreEntries count (size + 2272) entries
+    → stripped seed entries ≡ Some bodies → AreEntries count size bodies
 stripped-entries count size seed entries bodies are e =
     let each = (strips_exactly seed entries bodies).0 e in
     record {
@@ -106,14 +106,16 @@ stripped-entries count size seed entries bodies are e =
     }
 
 -- what a turn says
-turn-cases : (seed order : List ℕ) (entries : List (List ℕ)) → (turn_of seed order entries ≡ Abort) ⊎ ((list : List (List ℕ)) × (turn_of seed order entries ≡ Shuffled list))
+turn-cases : (seed order : List ℕ) (entries : List (List ℕ))
+    → (turn_of seed order entries ≡ Abort) ⊎ ((list : List (List ℕ)) × (turn_of seed order entries ≡ Shuffled list))
 unfolding turn_of
 turn-cases seed order entries = elim (cases_Bool (has_equal entries)) [
   | inl twice ↦ inl (cond-true (has_equal entries) Abort (list_or_abort (option_map (in_drawn_order order) (stripped seed entries))) twice)
   | inr apart ↦ by_list (option_map (in_drawn_order order) (stripped seed entries)) (cond-false (has_equal entries) Abort (list_or_abort (option_map (in_drawn_order order) (stripped seed entries))) apart)
 ]
   where
-    by_list : (o : Option (List (List ℕ))) → (if has_equal entries then Abort else list_or_abort (option_map (in_drawn_order order) (stripped seed entries))) ≡ list_or_abort o
+    by_list : (o : Option (List (List ℕ)))
+        → (if has_equal entries then Abort else list_or_abort (option_map (in_drawn_order order) (stripped seed entries))) ≡ list_or_abort o
         → ((if has_equal entries then Abort else list_or_abort (option_map (in_drawn_order order) (stripped seed entries))) ≡ Abort)
         ⊎ ((list : List (List ℕ)) × ((if has_equal entries then Abort else list_or_abort (option_map (in_drawn_order order) (stripped seed entries))) ≡ Shuffled list))
     by_list None e = inl e
@@ -144,7 +146,8 @@ over-is : (c : Configuration) (stage shuffle k : ℕ) (o : Option (List (List �
 over-is c stage shuffle k None few lt each = record { form = tt; bytes = IsBytes-nil }
 over-is c stage shuffle k (Some entries) few lt each = turn-row c stage shuffle k (own_key_seed c (outer_place shuffle)) (own_order_seed c shuffle) entries few lt (each entries refl)
 
-turn-is : (c : Configuration) (stage shuffle k : ℕ) (past : List Post) → CanSay c stage past → kind_of_stage (shape_in c) stage ≡ Some (Shuffle shuffle k) → IsRow c stage (Shuffle shuffle k) (turn_row c (contents_of past) shuffle)
+turn-is : (c : Configuration) (stage shuffle k : ℕ) (past : List Post) → CanSay c stage past
+    → kind_of_stage (shape_in c) stage ≡ Some (Shuffle shuffle k) → IsRow c stage (Shuffle shuffle k) (turn_row c (contents_of past) shuffle)
 unfolding turn_row
 turn-is c stage shuffle k past can kind =
     let at = turn-at (shape_in c) stage shuffle k kind in
@@ -187,13 +190,15 @@ posts-bytes c stage past is = all-from (λ post. IsBytes (post_spelling post)) p
 all-posts : (P : List ℕ → Type 0) (posts : List Post) → AllByRecursion (λ post. P (post_spelling post)) posts → AllByRecursion P (written posts)
 all-posts P posts all = all-map-from P post_spelling posts all
 
-stage-posts : (P : List ℕ → Type 0) (shape : Shape) (posts : List Post) (stage : ℕ) → AllByRecursion (λ post. P (post_spelling post)) posts → AllByRecursion P (written (posts_at shape posts stage))
+stage-posts : (P : List ℕ → Type 0) (shape : Shape) (posts : List Post) (stage : ℕ) → AllByRecursion (λ post. P (post_spelling post)) posts
+    → AllByRecursion P (written (posts_at shape posts stage))
 stage-posts P shape posts stage all =
     all-posts P (posts_at shape posts stage) (all-take (λ post. P (post_spelling post)) (slots_before shape (stage + 1) - slots_before shape stage) (drop (slots_before shape stage) posts)
     (all-drop (λ post. P (post_spelling post)) (slots_before shape stage) posts all))
 
 -- as many votes as members stand before a closing stage
-votes-count : (shape : Shape) (posts : List Post) (stage : ℕ) (kind vote : StageKind) → kind_of_stage shape stage ≡ Some kind → vote_of kind ≡ Some vote → senders_of shape vote ≡ shape.members
+votes-count : (shape : Shape) (posts : List Post) (stage : ℕ) (kind vote : StageKind) → kind_of_stage shape stage ≡ Some kind
+    → vote_of kind ≡ Some vote → senders_of shape vote ≡ shape.members
     → length posts ≡ slots_before shape stage → length (written (posts_at shape posts (stage - 1))) ≡ shape.members
 votes-count shape posts stage kind vote at closes all whole =
     let follows = closing-follows shape stage kind vote at closes in
@@ -207,7 +212,8 @@ votes-count shape posts stage kind vote at closes all whole =
     ∙ length-take-le (b - a) (drop a posts) (omega (arith, whole, end, next, length-drop a posts))
     ∙ omega (arith, next, all)
 
-final-is : (c : Configuration) (stage shuffle : ℕ) (past : List Post) (inner outer opening : List ℕ) → IsPastAt c stage past → kind_of_stage (shape_in c) stage ≡ Some (Final shuffle)
+final-is : (c : Configuration) (stage shuffle : ℕ) (past : List Post) (inner outer opening : List ℕ) → IsPastAt c stage past
+    → kind_of_stage (shape_in c) stage ≡ Some (Final shuffle)
     → IsItem 32 inner → IsItem 32 outer → IsItem 32 opening → IsRow c stage (Final shuffle) (final_row (shape_in c) past stage inner outer opening)
 unfolding final_row
 final-is c stage shuffle past inner outer opening is kind i o p =
@@ -227,7 +233,8 @@ final-is c stage shuffle past inner outer opening is kind i o p =
           })
     ]
 
-confirm-is : (c : Configuration) (stage : ℕ) (past : List Post) → IsPastAt c stage past → kind_of_stage (shape_in c) stage ≡ Some Confirm → IsRow c stage Confirm (confirm_row (shape_in c) past stage)
+confirm-is : (c : Configuration) (stage : ℕ) (past : List Post) → IsPastAt c stage past → kind_of_stage (shape_in c) stage ≡ Some Confirm
+    → IsRow c stage Confirm (confirm_row (shape_in c) past stage)
 unfolding confirm_row
 confirm-is c stage past is kind =
     let short = posts-short c stage past is in

@@ -1,7 +1,7 @@
 -- What a member submits, and the pads that it sends, over a past of posts that check.
-use Rattle.std.proofs.Common.{◌≡◌, ℕ, zero, suc, ◌+◌, ◌-◌, ◌*◌, ◌<◌, ◌≤◌, true, false, List, [], ◌∷◌, length, get_or, map, replicate, Option, Some, None, ap, sym, ◌∙◌, refl, subst, arith, inl, inr}
+use Rattle.std.proofs.Common.{◌≡◌, ℕ, ◌+◌, ◌-◌, ◌*◌, ◌<◌, ◌≤◌, true, false, List, [], ◌∷◌, length, get_or, map, Option, Some, None, sym, ◌∙◌, refl, subst, arith, inl, inr}
 use Rattle.std.specs.Prelude.{◌⊎◌, All, ◌==◌, bytes_eq, option_map, option_and_then, unwrap_or, slice_index_or, if◌then◌else◌}
-use Rattle.std.specs.List.{AllByRecursion, enumerate_from, range_with_len}
+use Rattle.std.specs.List.{enumerate_from}
 use Rattle.std.specs.Option.{option_map_or}
 use Rattle.std.proofs.lemmas.Bool.{cases_Bool, cond-false, cond-true}
 use Rattle.std.proofs.lemmas.List.{length-map, length-replicate}
@@ -11,7 +11,6 @@ use Rattle.wire_core.specs.Bytes.{IsBytes}
 use Rattle.wire_core.specs.Hash.{derived}
 use Rattle.wire_core.proofs.AnswerLemmas.{first_below-found}
 use Rattle.wire_core.proofs.ByteLists.{IsBytes-cons, IsBytes-nil, hash_bytes}
-use Rattle.lms_tree.specs.Secret.{own_public}
 use Rattle.phase_message.specs.declared.post.Post.{Post}
 use Rattle.phase_message.specs.Body.{level}
 use Rattle.phase_message.proofs.SlotBounds.{slot-bounds}
@@ -29,9 +28,8 @@ use Rattle.bulk_descriptor.proofs.MakingLemmas.{length-own_pad, length-pad_of}
 use Rattle.bulk_descriptor.proofs.SpellingLemmas.{in_grammar, passes, read_passes, spelled_are_read}
 use Rattle.accusation.specs.Item.{NamesWithin, accusation_by, empty_item, first_in, item_accusation, item_row}
 use Rattle.accusation.proofs.AccusationLemmas.{first_in_cases, states_name_members}
-use Rattle.layer_cipher.proofs.WrapLemmas.{wrapping_adds}
 use Rattle.layer_cipher.specs.Layer.{wrapping_of}
-use Rattle.shuffle_core.specs.Shuffle.{layer_seeds_of, opened_item}
+use Rattle.shuffle_core.specs.Shuffle.{opened_item}
 use Rattle.shuffle_core.proofs.LayerSeeds.{seeds_are_messages}
 use Rattle.shuffle_core.proofs.Submitted.{submission_adds}
 use Rattle.shuffle_blame.specs.Replay.{outer_place}
@@ -41,7 +39,6 @@ use Rattle.round_spec.specs.OwnRows.{CanSay, IsPastAt}
 use Rattle.round_spec.specs.Runs.{IsConfiguration}
 use Rattle.round_spec.proofs.PastForms.{list-is}
 use Rattle.round_spec.proofs.SealedBytes.{descriptor-bytes, own-pad-bytes, pad-bytes, wrapping-bytes, zero-bytes}
-use Rattle.round_spec.proofs.Turns.{IsShuffle}
 
 -- ---- the own number
 
@@ -64,7 +61,8 @@ keys-count c past place = length-map-range_with_len (key_said (shape_in c) past 
 seeds-count : (c : Configuration) → length (own_pad_seeds c) ≡ (shape_in c).members
 seeds-count c = length-map-range_with_len (derived c.fresh c.round 12) 1 (shape_in c).members
 
-can-make : (c : Configuration) (past : List (List ℕ)) → IsConfiguration c → IsMember c → CanMake (shape_in c).members (keys_said (shape_in c) past bulk_place) (own_pad_seeds c) c.number c.message
+can-make : (c : Configuration) (past : List (List ℕ)) → IsConfiguration c → IsMember c
+    → CanMake (shape_in c).members (keys_said (shape_in c) past bulk_place) (own_pad_seeds c) c.number c.message
 can-make c past is member =
     let most = member.most in record {
       least = member.least;
@@ -76,7 +74,8 @@ can-make c past is member =
       short = is.message;
     }
 
-pub descriptor-long : (c : Configuration) (past : List (List ℕ)) → IsConfiguration c → IsMember c → length (own_descriptor c past) ≡ 36 + 2272 * (shape_in c).members
+pub descriptor-long : (c : Configuration) (past : List (List ℕ)) → IsConfiguration c → IsMember c
+    → length (own_descriptor c past) ≡ 36 + 2272 * (shape_in c).members
 unfolding own_descriptor
 descriptor-long c past is member =
     let n : ℕ = (shape_in c).members in
@@ -90,13 +89,15 @@ own-descriptor-bytes c past = descriptor-bytes (keys_said (shape_in c) past bulk
 
 -- ---- the opened list
 
-opened-entries : (n : ℕ) (seeds : List (List ℕ)) (c : Configuration) (o : Option (List (List ℕ))) → ((list : List (List ℕ)) → o ≡ Some list → length list ≡ (shape_in c).members)
+opened-entries : (n : ℕ) (seeds : List (List ℕ)) (c : Configuration) (o : Option (List (List ℕ)))
+    → ((list : List (List ℕ)) → o ≡ Some list → length list ≡ (shape_in c).members)
     → length (entries_opened (shape_in c) seeds o) ≡ (shape_in c).members
 opened-entries n seeds c None each = length-replicate (shape_in c).members None
 opened-entries n seeds c (Some list) each = length-map list (opened_item seeds) ∙ each list refl
 
 -- as many entries as members are opened
-pub opened-count : (c : Configuration) (stage : ℕ) (past : List Post) → IsPastAt c stage past → (shape_in c).members + 1 < stage → length (items_opened (shape_in c) (contents_of past) 1) ≡ (shape_in c).members
+pub opened-count : (c : Configuration) (stage : ℕ) (past : List Post) → IsPastAt c stage past → (shape_in c).members + 1 < stage
+    → length (items_opened (shape_in c) (contents_of past) 1) ≡ (shape_in c).members
 unfolding items_opened
 opened-count c stage past is late =
     opened-entries 0 (seeds_revealed (shape_in c) (contents_of past) 1) c (list_said (shape_in c) (contents_of past) 1 (shape_in c).members)
@@ -118,7 +119,8 @@ mapped {A} {B} f (Some x) y e = (x, refl, some-is (f x) y e)
     some-is : (a b : B) → (let told : B → Option B = λ z. Some z in told a ≡ told b) → a ≡ b
     some-is a b e = cc
 
-accuses : (own : List ℕ) (opened : List (Option (List ℕ))) (states : List SlotState) (seeds : List (List ℕ)) (a : Accusation) → item_accusation own opened states seeds ≡ Some a → Accuses own opened states seeds a
+accuses : (own : List ℕ) (opened : List (Option (List ℕ))) (states : List SlotState) (seeds : List (List ℕ)) (a : Accusation)
+    → item_accusation own opened states seeds ≡ Some a → Accuses own opened states seeds a
 unfolding item_accusation
 accuses own opened states seeds a e =
     let found = first_below-found (accusation_by own opened states seeds) (length states) a e in
@@ -130,7 +132,8 @@ pub record IsItem (size : ℕ) (item : List ℕ) : Type 0 where
   pub long : length item ≡ size
   pub bytes : IsBytes item
 
-accusation-item : (n : ℕ) (own : List ℕ) (opened : List (Option (List ℕ))) (states : List SlotState) (seeds : List (List ℕ)) (a : Accusation) → n ≤ 8 → length states ≡ n → All (NamesWithin n) states
+accusation-item : (n : ℕ) (own : List ℕ) (opened : List (Option (List ℕ))) (states : List SlotState) (seeds : List (List ℕ)) (a : Accusation) → n ≤ 8
+    → length states ≡ n → All (NamesWithin n) states
     → ((k : ℕ) → k < n → IsItem 32 (get_or seeds k [])) → Accuses own opened states seeds a → IsItem 34 (accusation_spelling a)
 accusation-item n own opened states seeds a few count named each is =
     let names : NamesWithin n (Bad is.first) = subst (NamesWithin n) is.bad (named is.k Empty is.within) in
@@ -145,7 +148,8 @@ accusation-item n own opened states seeds a few count named each is =
       bytes = IsBytes-cons slot (member ∷ seed) small (IsBytes-cons member seed less is.bytes);
     }
 
-item-row : (n : ℕ) (own : List ℕ) (opened : List (Option (List ℕ))) (states : List SlotState) (seeds : List (List ℕ)) → n ≤ 8 → length states ≡ n → All (NamesWithin n) states
+item-row : (n : ℕ) (own : List ℕ) (opened : List (Option (List ℕ))) (states : List SlotState) (seeds : List (List ℕ)) → n ≤ 8 → length states ≡ n
+    → All (NamesWithin n) states
     → ((k : ℕ) → k < n → IsItem 32 (get_or seeds k [])) → IsItem 34 (item_row own opened states seeds)
 unfolding item_row
 item-row n own opened states seeds few count named each = by_accusation (item_accusation own opened states seeds) refl
@@ -196,7 +200,8 @@ own-item c stage past shuffle can late = by_shuffle (cases_Bool (shuffle == 1))
 layers-count : (c : Configuration) (shuffle side : ℕ) → length (own_layer_seeds c shuffle side) ≡ (shape_in c).members
 layers-count c shuffle side = (seeds_are_messages (own_opening c shuffle side) c.round shuffle side c.number (shape_in c).members).0
 
-pub own-submission : (c : Configuration) (stage : ℕ) (past : List Post) (shuffle : ℕ) → CanSay c stage past → ((shuffle == 1) ≡ false → (shape_in c).members + 1 < stage)
+pub own-submission : (c : Configuration) (stage : ℕ) (past : List Post) (shuffle : ℕ) → CanSay c stage past
+    → ((shuffle == 1) ≡ false → (shape_in c).members + 1 < stage)
     → IsItem (level (shape_in c).members shuffle 0) (own_submission c (own_descriptor c (contents_of past)) (contents_of past) shuffle).ciphertext
 unfolding own_submission item_size
 own-submission c stage past shuffle can late =
@@ -214,7 +219,8 @@ own-submission c stage past shuffle can late =
       bytes = wrapping-bytes outer (own_layer_seeds c shuffle 2) (wrapping_of inner (own_layer_seeds c shuffle 1) item) (wrapping-bytes inner (own_layer_seeds c shuffle 1) item is.bytes);
     }
   where
-    layers-long : (n size item inner outer whole : ℕ) → item ≡ size → inner ≡ n → outer ≡ n → whole ≡ item + 2272 * (inner + outer) → whole ≡ size + 2272 * (2 * n - 0)
+    layers-long : (n size item inner outer whole : ℕ) → item ≡ size → inner ≡ n → outer ≡ n → whole ≡ item + 2272 * (inner + outer)
+        → whole ≡ size + 2272 * (2 * n - 0)
     layers-long n size item inner outer whole is first second e = omega (arith, is, first, second, e)
 
 -- ---- the pads that it sends
@@ -247,7 +253,8 @@ read-short n entry d e =
 no-pad : IsPad []
 no-pad = record { short = omega arith; bytes = IsBytes-nil }
 
-other-pad : (n member : ℕ) (seed entry : List ℕ) (o : Option Description) → descriptor_read n entry ≡ o → IsPad (unwrap_or (option_and_then (λ d. pad_found d member seed) o) [])
+other-pad : (n member : ℕ) (seed entry : List ℕ) (o : Option Description) → descriptor_read n entry ≡ o
+    → IsPad (unwrap_or (option_and_then (λ d. pad_found d member seed) o) [])
 other-pad n member seed entry None e = no-pad
 other-pad n member seed entry (Some d) e = by_pad (pad_found d member seed) refl
   where

@@ -1,8 +1,8 @@
 -- What a member says is short enough for a post.
-use Rattle.std.proofs.Common.{◌≡◌, ℕ, zero, suc, ◌+◌, ◌-◌, ◌*◌, ◌<◌, ◌≤◌, true, false, List, [], ◌∷◌, ◌++◌, length, length-append, drop, map, take, Option, Some, None, Ok, ap, sym, ◌∙◌, refl, subst, arith, inl, inr}
+use Rattle.std.proofs.Common.{◌≡◌, ℕ, zero, suc, ◌+◌, ◌-◌, ◌*◌, ◌<◌, ◌≤◌, true, List, [], ◌∷◌, ◌++◌, length, length-append, drop, take, Option, Some, None, ap, sym, ◌∙◌, refl, subst, arith, inl, inr}
 use Rattle.std.specs.Prelude.{◌⊎◌, ◌==◌, if◌then◌else◌}
 use Rattle.std.specs.Int.{to_be_bytes, w32}
-use Rattle.std.specs.List.{AllByRecursion, flat_map, slice_get, slice_range}
+use Rattle.std.specs.List.{AllByRecursion, flat_map, slice_get}
 use Rattle.std.proofs.lemmas.Bool.{cases_Bool, cases_eq, cases_lt, cond-false, cond-true}
 use Rattle.std.proofs.lemmas.Grind.{flat_map-append}
 use Rattle.std.proofs.lemmas.Nat.{mul-le}
@@ -10,19 +10,19 @@ use Rattle.std.proofs.lemmas.List.{drop-map, length-drop, length-map, length-tak
 use Rattle.wire_core.specs.Bytes.{IsBytes, prefixed}
 use Rattle.wire_core.proofs.ByteLists.{IsBytes-back, IsBytes-front, hash_bytes}
 use Rattle.phase_message.specs.declared.content.Body.{Body}
-use Rattle.phase_message.specs.declared.content.Body.TheVariants.{Keys as KeysBody, Submit as SubmitBody, Shuffled, Abort, Go as GoBody, Reveal, Dispute, Pads, Check as CheckBody, Confirm as ConfirmBody, Differ}
+use Rattle.phase_message.specs.declared.content.Body.TheVariants.{Reveal, Dispute, Confirm as ConfirmBody, Differ}
 use Rattle.phase_message.specs.declared.content.Content.{Content}
 use Rattle.phase_message.specs.declared.post.Post.{Post}
 use Rattle.phase_message.specs.declared.stage.Slot.{Slot}
 use Rattle.phase_message.specs.declared.stage.StageKind.{StageKind}
 use Rattle.phase_message.specs.declared.stage.StageKind.TheVariants.{Keys, Submit, Shuffle, Go, Final, Pad, Check, Confirm}
-use Rattle.phase_message.specs.Body.{length_rule, level}
+use Rattle.phase_message.specs.Body.{level}
 use Rattle.phase_message.specs.Grammar.{OfGrammar, body_text, content_text, header_text, kind_number}
 use Rattle.phase_message.specs.Kinds.{IsBodyAt}
 use Rattle.phase_message.specs.Post.{post_spelling}
 use Rattle.phase_message.specs.Shape.{Shape}
-use Rattle.phase_message.specs.Slots.{senders_of, slot_at, slot_number, slots_before, stage_count}
-use Rattle.phase_message.specs.Stages.{is_slot, kind_of_stage}
+use Rattle.phase_message.specs.Slots.{senders_of, slot_at, slots_before, stage_count}
+use Rattle.phase_message.specs.Stages.{kind_of_stage}
 use Rattle.phase_message.proofs.Counts.{slots_next, slots_past}
 use Rattle.phase_message.proofs.Lengths.{fixed-length, pads-length, turn-length}
 use Rattle.phase_message.proofs.SlotBounds.{slot-bounds}
@@ -34,7 +34,6 @@ use Rattle.go_nogo.specs.Rows.{confirm_row, final_row, posts_at, written}
 use Rattle.go_nogo.specs.Votes.{votes_agree}
 use Rattle.go_nogo.proofs.VoteSlots.{get_drop}
 use Rattle.stage_log.specs.Log.{contents_of}
-use Rattle.stage_log.proofs.Views.{slice_get-take}
 use Rattle.round_spec.specs.OwnRows.{CanSay, IsPastAt, OwnContentIsShort, content_due}
 use Rattle.round_spec.specs.Runs.{AllGo, ChecksIn}
 use Rattle.round_spec.specs.Say.{Configuration, content_with, own_body_at, own_body_if, own_content, own_descriptor, own_key_seed, own_opening, shape_in}
@@ -88,12 +87,14 @@ record Assents (n : ℕ) (body : Body) : Type 0 where
   pub count : length (posts_embedded body) ≡ n
   pub bytes : AllByRecursion IsBytes (posts_embedded body)
 
-final-assents : (shape : Shape) (before shuffle : ℕ) (body : Body) → IsBodyAt shape before (Final shuffle) body → IsBytes (body_text body) → is_assent body ≡ true → Assents shape.members body
+final-assents : (shape : Shape) (before shuffle : ℕ) (body : Body) → IsBodyAt shape before (Final shuffle) body → IsBytes (body_text body)
+    → is_assent body ≡ true → Assents shape.members body
 final-assents shape before shuffle (Reveal votes seed) is bytes assents = record { count = is.0.1; bytes = bytes-prefixed votes (IsBytes-front (flat_map prefixed votes) seed bytes) }
 final-assents shape before shuffle (Dispute posts seed opening) is bytes assents = absurd cc
 final-assents shape before shuffle _ is bytes assents = absurd is
 
-final-length : (shape : Shape) (before shuffle : ℕ) (body : Body) → IsBodyAt shape before (Final shuffle) body → is_assent body ≡ true → AllByRecursion (λ v. length v ≤ 9405) (posts_embedded body)
+final-length : (shape : Shape) (before shuffle : ℕ) (body : Body) → IsBodyAt shape before (Final shuffle) body → is_assent body ≡ true
+    → AllByRecursion (λ v. length v ≤ 9405) (posts_embedded body)
     → length (body_text body) ≤ shape.members * 9409 + 32
 final-length shape before shuffle (Reveal votes seed) is assents short =
     let count = ap (λ (n : ℕ). n * 9409) is.0.1 in
@@ -101,12 +102,14 @@ final-length shape before shuffle (Reveal votes seed) is assents short =
 final-length shape before shuffle (Dispute posts seed opening) is assents short = absurd cc
 final-length shape before shuffle _ is assents short = absurd is
 
-confirm-assents : (shape : Shape) (before : ℕ) (body : Body) → IsBodyAt shape before Confirm body → IsBytes (body_text body) → is_assent body ≡ true → Assents shape.members body
+confirm-assents : (shape : Shape) (before : ℕ) (body : Body) → IsBodyAt shape before Confirm body → IsBytes (body_text body) → is_assent body ≡ true
+    → Assents shape.members body
 confirm-assents shape before (ConfirmBody votes) is bytes assents = record { count = is.1; bytes = bytes-prefixed votes bytes }
 confirm-assents shape before (Differ posts) is bytes assents = absurd cc
 confirm-assents shape before _ is bytes assents = absurd is
 
-confirm-length : (shape : Shape) (before : ℕ) (body : Body) → IsBodyAt shape before Confirm body → is_assent body ≡ true → AllByRecursion (λ v. length v ≤ 9405) (posts_embedded body)
+confirm-length : (shape : Shape) (before : ℕ) (body : Body) → IsBodyAt shape before Confirm body → is_assent body ≡ true
+    → AllByRecursion (λ v. length v ≤ 9405) (posts_embedded body)
     → length (body_text body) ≤ shape.members * 9409
 confirm-length shape before (ConfirmBody votes) is assents short =
     let count = ap (λ (n : ℕ). n * 9409) is.1 in
@@ -116,7 +119,8 @@ confirm-length shape before _ is assents short = absurd is
 
 -- ---- contents that embed nothing
 
-open-length : (shape : Shape) (x : Content) (kind : StageKind) → 1 ≤ shape.members → OfGrammar shape x → kind_of_stage shape x.header.stage ≡ Some kind → (IsClosingKind kind → ⊥)
+open-length : (shape : Shape) (x : Content) (kind : StageKind) → 1 ≤ shape.members → OfGrammar shape x
+    → kind_of_stage shape x.header.stage ≡ Some kind → (IsClosingKind kind → ⊥)
     → length (content_text x) ≤ longest shape kind
 open-length shape x Keys some is at open_kind = omega (arith, fixed-length shape x Keys is at (omega arith))
 open-length shape x (Submit shuffle) some is at open_kind =
@@ -148,7 +152,8 @@ record ShortClosing (c : Configuration) (content : Content) : Type 0 where
   pub assents : is_assent content.body ≡ true
   pub short : AllByRecursion (λ v. length v ≤ 9405) (posts_embedded content.body)
 
-short-closing : (c : Configuration) (later number : ℕ) (past : List Post) (slot : Slot) (post : Post) → GoesOn c later past → slot_at (shape_in c) number ≡ Some slot → slice_get past number ≡ Some post
+short-closing : (c : Configuration) (later number : ℕ) (past : List Post) (slot : Slot) (post : Post) → GoesOn c later past
+    → slot_at (shape_in c) number ≡ Some slot → slice_get past number ≡ Some post
     → slot.stage < later → ClosingKind (shape_in c) slot.stage → (said : IsSaidIn c slot post) → ClosingKind (shape_in c) said.content.header.stage
     → (is_assent said.content.body ≡ true → Assents (shape_in c).members said.content.body) → ShortClosing c said.content
 short-closing c later number past slot post on at stands lt k said own assents =
@@ -161,22 +166,27 @@ short-closing c later number past slot post on at stands lt k said own assents =
       short = votes-short c.roster c.round said.content agreed.posts own agreed.assents (let count = votes.count in omega (arith, count)) votes.bytes agreed.embeds;
     }
 
-post-length : (c : Configuration) (later number : ℕ) (past : List Post) (slot : Slot) (post : Post) (kind : StageKind) → GoesOn c later past → slot_at (shape_in c) number ≡ Some slot → slice_get past number ≡ Some post
+post-length : (c : Configuration) (later number : ℕ) (past : List Post) (slot : Slot) (post : Post) (kind : StageKind) → GoesOn c later past
+    → slot_at (shape_in c) number ≡ Some slot → slice_get past number ≡ Some post
     → ChecksIn c slot post → slot.stage < later → kind_of_stage (shape_in c) slot.stage ≡ Some kind → length post.content ≤ longest (shape_in c) kind
 post-length c later number past slot post kind on at stands checks lt kind_is =
     let said = said-there c slot post checks in
     subst (λ (bytes : List ℕ). length bytes ≤ longest (shape_in c) kind) (sym said.spelled) (by_kind said kind kind_is)
   where
-    here : (said : IsSaidIn c slot post) (k : StageKind) → kind_of_stage (shape_in c) slot.stage ≡ Some k → kind_of_stage (shape_in c) said.content.header.stage ≡ Some k
+    here : (said : IsSaidIn c slot post) (k : StageKind) → kind_of_stage (shape_in c) slot.stage ≡ Some k
+        → kind_of_stage (shape_in c) said.content.header.stage ≡ Some k
     here said k e = ap (kind_of_stage (shape_in c)) said.stage ∙ e
 
-    form : (said : IsSaidIn c slot post) (k : StageKind) → kind_of_stage (shape_in c) slot.stage ≡ Some k → IsBodyAt (shape_in c) (slots_before (shape_in c) said.content.header.stage) k said.content.body
+    form : (said : IsSaidIn c slot post) (k : StageKind) → kind_of_stage (shape_in c) slot.stage ≡ Some k
+        → IsBodyAt (shape_in c) (slots_before (shape_in c) said.content.header.stage) k said.content.body
     form said k e = kind-body (shape_in c) said.content.header.stage k said.content.body (ap (kind_of_stage (shape_in c)) said.stage ∙ e) said.grammar.1
 
-    closing : (said : IsSaidIn c slot post) (k : StageKind) → kind_of_stage (shape_in c) slot.stage ≡ Some k → (IsClosingKind k → ⊥) → length (content_text said.content) ≤ longest (shape_in c) k
+    closing : (said : IsSaidIn c slot post) (k : StageKind) → kind_of_stage (shape_in c) slot.stage ≡ Some k → (IsClosingKind k → ⊥)
+        → length (content_text said.content) ≤ longest (shape_in c) k
     closing said k e open_kind = open-length (shape_in c) said.content k on.some said.grammar (ap (kind_of_stage (shape_in c)) said.stage ∙ e) open_kind
 
-    by_kind : (said : IsSaidIn c slot post) (k : StageKind) → kind_of_stage (shape_in c) slot.stage ≡ Some k → length (content_text said.content) ≤ longest (shape_in c) k
+    by_kind : (said : IsSaidIn c slot post) (k : StageKind) → kind_of_stage (shape_in c) slot.stage ≡ Some k
+        → length (content_text said.content) ≤ longest (shape_in c) k
     by_kind said (Final shuffle) e =
         let is = form said (Final shuffle) e in
         let before : ℕ = slots_before (shape_in c) said.content.header.stage in
@@ -223,7 +233,8 @@ items-long w (item ∷ items) all =
     grind (arith, length-append (prefixed item) (flat_map prefixed items), length-append (to_be_bytes w32 (length item)) item, items-long w items all.1)
 
 -- the slot of a place among those of a stage is of that stage
-stage-of : (shape : Shape) (slot : Slot) (stage number : ℕ) → slot_at shape number ≡ Some slot → slots_before shape stage ≤ number → number < slots_before shape (stage + 1) → slot.stage ≡ stage
+stage-of : (shape : Shape) (slot : Slot) (stage number : ℕ) → slot_at shape number ≡ Some slot → slots_before shape stage ≤ number
+    → number < slots_before shape (stage + 1) → slot.stage ≡ stage
 stage-of shape slot stage number at first last =
     let there = slot_at-is shape number slot at in
     let within = slot_number-within shape slot.stage slot.sender there.0 in
@@ -243,7 +254,8 @@ take-get (y ∷ ys) (suc n) zero x e = (omega arith, e)
 take-get (y ∷ ys) (suc n) (suc k) x e = let more = take-get ys n k x e in (omega (arith, more.0), more.1)
 
 -- the posts of one stage
-part-long : (c : Configuration) (later stage : ℕ) (past : List Post) (kind : StageKind) → GoesOn c later past → stage < later → kind_of_stage (shape_in c) stage ≡ Some kind
+part-long : (c : Configuration) (later stage : ℕ) (past : List Post) (kind : StageKind) → GoesOn c later past → stage < later
+    → kind_of_stage (shape_in c) stage ≡ Some kind
     → length (flat_map prefixed (written (take (senders_of (shape_in c) kind) (drop (slots_before (shape_in c) stage) past)))) ≤ senders_of (shape_in c) kind * (9332 + longest (shape_in c) kind)
 part-long c later stage past kind on lt e =
     let shape : Shape = shape_in c in
@@ -288,7 +300,8 @@ before-long c later (suc stage) past on le = by_kind (kind_of_stage (shape_in c)
     embedded : ℕ → ℕ
     embedded n = length (flat_map prefixed (written (take n past)))
 
-    by_kind : (o : Option StageKind) → kind_of_stage (shape_in c) stage ≡ o → length (flat_map prefixed (written (take (slots_before (shape_in c) stage) past))) ≤ sum_before (shape_in c) stage
+    by_kind : (o : Option StageKind) → kind_of_stage (shape_in c) stage ≡ o
+        → length (flat_map prefixed (written (take (slots_before (shape_in c) stage) past))) ≤ sum_before (shape_in c) stage
         → length (flat_map prefixed (written (take (slots_before (shape_in c) (suc stage)) past))) ≤ sum_before (shape_in c) stage + stage_sum (shape_in c) (kind_of_stage (shape_in c) stage)
     by_kind None e less =
         let next : suc stage ≡ stage + 1 = omega arith in
@@ -330,13 +343,15 @@ sums n least most =
       ]
     ]
   where
-    at_members : (n m sum : ℕ) → n ≡ m → sum_before (record { version = 1; members = m }) (2 * m + 9) ≡ sum → sum ≤ 11539784 → sum_before (record { version = 1; members = n }) (2 * n + 9) ≤ 11539784
+    at_members : (n m sum : ℕ) → n ≡ m → sum_before (record { version = 1; members = m }) (2 * m + 9) ≡ sum → sum ≤ 11539784
+        → sum_before (record { version = 1; members = n }) (2 * n + 9) ≤ 11539784
     at_members n m sum same is small =
         let e = ap (λ (k : ℕ). sum_before (record { version = 1; members = k }) (2 * k + 9)) same in
         omega (arith, e, is, small)
 
 -- so much is embedded at most
-sum-most : (shape : Shape) (stage : ℕ) → shape.version ≡ 1 → 2 ≤ shape.members → shape.members ≤ 8 → stage < stage_count shape → sum_before shape stage ≤ 11539784
+sum-most : (shape : Shape) (stage : ℕ) → shape.version ≡ 1 → 2 ≤ shape.members → shape.members ≤ 8 → stage < stage_count shape
+    → sum_before shape stage ≤ 11539784
 sum-most shape stage version least most lt =
     let rest : ℕ = 2 * shape.members + 9 - stage in
     let whole : stage + rest ≡ 2 * shape.members + 9 = omega (arith, lt) in
@@ -377,7 +392,8 @@ drop-less zero items = omega arith
 drop-less (suc n) [] = omega arith
 drop-less (suc n) (item ∷ items) = omega (arith, length-append (prefixed item) (flat_map prefixed items), drop-less n items)
 
-part-less : (shape : Shape) (posts : List Post) (stage : ℕ) → length (flat_map prefixed (written (posts_at shape posts stage))) ≤ length (flat_map prefixed (written posts))
+part-less : (shape : Shape) (posts : List Post) (stage : ℕ)
+    → length (flat_map prefixed (written (posts_at shape posts stage))) ≤ length (flat_map prefixed (written posts))
 part-less shape posts stage =
     let a : ℕ = slots_before shape stage in
     let b : ℕ = slots_before shape (stage + 1) in
@@ -397,7 +413,8 @@ extra-final shape past stage inner outer opening i o p = elim (cases_Bool (votes
       omega (arith, ap (λ (b : Body). length (body_text b)) row, length-append (flat_map prefixed (written past)) (outer ++ opening), length-append outer opening, o, p)
 ]
 
-extra-confirm : (shape : Shape) (past : List Post) (stage : ℕ) → length (body_text (confirm_row shape past stage)) ≤ length (flat_map prefixed (written past)) + 64
+extra-confirm : (shape : Shape) (past : List Post) (stage : ℕ)
+    → length (body_text (confirm_row shape past stage)) ≤ length (flat_map prefixed (written past)) + 64
 unfolding confirm_row
 extra-confirm shape past stage = elim (cases_Bool (votes_agree shape (contents_of past) stage)) [
   | inl agree ↦
@@ -427,7 +444,8 @@ closing-or-open Pad = inr (λ is. is)
 closing-or-open Check = inr (λ is. is)
 
 -- a past as a whole is what stands before its stage
-whole-past : (c : Configuration) (stage : ℕ) (past : List Post) → CanSay c stage past → AllGo c past stage → length (flat_map prefixed (written past)) ≤ 11539784
+whole-past : (c : Configuration) (stage : ℕ) (past : List Post) → CanSay c stage past → AllGo c past stage
+    → length (flat_map prefixed (written past)) ≤ 11539784
 whole-past c stage past can goes =
     let member = is-member c stage past can in
     let on : GoesOn c stage past = record { is = can.past_is; some = (let least = member.least in omega arith); goes = goes } in

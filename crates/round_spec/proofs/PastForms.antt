@@ -1,15 +1,15 @@
 -- What stands in the slots of a past of posts that check.
-use Rattle.std.proofs.Common.{◌≡◌, ℕ, zero, suc, ◌+◌, ◌-◌, ◌*◌, ◌<◌, ◌≤◌, ◌^◌, true, false, List, [], ◌∷◌, ◌++◌, length, get_or, length-append, map, Option, Some, None, Ok, ap, sym, ◌∙◌, refl, subst, arith, rules, inl, inr}
-use Rattle.std.specs.Prelude.{option_map, slice_index_or}
+use Rattle.std.proofs.Common.{◌≡◌, ℕ, zero, suc, ◌+◌, ◌<◌, ◌≤◌, ◌^◌, true, List, [], ◌∷◌, ◌++◌, length, get_or, length-append, map, Option, Some, Ok, ap, sym, ◌∙◌, refl, subst, arith, rules}
+use Rattle.std.specs.Prelude.{option_map}
 use Rattle.std.specs.Int.{to_be_bytes, w32}
-use Rattle.std.specs.List.{AllByRecursion, flat_map, range_with_len, slice_get}
-use Rattle.std.proofs.lemmas.Bool.{cases_eq, cases_lt, eq-eqb}
+use Rattle.std.specs.List.{AllByRecursion, range_with_len, slice_get}
+use Rattle.std.proofs.lemmas.Bool.{eq-eqb}
 use Rattle.std.proofs.lemmas.List.FromFn.{length-map-range_with_len}
 use Rattle.std.proofs.lemmas.Option.{get_or_from_slice_get, slice_get-map, slice_get_within}
 use Rattle.wire_core.specs.Bytes.{IsBytes}
 use Rattle.wire_core.proofs.ByteLists.{IsBytes-append, IsBytes-back, IsBytes-to_be_bytes}
 use Rattle.phase_message.specs.declared.content.Body.{Body}
-use Rattle.phase_message.specs.declared.content.Body.TheVariants.{Keys, Submit, Shuffled, Abort, Go, Reveal, Dispute, Pads, Check, Confirm, Differ}
+use Rattle.phase_message.specs.declared.content.Body.TheVariants.{Submit, Shuffled, Abort}
 use Rattle.phase_message.specs.declared.content.Content.{Content}
 use Rattle.phase_message.specs.declared.header.Header.{Header}
 use Rattle.phase_message.specs.declared.post.Post.{Post}
@@ -25,7 +25,7 @@ use Rattle.phase_message.specs.Shape.{Shape}
 use Rattle.phase_message.specs.Slots.{slot_at, slot_number, slots_before, slots_of}
 use Rattle.phase_message.specs.Stages.{is_member, is_slot, kind_of_stage, speaks}
 use Rattle.phase_message.proofs.BodyKinds.{bodies_are_of_kinds}
-use Rattle.phase_message.proofs.SlotLists.{length-slots_of, slot_at-is, slot_at-number, slot_number-within, slots_before-most, slots_before-rises}
+use Rattle.phase_message.proofs.SlotLists.{length-slots_of, slot_at-number, slot_number-within, slots_before-most, slots_before-rises}
 use Rattle.phase_message.proofs.Whole.{content-is_spelled}
 use Rattle.signed_post.specs.Admission.{Admitted}
 use Rattle.signed_post.proofs.Admits.{admits_exactly}
@@ -37,7 +37,7 @@ use Rattle.round_spec.specs.OwnRows.{IsPastAt}
 use Rattle.round_spec.specs.Runs.{ChecksIn}
 use Rattle.round_spec.proofs.GoLists.{there}
 use Rattle.round_spec.proofs.Rows.{checks-parts}
-use Rattle.round_spec.proofs.SealedBytes.{all-map, bytes-flat}
+use Rattle.round_spec.proofs.SealedBytes.{bytes-flat}
 use Rattle.round_spec.proofs.Turns.{IsShuffle, submit-kind, turn-kind}
 
 -- ---- posts
@@ -48,7 +48,8 @@ pub record StandsThere (c : Configuration) (number : ℕ) (post : Post) : Type 0
   pub at : slot_at (shape_in c) number ≡ Some slot
   pub checks : ChecksIn c slot post
 
-pub stands-there : (c : Configuration) (stage : ℕ) (past : List Post) (number : ℕ) (post : Post) → IsPastAt c stage past → slice_get past number ≡ Some post → StandsThere c number post
+pub stands-there : (c : Configuration) (stage : ℕ) (past : List Post) (number : ℕ) (post : Post) → IsPastAt c stage past
+    → slice_get past number ≡ Some post → StandsThere c number post
 stands-there c stage past number post is at =
     let within = slice_get_within past number post at in
     let slot = there (slots_of (shape_in c)) number (omega (arith, within, is.whole, slots_before-most (shape_in c) stage, length-slots_of (shape_in c))) in
@@ -107,7 +108,8 @@ pub record IsSaid (c : Configuration) (past : List Post) (stage member : ℕ) : 
   pub grammar : IsBody (shape_in c) stage body
   pub bytes : IsBytes (body_text body)
 
-pub past-said : (c : Configuration) (later stage member : ℕ) (past : List Post) → IsPastAt c later past → is_slot (shape_in c) stage member ≡ true → stage < later → IsSaid c past stage member
+pub past-said : (c : Configuration) (later stage member : ℕ) (past : List Post) → IsPastAt c later past → is_slot (shape_in c) stage member ≡ true
+    → stage < later → IsSaid c past stage member
 unfolding said_in
 past-said c later stage member past is speaks_there lt =
     let shape = shape_in c in
@@ -125,7 +127,8 @@ past-said c later stage member past is speaks_there lt =
     }
 
 -- the body of the kind of its stage
-pub kind-body : (shape : Shape) (stage : ℕ) (kind : StageKind) (body : Body) → kind_of_stage shape stage ≡ Some kind → IsBody shape stage body → IsBodyAt shape (slots_before shape stage) kind body
+pub kind-body : (shape : Shape) (stage : ℕ) (kind : StageKind) (body : Body) → kind_of_stage shape stage ≡ Some kind → IsBody shape stage body
+    → IsBodyAt shape (slots_before shape stage) kind body
 kind-body shape stage kind body at is = (bodies_are_of_kinds shape stage kind body at).0 is
 
 -- ---- lists
@@ -136,15 +139,18 @@ pub record AreEntries (many size : ℕ) (entries : List (List ℕ)) : Type 0 whe
   pub count : length entries ≡ many
   pub bytes : AllByRecursion IsBytes entries
 
-submitted-long : (shape : Shape) (before shuffle : ℕ) (body : Body) → IsBodyAt shape before (AtSubmit shuffle) body → length (ciphertext_of body) ≡ level shape.members shuffle 0
+submitted-long : (shape : Shape) (before shuffle : ℕ) (body : Body) → IsBodyAt shape before (AtSubmit shuffle) body
+    → length (ciphertext_of body) ≡ level shape.members shuffle 0
 submitted-long shape before shuffle (Submit ciphertext) is = is
 submitted-long shape before shuffle _ is = absurd is
 
-submitted-bytes : (shape : Shape) (before shuffle : ℕ) (body : Body) → IsBodyAt shape before (AtSubmit shuffle) body → IsBytes (body_text body) → IsBytes (ciphertext_of body)
+submitted-bytes : (shape : Shape) (before shuffle : ℕ) (body : Body) → IsBodyAt shape before (AtSubmit shuffle) body → IsBytes (body_text body)
+    → IsBytes (ciphertext_of body)
 submitted-bytes shape before shuffle (Submit ciphertext) is bytes = bytes
 submitted-bytes shape before shuffle _ is bytes = absurd is
 
-list-entries : (shape : Shape) (before shuffle k : ℕ) (body : Body) (list : List (List ℕ)) → IsBodyAt shape before (AtShuffle shuffle k) body → IsBytes (body_text body) → list_of body ≡ Some list
+list-entries : (shape : Shape) (before shuffle k : ℕ) (body : Body) (list : List (List ℕ)) → IsBodyAt shape before (AtShuffle shuffle k) body
+    → IsBytes (body_text body) → list_of body ≡ Some list
     → AreEntries shape.members (level shape.members shuffle k) list
 list-entries shape before shuffle k (Shuffled entries) list is bytes e =
     subst (AreEntries shape.members (level shape.members shuffle k)) (some-list entries list e) (record { long = is.0; count = is.1; bytes = bytes-flat entries bytes })
@@ -158,7 +164,8 @@ list-entries shape before shuffle k _ list is bytes e = absurd is
 is-member : (n member : ℕ) → 1 ≤ member → member ≤ n → is_member n member ≡ true
 is-member n member first last = search rules
 
-submit-speaks : (shape : Shape) (shuffle member : ℕ) → IsShuffle shuffle → 1 ≤ member → member ≤ shape.members → is_slot shape (submit_stage shape shuffle) member ≡ true
+submit-speaks : (shape : Shape) (shuffle member : ℕ) → IsShuffle shuffle → 1 ≤ member → member ≤ shape.members
+    → is_slot shape (submit_stage shape shuffle) member ≡ true
 submit-speaks shape shuffle member is least most =
     ap (λ (o : Option StageKind). speaks shape o member) (submit-kind shape shuffle is) ∙ is-member shape.members member least most
 
@@ -179,7 +186,8 @@ some-entries a b e = cc
 abbrev submission_in : Configuration → List Post → ℕ → ℕ → List ℕ
 submission_in c past shuffle member = ciphertext_of (said_in (shape_in c) (contents_of past) (submit_stage (shape_in c) shuffle) member)
 
-submission-is : (c : Configuration) (stage : ℕ) (past : List Post) (shuffle member : ℕ) → IsPastAt c stage past → IsShuffle shuffle → submit_stage (shape_in c) shuffle < stage → 1 ≤ member → member ≤ (shape_in c).members
+submission-is : (c : Configuration) (stage : ℕ) (past : List Post) (shuffle member : ℕ) → IsPastAt c stage past → IsShuffle shuffle
+    → submit_stage (shape_in c) shuffle < stage → 1 ≤ member → member ≤ (shape_in c).members
     → (length (submission_in c past shuffle member) ≡ level (shape_in c).members shuffle 0) × IsBytes (submission_in c past shuffle member)
 submission-is c stage past shuffle member is shuffle_is lt least most =
     let shape = shape_in c in
@@ -191,7 +199,8 @@ submission-is c stage past shuffle member is shuffle_is lt least most =
     )
 
 -- the submissions before the first turn
-submissions-are : (c : Configuration) (stage : ℕ) (past : List Post) (shuffle : ℕ) → IsPastAt c stage past → IsShuffle shuffle → submit_stage (shape_in c) shuffle < stage
+submissions-are : (c : Configuration) (stage : ℕ) (past : List Post) (shuffle : ℕ) → IsPastAt c stage past → IsShuffle shuffle
+    → submit_stage (shape_in c) shuffle < stage
     → AreEntries (shape_in c).members (level (shape_in c).members shuffle 0) (submissions_said (shape_in c) (contents_of past) shuffle)
 submissions-are c stage past shuffle is shuffle_is lt = record {
   long = all-range (λ entry. length entry ≡ level (shape_in c).members shuffle 0) (submission_in c past shuffle) 1 (shape_in c).members
@@ -201,7 +210,8 @@ submissions-are c stage past shuffle is shuffle_is lt = record {
 }
 
 -- the list after some turns, where none of them said Abort
-pub list-is : (c : Configuration) (stage : ℕ) (past : List Post) (shuffle turn : ℕ) (entries : List (List ℕ)) → IsPastAt c stage past → IsShuffle shuffle → turn ≤ (shape_in c).members
+pub list-is : (c : Configuration) (stage : ℕ) (past : List Post) (shuffle turn : ℕ) (entries : List (List ℕ)) → IsPastAt c stage past
+    → IsShuffle shuffle → turn ≤ (shape_in c).members
     → submit_stage (shape_in c) shuffle + turn < stage → list_said (shape_in c) (contents_of past) shuffle turn ≡ Some entries → AreEntries (shape_in c).members (level (shape_in c).members shuffle turn) entries
 list-is c stage past shuffle zero entries is shuffle_is most lt e =
     subst (AreEntries (shape_in c).members (level (shape_in c).members shuffle 0)) (some-entries _ entries e) (submissions-are c stage past shuffle is shuffle_is (omega (arith, lt)))

@@ -1,11 +1,9 @@
 -- What a member makes of bytes are bytes: layers, descriptors, pads and items.
-use Rattle.std.proofs.Common.{◌≡◌, ℕ, zero, suc, ◌+◌, ◌-◌, ◌*◌, ◌/◌, ◌%◌, ◌^◌, ◌<◌, ◌≤◌, List, [], ◌∷◌, ◌++◌, length, get_or, map, take, drop, replicate, Option, Some, None, ap, sym, ◌∙◌, refl, subst, arith, inl, inr}
-use Rattle.std.specs.Prelude.{All, bit_xor, bytes_eq, ◌==◌, option_map, option_and_then, unwrap_or, slice_index_or, zip, if◌then◌else◌}
-use Rattle.std.specs.List.{AllByRecursion, AllZip, concat, enumerate_from, flat_map, range_with_len, slice_get}
+use Rattle.std.proofs.Common.{◌≡◌, ℕ, zero, suc, ◌+◌, ◌/◌, ◌%◌, ◌<◌, List, [], ◌∷◌, ◌++◌, length, map, take, drop, replicate, Some, ap, sym, refl, subst, arith}
+use Rattle.std.specs.Prelude.{All, bit_xor, zip}
+use Rattle.std.specs.List.{AllByRecursion, AllZip, concat, flat_map, range_with_len, slice_get}
 use Rattle.std.specs.Int.{to_be_bytes, w32}
-use Rattle.std.specs.Option.{option_map_or}
-use Rattle.std.proofs.lemmas.Bool.{cases_Bool, cond-false, cond-true}
-use Rattle.std.proofs.lemmas.List.{length-map, take-append-drop}
+use Rattle.std.proofs.lemmas.List.{take-append-drop}
 use Rattle.std.proofs.lemmas.Nat.{xor_of_8}
 use Rattle.wire_core.specs.Bytes.{IsBytes, prefixed}
 use Rattle.wire_core.specs.declared.tag.Tag.TheVariants.{LayerStream, LayerTag, Message, PadHash, PadStream, RingCoins}
@@ -20,7 +18,7 @@ use Rattle.ring_encrypt.proofs.OpeningLemmas.{sealed_parts, u_of, v_of}
 use Rattle.layer_cipher.specs.Layer.{Opens, layer_of, masked, wrapping_of}
 use Rattle.layer_cipher.specs.Stripping.{HasBody}
 use Rattle.layer_cipher.proofs.LayerLemmas.{layer_adds, masked_twice}
-use Rattle.bulk_descriptor.specs.Descriptor.{Description, descriptor_read, descriptor_text, hash_of_pad, hidden_under, made_descriptor, made_pads, other_pads, own_pad, pad_found, pad_if_hashed, pad_row, pads_of, sealed_seeds}
+use Rattle.bulk_descriptor.specs.Descriptor.{descriptor_text, hash_of_pad, hidden_under, made_descriptor, made_pads, other_pads, own_pad, pads_of, sealed_seeds}
 use Rattle.round_spec.proofs.OwnBytes.{low-first, packed-bytes}
 
 -- ---- lists of byte strings
@@ -138,13 +136,15 @@ opened-bytes seed layer m body opens is =
     let hidden : IsBytes (masked m body) = IsBytes-back (capsule_of (key_of_seed seed) m ++ hash_of LayerTag (m ∷ masked m body ∷ [])) (masked m body) whole in
     subst IsBytes (masked_twice m body) (masked-bytes m (masked m body) hidden)
 
-pub bodies-bytes : (seed : List ℕ) (entries bodies : List (List ℕ)) → AllZip (HasBody seed) entries bodies → AllByRecursion IsBytes entries → AllByRecursion IsBytes bodies
+pub bodies-bytes : (seed : List ℕ) (entries bodies : List (List ℕ)) → AllZip (HasBody seed) entries bodies → AllByRecursion IsBytes entries
+    → AllByRecursion IsBytes bodies
 bodies-bytes seed [] [] are all = tt
 bodies-bytes seed [] (body ∷ bodies) are all = absurd are
 bodies-bytes seed (entry ∷ entries) [] are all = absurd are
 bodies-bytes seed (entry ∷ entries) (body ∷ bodies) are all = (opened-bytes seed entry are.0.0 body are.0.1 all.0, bodies-bytes seed entries bodies are.1 all.1)
 
-pub bodies-long : (seed : List ℕ) (size : ℕ) (entries bodies : List (List ℕ)) → AllZip (HasBody seed) entries bodies → AllByRecursion (λ entry. length entry ≡ size + 2272) entries
+pub bodies-long : (seed : List ℕ) (size : ℕ) (entries bodies : List (List ℕ)) → AllZip (HasBody seed) entries bodies
+    → AllByRecursion (λ entry. length entry ≡ size + 2272) entries
     → AllByRecursion (λ body. length body ≡ size) bodies
 bodies-long seed size [] [] are all = tt
 bodies-long seed size [] (body ∷ bodies) are all = absurd are

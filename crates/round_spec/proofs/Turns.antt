@@ -1,7 +1,7 @@
 -- Where the stages of a shuffle are.
-use Rattle.std.proofs.Common.{◌≡◌, ◌⊎◌, ℕ, ◌+◌, ◌-◌, ◌<◌, ◌≤◌, true, false, Option, Some, inl, inr, sym, ap, ◌∙◌, arith}
+use Rattle.std.proofs.Common.{◌≡◌, ◌⊎◌, ℕ, ◌+◌, ◌-◌, ◌<◌, ◌≤◌, false, Option, Some, inl, inr, sym, ap, ◌∙◌, arith}
 use Rattle.std.specs.Prelude.{◌==◌}
-use Rattle.std.proofs.lemmas.Bool.{cases_Bool, cases_eq, cases_lt, cond-false, cond-true, eq-eqb, eqb-true}
+use Rattle.std.proofs.lemmas.Bool.{cases_eq, cases_lt, cond-false, cond-true, eq-eqb}
 use Rattle.phase_message.specs.declared.stage.StageKind.{StageKind}
 use Rattle.phase_message.specs.declared.stage.StageKind.TheVariants.{Keys, Submit, Shuffle, Pad}
 use Rattle.phase_message.specs.Shape.{Shape}
@@ -24,7 +24,8 @@ pub submit-kind : (shape : Shape) (shuffle : ℕ) → IsShuffle shuffle → kind
 submit-kind shape shuffle (inl a) = submit_a_is shape (submit_stage shape shuffle) (submit-a shape shuffle a) ∙ ap (λ (s : ℕ). Some (Submit s)) (sym a)
 submit-kind shape shuffle (inr b) = submit_b_is shape (submit_stage shape shuffle) (submit-b shape shuffle b) ∙ ap (λ (s : ℕ). Some (Submit s)) (sym b)
 
-pub turn-kind : (shape : Shape) (shuffle k : ℕ) → IsShuffle shuffle → 1 ≤ k → k ≤ shape.members → kind_of_stage shape (submit_stage shape shuffle + k) ≡ Some (Shuffle shuffle k)
+pub turn-kind : (shape : Shape) (shuffle k : ℕ) → IsShuffle shuffle → 1 ≤ k → k ≤ shape.members
+    → kind_of_stage shape (submit_stage shape shuffle + k) ≡ Some (Shuffle shuffle k)
 turn-kind shape shuffle k (inl a) least most = turn_a shape (submit_stage shape shuffle + k) k (omega (arith, submit-a shape shuffle a)) least most ∙ ap (λ (s : ℕ). Some (Shuffle s k)) (sym a)
 turn-kind shape shuffle k (inr b) least most = turn_b shape (submit_stage shape shuffle + k) k (omega (arith, submit-b shape shuffle b)) least most ∙ ap (λ (s : ℕ). Some (Shuffle s k)) (sym b)
 
@@ -44,20 +45,23 @@ record SameTurn (x y i j : ℕ) : Type 0 where
 same-turn : (o : Option StageKind) (x y i j : ℕ) → o ≡ Some (Shuffle x i) → o ≡ Some (Shuffle y j) → SameTurn x y i j
 same-turn o x y i j e f = let both : Some (Shuffle x i) ≡ Some (Shuffle y j) = sym e ∙ f in record { shuffle = cc; turn = cc }
 
-turn-from-a : (shape : Shape) (stage shuffle k : ℕ) → kind_of_stage shape stage ≡ Some (Shuffle shuffle k) → 2 ≤ stage → stage < shape.members + 2 → TurnAt shape stage shuffle k
+turn-from-a : (shape : Shape) (stage shuffle k : ℕ) → kind_of_stage shape stage ≡ Some (Shuffle shuffle k) → 2 ≤ stage → stage < shape.members + 2
+    → TurnAt shape stage shuffle k
 turn-from-a shape stage shuffle k e least most =
     let same = same-turn (kind_of_stage shape stage) 1 shuffle (stage - 1) k (turn_a shape stage (stage - 1) (omega arith) (omega arith) (omega arith)) e in
     let turn = same.turn in
     record { is = inl (sym same.shuffle); least = omega arith; most = omega arith; at = omega (arith, submit-a shape shuffle (sym same.shuffle)) }
 
-turn-from-b : (shape : Shape) (stage shuffle k : ℕ) → kind_of_stage shape stage ≡ Some (Shuffle shuffle k) → shape.members + 7 < stage → stage < shape.members + shape.members + 8 → TurnAt shape stage shuffle k
+turn-from-b : (shape : Shape) (stage shuffle k : ℕ) → kind_of_stage shape stage ≡ Some (Shuffle shuffle k) → shape.members + 7 < stage
+    → stage < shape.members + shape.members + 8 → TurnAt shape stage shuffle k
 turn-from-b shape stage shuffle k e least most =
     let same = same-turn (kind_of_stage shape stage) 2 shuffle (stage - (shape.members + 7)) k (turn_b shape stage (stage - (shape.members + 7)) (omega arith) (omega arith) (omega arith)) e in
     let turn = same.turn in
     record { is = inr (sym same.shuffle); least = omega arith; most = omega arith; at = omega (arith, submit-b shape shuffle (sym same.shuffle)) }
 
 -- a stage between the turns of the two shuffles is no turn
-no-turn : (shape : Shape) (stage shuffle k : ℕ) → kind_of_stage shape stage ≡ Some (Shuffle shuffle k) → shape.members + 1 < stage → stage < shape.members + 8 → ⊥
+no-turn : (shape : Shape) (stage shuffle k : ℕ) → kind_of_stage shape stage ≡ Some (Shuffle shuffle k) → shape.members + 1 < stage
+    → stage < shape.members + 8 → ⊥
 no-turn shape stage shuffle k e least most =
     elim (cases_eq stage (shape.members + 2)) [
       | inl at ↦ (let is = sym (go_a_is shape stage at) ∙ e in cc)

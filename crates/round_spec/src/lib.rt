@@ -9,3 +9,6 @@ pub use laws::{
     own_posts_settled, own_row_laws, row_laws, stands_are_reached, string_laws, verdict_laws,
     whole_course,
 };
+
+#[cfg(test)]
+mod tests;

@@ -6,12 +6,7 @@ use Rattle.std.proofs.lemmas.Result.{err_from_is_err_and}
 use Rattle.phase_message.specs.Shape.{Shape}
 use Rattle.transcript_form.specs.Form.{transcript_read}
 use Rattle.phase_message.specs.Stages.{shape_of}
-use Rattle.judge_core.proofs.Convictions.{decided_claim}
 use Rattle.judge_core.proofs.judging.judgement.Goals as goal
-
-pub convict-requires-clause-decided : goal.convict-requires-clause-decided
-convict-requires-clause-decided c =
-    decided_claim (shape_of c.shape.result) c.args.bytes.now _ c.in_ok-read_claim.field-0 c.in_ok-read_claim.ensures c.in_ok-listed.ensures.exact (search rules)
 
 abbrev unjudged : Unjudged → Result Accepted Unjudged
 unjudged e = Err e

@@ -39,5 +39,5 @@ loop-place-preserved c = λ said s.
 pub returns : goal.returns
 returns c = λ said s.
     let all = compares-all (case_of c.args.case) (past_in (case_of c.args.case) said) (kind_of_stage (shape_in (case_of c.args.case)) said.header.stage) said (map said_of c.args.others.now) c.loop-place.place c.loop-place.difference c.loop-place.told.items
-        (c.loop-place.invariant said s) (drop_of_length-le (map said_of c.args.others.now) (omega (arith, c.loop-place-test.false, length-map c.args.others.now said_of))) in
+    (c.loop-place.invariant said s) (drop_of_length-le (map said_of c.args.others.now) (omega (arith, c.loop-place-test.false, length-map c.args.others.now said_of))) in
     record { justified = all.0; difference = all.1; told = all.2 }

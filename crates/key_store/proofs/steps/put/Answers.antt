@@ -23,7 +23,7 @@ returns-in-Done-clause-moments g c =
     leaves-put g.D.Disk.file g.D.Disk.may_leave g.D.Disk.moment g.D.Disk.left_since g.met.D.Disk.only_now c.args.disk.now c.write_at.new.self c.settle.new.disk
     c.args.image.now _ _ c.requires.current c.write_at.ensures.images c.write_at.ensures.time c.settle.ensures.images c.settle.ensures.time
 
-pub returns-in-Failed-clause-moments : goal.returns-in-Failed-clause-moments
-returns-in-Failed-clause-moments g c =
+pub returns-in_default-clause-moments : goal.returns-in_default-clause-moments
+returns-in_default-clause-moments g c =
     leaves-write g.D.Disk.file g.D.Disk.may_leave g.D.Disk.moment g.D.Disk.left_since g.met.D.Disk.only_now c.args.disk.now c.write_at.new.self
     c.args.image.now _ _ c.requires.current c.write_at.ensures.images c.write_at.ensures.time
