@@ -18,7 +18,7 @@ use Rattle.dissent.specs.declared.status.Status.{Status}
 use Rattle.dissent.specs.declared.status.Status.TheVariants.{Done, Usage, Refused, ReadFault, WriteFault, DiskFault, BadRoster, TooLong, OutOfMemory}
 use Rattle.judge_core.specs.declared.judging.Accepted.{Accepted}
 use Rattle.transcript_form.specs.Refusals.{Failure}
-use Rattle.group_roster.specs.Roster.{Roster, IsRosterFile, roster_spelling, shape_of_roster}
+use Rattle.group_roster.specs.Roster.{Roster, IsRosterFile, roster_spelling}
 use Rattle.group_roster.specs.Binary.{roster_read}
 use Rattle.phase_message.specs.declared.content.Content.{Content}
 use Rattle.judge_core.specs.Checks.{printed_judgement_of}
@@ -31,7 +31,7 @@ use Rattle.transcript_form.specs.declared.refusal.Refused.{Refused as JudgeRefus
 use Rattle.transcript_form.specs.declared.refusal.Refused.TheVariants.{Check, Memory as JudgeMemory}
 use Rattle.dissent.specs.Refusals.{roster_status, judge_status}
 use Rattle.conviction.specs.Accepts.{Accepts}
-use Rattle.judge_core.specs.Framing.{GivesNoGround, ListsSaid}
+use Rattle.conviction.specs.Framing.{HasNoHonestRun, NoRunsSaid}
 
 -- The statuses that a command may be refused with.
 
@@ -399,9 +399,9 @@ keygen_answered asked files disk key height width answer e y bears stood disk_co
 pub convicted : (told told' : Option Held) (roster transcript bytes bytes' read read' text : List ℕ) (value : Roster) (accepted : Accepted)
     → Shows told roster (Some bytes) → told' ≡ told → Shows told' transcript (Some read) → bytes' ≡ bytes → read' ≡ read
     → IsRosterFile value × (bytes' ≡ roster_spelling value) → Accepts value read' accepted.accused accepted.claim
-    → ((sent : List (List ℕ)) → GivesNoGround (shape_of_roster value) accepted.claim sent → ListsSaid value read' accepted.accused sent → ⊥)
+    → HasNoHonestRun value read' accepted.accused → NoRunsSaid value read' accepted.accused
     → text ≡ accepted_line accepted → FilesConvict told roster transcript text
-convicted told told' roster transcript bytes bytes' read read' text value accepted shows same shows' e e' spelled accepts no_framing printed =
+convicted told told' roster transcript bytes bytes' read read' text value accepted shows same shows' e e' spelled accepts nobody_honest no_framing printed =
     let At : Option Held → Type 0 = λ t. Shows t transcript (Some read) in (
       Some bytes,
       Some read,
@@ -417,7 +417,8 @@ convicted told told' roster transcript bytes bytes' read read' text value accept
         spelled = (spelled.0, sym e ∙ spelled.1);
         accepts = subst (λ (b : List ℕ). Accepts value b accepted.accused accepted.claim) e' accepts;
         printed = printed;
-        no_framing = subst (λ (b : List ℕ). (sent : List (List ℕ)) → GivesNoGround (shape_of_roster value) accepted.claim sent → ListsSaid value b accepted.accused sent → ⊥) e' no_framing;
+        nobody_honest = subst (λ (b : List ℕ). HasNoHonestRun value b accepted.accused) e' nobody_honest;
+        no_framing = subst (λ (b : List ℕ). NoRunsSaid value b accepted.accused) e' no_framing;
       },
     )
 

@@ -9,10 +9,10 @@ use Rattle.dissent.specs.Outside.{DiskTold, Held, Shows, HoldsNow, OthersStay, G
 use Rattle.dissent.specs.Command.{Request, makes_key, written_name, requested}
 use Rattle.dissent.specs.Outcome.{Input, within, inputs_of, roster_outcome, outcome_of, TellsFiles, MayTell, YieldsBy, Stood, known_files, Misses, made_parts, key_line, accepted_line, id_line}
 use Rattle.group_roster.specs.Toml.{toml_read}
-use Rattle.judge_core.specs.declared.judging.Accepted.{Accepted}
-use Rattle.group_roster.specs.Roster.{Roster, IsRosterFile, roster_spelling, shape_of_roster}
 use Rattle.conviction.specs.Accepts.{Accepts}
-use Rattle.judge_core.specs.Framing.{GivesNoGround, ListsSaid}
+use Rattle.conviction.specs.Framing.{HasNoHonestRun, NoRunsSaid}
+use Rattle.judge_core.specs.declared.judging.Accepted.{Accepted}
+use Rattle.group_roster.specs.Roster.{Roster, IsRosterFile, roster_spelling}
 use Rattle.phase_message.specs.declared.content.Content.{Content}
 use Rattle.signed_post.specs.Admission.{IsPostFile}
 use Rattle.dissent.specs.Show.{shown_line}
@@ -75,7 +75,9 @@ IsWhole fault sink status expected = IfOk expected (λ output. ((told : Status) 
 -- ---- what bears an output out
 
 -- Two files convict a member, and an output says whom and of what. The first spells a roster, and the second convicts
--- under it. Whoever sent each listed post that is its own, and no content that gives ground for the claim, is another.
+-- under it. Nobody honest is convicted: the member has a run in no list of honest runs, unless a signature was forged
+-- among the posts that the second lists, or two strings of the runs and of the second have one hash. Nor did honest runs
+-- say what is listed of the member, unless two such strings have one hash.
 pub record IsConviction (roster_file transcript_file : Option (List ℕ)) (output : List ℕ) : Type 0 where
   pub roster_bytes : List ℕ
   pub bytes : List ℕ
@@ -86,7 +88,8 @@ pub record IsConviction (roster_file transcript_file : Option (List ℕ)) (outpu
   pub spelled : IsRosterFile roster × (roster_bytes ≡ roster_spelling roster)
   pub accepts : Accepts roster bytes accepted.accused accepted.claim
   pub printed : output ≡ accepted_line accepted
-  pub no_framing : (sent : List (List ℕ)) → GivesNoGround (shape_of_roster roster) accepted.claim sent → ListsSaid roster bytes accepted.accused sent → ⊥
+  pub nobody_honest : HasNoHonestRun roster bytes accepted.accused
+  pub no_framing : NoRunsSaid roster bytes accepted.accused
 
 -- the files of these names convict
 abbrev pub FilesConvict : Option Held → List ℕ → List ℕ → List ℕ → Type 0
@@ -214,8 +217,8 @@ pub record IsRun (asked : Asked) (files : Change (Option Held)) (disk : Change D
   pub follows : IfSome (expected_in asked files) (λ expected. IsStatusOf expected (FaultOf files disk (request_in asked)) (Failed sink) status)
   -- and with no fault the whole output is printed
   pub complete : IfSome (expected_in asked files) (IsWhole (FaultOf files disk (request_in asked)) sink status)
-  -- Done comes of `judge` only where the files convict, and nobody is framed by them; of `show` only where the post passes
-  -- the eight checks; of `keygen` only where the name, under which nothing stood, has the key file of the fresh bytes; and of `roster` only
+  -- Done comes of `judge` only where the files convict, and whoever they convict is not honest; of `show` only where the
+  -- post passes the eight checks; of `keygen` only where the name, under which nothing stood, has the key file of the fresh bytes; and of `roster` only
   -- where the file of its name now holds the roster that the file in TOML stands for
   pub borne_out : status ≡ Done → PrintsOutput (BearsOut asked files disk) sink
   -- what each status of words and faults tells

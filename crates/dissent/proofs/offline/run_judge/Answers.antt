@@ -68,4 +68,4 @@ pub returns-clause-convicts : goal.returns-clause-convicts
 returns-clause-convicts g c =
     convicted _ _ _ _ c.in_ok-roster_bytes.roster_bytes.items c.deref.result.now c.in_ok-bytes.bytes.items c.deref-2.result.now c.in_ok-accepted_text.field-0.items (roster_of c.in_ok-roster.roster) c.in_ok-accepted.accepted
     c.in_ok-roster_bytes.ensures.shown c.in_ok-roster_bytes.ensures.kept c.in_ok-bytes.ensures.shown c.deref.ensures.value c.deref-2.ensures.value
-    c.in_ok-roster.ensures.found c.in_ok-accepted.ensures.accepted c.in_ok-accepted.ensures.no_framing c.in_ok-accepted_text.ensures
+    c.in_ok-roster.ensures.found c.in_ok-accepted.ensures.accepted c.in_ok-accepted.ensures.honest c.in_ok-accepted.ensures.no_framing c.in_ok-accepted_text.ensures
