@@ -18,7 +18,7 @@ use Rattle.dissent.specs.declared.status.Status.{Status}
 use Rattle.dissent.specs.declared.status.Status.TheVariants.{Done, Usage, Refused, ReadFault, WriteFault, DiskFault, BadRoster, TooLong, OutOfMemory}
 use Rattle.judge_core.specs.declared.judging.Accepted.{Accepted}
 use Rattle.transcript_form.specs.Refusals.{Failure}
-use Rattle.group_roster.specs.Roster.{Roster, IsRosterFile, roster_spelling, shape_of_roster}
+use Rattle.group_roster.specs.Roster.{Roster, IsRosterFile, roster_spelling}
 use Rattle.group_roster.specs.Binary.{roster_read}
 use Rattle.phase_message.specs.declared.content.Content.{Content}
 use Rattle.judge_core.specs.Checks.{printed_judgement_of}

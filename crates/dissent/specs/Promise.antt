@@ -12,7 +12,7 @@ use Rattle.group_roster.specs.Toml.{toml_read}
 use Rattle.conviction.specs.Accepts.{Accepts}
 use Rattle.conviction.specs.Framing.{HasNoHonestRun, NoRunsSaid}
 use Rattle.judge_core.specs.declared.judging.Accepted.{Accepted}
-use Rattle.group_roster.specs.Roster.{Roster, IsRosterFile, roster_spelling, shape_of_roster}
+use Rattle.group_roster.specs.Roster.{Roster, IsRosterFile, roster_spelling}
 use Rattle.phase_message.specs.declared.content.Content.{Content}
 use Rattle.signed_post.specs.Admission.{IsPostFile}
 use Rattle.dissent.specs.Show.{shown_line}

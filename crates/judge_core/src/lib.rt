@@ -13,6 +13,8 @@ mod listed_log;
 #[cfg(test)]
 mod made_evidence;
 mod pad;
+#[cfg(test)]
+mod pad_evidence;
 mod reading;
 mod replaying;
 #[cfg(test)]

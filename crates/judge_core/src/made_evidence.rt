@@ -12,34 +12,33 @@ use wire_core::{Mem, Register, Tag, put_bytes, put_u8, put_u32, put_u64};
 
 // A seed that is revealed, and a view that is none.
 const SEED: [u8; 32] = [7; 32];
-
 const WRONG: [u8; 32] = [9; 32];
 
 // A group whose members make evidence in round 1.
 #[derive(Drop)]
-struct Group {
+pub(crate) struct Group {
     id: [u8; 32],
     secrets: Vec<LmsSecret>,
 }
 
 // Who says something, in which stage, under which view.
 #[derive(Clone, Copy)]
-struct Place {
-    stage: u8,
-    sender: u8,
-    view: [u8; 32],
+pub(crate) struct Place {
+    pub(crate) stage: u8,
+    pub(crate) sender: u8,
+    pub(crate) view: [u8; 32],
 }
 
 // A content that was said in a stage, and its post.
 #[derive(Drop)]
-struct Made {
+pub(crate) struct Made {
     stage: u8,
     content: Vec<u8>,
-    post: Vec<u8>,
+    pub(crate) post: Vec<u8>,
 }
 
 // Appends bytes behind their length.
-fn put_sized(out: &mut Vec<u8>, bytes: &[u8]) -> Mem<()> {
+pub(crate) fn put_sized(out: &mut Vec<u8>, bytes: &[u8]) -> Mem<()> {
     let Ok(size) = u32::try_from(bytes.len()) else {
         return Err(AllocError);
     };
@@ -48,7 +47,7 @@ fn put_sized(out: &mut Vec<u8>, bytes: &[u8]) -> Mem<()> {
 }
 
 // The number of a kind, and so many bytes 0.
-fn zeros(alloc: Global, kind: u8, size: usize) -> Mem<Vec<u8>> {
+pub(crate) fn zeros(alloc: Global, kind: u8, size: usize) -> Mem<Vec<u8>> {
     let mut body = Vec::new(alloc);
     put_u8(&mut body, kind)?;
     for _ in 0..size {
@@ -59,7 +58,7 @@ fn zeros(alloc: Global, kind: u8, size: usize) -> Mem<Vec<u8>> {
 
 impl Group {
     // The group of so many members, and its roster.
-    fn of(rt: &impl Abort, alloc: Global, members: u8) -> Result<(Group, Roster), Fail> {
+    pub(crate) fn of(rt: &impl Abort, alloc: Global, members: u8) -> Result<(Group, Roster), Fail> {
         let mut bytes = Vec::new(alloc);
         let mut secrets = Vec::new(alloc);
         put_bytes(&mut bytes, b"DSRO\x01")?;
@@ -94,7 +93,7 @@ impl Group {
     }
 
     // What is said there, by the number of its kind and its body.
-    fn make(&mut self, alloc: Global, at: Place, body: &[u8]) -> Mem<Made> {
+    pub(crate) fn make(&mut self, alloc: Global, at: Place, body: &[u8]) -> Mem<Made> {
         let mut content = Vec::new(alloc);
         put_u8(&mut content, 1)?;
         put_bytes(&mut content, &self.id)?;
@@ -152,7 +151,7 @@ impl Group {
 }
 
 // The view behind what was said in the stages before one.
-fn view_behind(all: &[Made], stages: u8) -> [u8; 32] {
+pub(crate) fn view_behind(all: &[Made], stages: u8) -> [u8; 32] {
     let mut view = Register::new(Tag::View).end();
     for stage in 0..stages {
         let mut register = Register::new(Tag::View);
@@ -192,16 +191,16 @@ fn judged(
     Ok(())
 }
 
-fn accepted(claim: Claim) -> Result<Accepted, Refused> {
+pub(crate) fn accepted(claim: Claim) -> Result<Accepted, Refused> {
     Ok(Accepted { accused: 1, claim })
 }
 
-fn failed(check: u32, post: u32, at: u32) -> Result<Accepted, Refused> {
+pub(crate) fn failed(check: u32, post: u32, at: u32) -> Result<Accepted, Refused> {
     Err(Refused::Check { check, post, at })
 }
 
 // A place under a wrong view.
-fn misviewed(stage: u8, sender: u8) -> Place {
+pub(crate) fn misviewed(stage: u8, sender: u8) -> Place {
     Place {
         stage,
         sender,

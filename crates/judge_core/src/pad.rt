@@ -1,7 +1,7 @@
 //! The claim Pad: the pad that the accused sent is not the pad of the seed that was sealed for it.
 
 ghost use Rattle.group_roster.specs.Given.{roster_of};
-ghost use Rattle.std.specs.Prelude.{◌≡◌, [], All, IfOk, IfSome, Some, Ok, Err, length, map, replicate};
+ghost use Rattle.std.specs.Prelude.{◌≡◌, ◌==◌, [], All, IfOk, IfSome, Some, Ok, Err, length, map, replicate};
 ghost use Rattle.std.specs.Option.{option_and_then, option_map};
 ghost use Rattle.wire_core.specs.Answers.{Gives, value_unless};
 ghost use Rattle.phase_message.specs.Stages.{shape_of};
@@ -25,7 +25,7 @@ use bulk_descriptor::{Descriptor, PadTable, decode};
 use phase_message::{Body, Shape};
 use shuffle_core::open_final;
 use std::alloc::Global;
-use transcript_form::{Claim, ListedPosts};
+use transcript_form::{Accusation, Claim, ListedPosts};
 use wire_core::{List, Mem};
 
 // What a log reveals of shuffle A: the last list, and the inner seeds by which it opens.
@@ -111,7 +111,7 @@ fn check_accusation(
     let Some(accusation) = case.detail else {
         return Err(Unjudged::Failed(FailedCheck::OtherMember));
     };
-    if accusation.member != case.accused {
+    if !is_of(accusation, case.accused) {
         return Err(Unjudged::Failed(FailedCheck::OtherMember));
     }
     let shape = case.roster.shape();
@@ -122,6 +122,13 @@ fn check_accusation(
         Ok(()) => Ok(()),
         Err(refusal) => Err(Unjudged::Failed(FailedCheck::Accusation(refusal))),
     }
+}
+
+// Whether an accusation names a member.
+fn is_of(accusation: Accusation, member: u8) -> bool
+    ensures { result ≡ (accusation.member == member) }
+{
+    accusation.member == member
 }
 
 // The descriptor of each entry of the last list, where it opens to one.

@@ -1,5 +1,6 @@
 use Rattle.std.proofs.Common.{ℕ, List, length, map, ap, ◌∙◌, arith}
 use Rattle.std.specs.Option.{option_map}
+use Rattle.std.proofs.lemmas.Bool.{eqb-true}
 use Rattle.std.proofs.lemmas.List.{length-map}
 use Rattle.std.proofs.lemmas.List.FromFn.{length-map-range_with_len}
 use Rattle.bulk_descriptor.specs.Fields.{description_of}
@@ -33,7 +34,7 @@ returns-in-Ok c =
     let pads = pads_row case (said_of c.args.pads) in
     let answers = holds-by-log case (shape_of c.shape-shape.result) (contents_said c.args.log.now) c.args.revealed.now.seeds c.args.revealed.now.list pads c.in_ok-keys.keys.items c.in_ok-table.table.members (map (option_map description_of) c.in_ok-descriptors.descriptors.items) c.in-Some.accusation c.holds.result
     c.shape-shape.ensures c.requires.revealed.seeds c.requires.revealed.list c.in_ok-descriptors.ensures.value c.in_ok-table.ensures.value c.in_ok-keys.ensures c.holds.ensures in
-    accusation-holds case (contents_said c.args.log.now) pads c.args.case.detail c.in-Some.accusation c.holds.result c.in-Some.is c.if-accusation-case.false c.in-Ok.is answers
+    accusation-holds case (contents_said c.args.log.now) pads c.args.case.detail c.in-Some.accusation c.holds.result c.in-Some.is (eqb-true c.in-Some.accusation.member c.args.case.accused (sym c.is_of.ensures ∙ c.if-not-is_of.false)) c.in-Ok.is answers
 
 pub returns : goal.returns
 returns c =
@@ -41,4 +42,4 @@ returns c =
     let pads = pads_row case (said_of c.args.pads) in
     let answers = holds-by-log case (shape_of c.shape-shape.result) (contents_said c.args.log.now) c.args.revealed.now.seeds c.args.revealed.now.list pads c.in_ok-keys.keys.items c.in_ok-table.table.members (map (option_map description_of) c.in_ok-descriptors.descriptors.items) c.in-Some.accusation c.holds.result
     c.shape-shape.ensures c.requires.revealed.seeds c.requires.revealed.list c.in_ok-descriptors.ensures.value c.in_ok-table.ensures.value c.in_ok-keys.ensures c.holds.ensures in
-    accusation-fails case (contents_said c.args.log.now) pads c.args.case.detail c.in-Some.accusation c.in-Err.refusal c.holds.result c.in-Some.is c.if-accusation-case.false c.in-Err.is answers
+    accusation-fails case (contents_said c.args.log.now) pads c.args.case.detail c.in-Some.accusation c.in-Err.refusal c.holds.result c.in-Some.is (eqb-true c.in-Some.accusation.member c.args.case.accused (sym c.is_of.ensures ∙ c.if-not-is_of.false)) c.in-Err.is answers
