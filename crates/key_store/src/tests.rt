@@ -155,34 +155,34 @@ fn left(
     Ok(standing(alloc, &mut after))
 }
 
+// What the key file stands for where the disk stopped after this number of calls and a crash then leaves this image.
+fn stands_for(calls: u32, pick: Pick) -> Result<(u64, u32), StoreRefusal> {
+    let written = pick == Pick::New;
+    match calls {
+        0 => Err(StoreRefusal::NotKeyFile { at: 0 }),
+        1 if !written => Err(StoreRefusal::NotKeyFile { at: 0 }),
+        1 | 2 => Err(StoreRefusal::NotKeyFile { at: 64 }),
+        3 if !written => Err(StoreRefusal::NotKeyFile { at: 64 }),
+        3..=9 => Ok((0, 0)),
+        10 if !written => Ok((0, 0)),
+        10..=15 => Ok((1, 12)),
+        16 if !written => Ok((1, 12)),
+        _ => Ok((2, 24)),
+    }
+}
+
 #[test]
 fn a_crash_at_any_call_leaves_what_was_begun(rt: HostRuntime) -> Result<(), Fail> {
     let alloc = rt.alloc();
-    let missing = Err(StoreRefusal::NotKeyFile { at: 0 });
-    let closed = Err(StoreRefusal::NotKeyFile { at: 64 });
-    let made = Ok((0, 0));
-    let first = Ok((1, 12));
-    let second = Ok((2, 24));
-    // The calls that pass, and what the old bytes, the new ones and ones of what was not synced stand for.
-    for (calls, old, new, ones) in [
-        (0, missing, missing, missing),
-        (1, missing, closed, missing),
-        (2, closed, closed, closed),
-        (3, closed, made, closed),
-        (4, made, made, made),
-        (10, made, first, made),
-        (11, first, first, first),
-        (12, first, first, first),
-        (13, first, first, first),
-        (14, first, first, first),
-        (15, first, first, first),
-        (16, first, second, first),
-        (17, second, second, second),
-    ] {
+    for calls in [0, 1, 2, 3, 4, 10, 11, 12, 13, 14, 15, 16, 17] {
         let disk = stopped(alloc, calls)?;
-        assert!(rt; left(alloc, &disk, Pick::Old)? == old);
-        assert!(rt; left(alloc, &disk, Pick::New)? == new);
-        assert!(rt; left(alloc, &disk, Pick::Ones)? == ones);
+        for pick in [Pick::Old, Pick::New, Pick::Ones] {
+            assert_eq!(rt;
+                left(alloc, &disk, pick)?,
+                stands_for(calls, pick),
+                "after {calls}"
+            );
+        }
     }
     Ok(())
 }

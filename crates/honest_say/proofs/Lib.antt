@@ -1,0 +1,11 @@
+pub mod StageLemmas
+pub mod PastLemmas
+pub mod BodyForms
+pub mod ClosingLemmas
+pub mod Members
+pub mod ClosingRows
+pub mod OwnRows
+pub mod VotingLemmas
+pub mod OpeningLemmas
+pub mod OwnSecrets
+pub mod Staying
