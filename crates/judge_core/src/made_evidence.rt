@@ -12,6 +12,7 @@ use wire_core::{Mem, Register, Tag, put_bytes, put_u8, put_u32, put_u64};
 
 // A seed that is revealed, and a view that is none.
 const SEED: [u8; 32] = [7; 32];
+
 const WRONG: [u8; 32] = [9; 32];
 
 // A group whose members make evidence in round 1.

@@ -1,10 +1,11 @@
-//! Evidence of a bad pad: the log of two members before the pads, made from keys, whose last list opens to one descriptor.
+//! Evidence of a bad pad: the log of two members before the pads, made from keys, whose list opens to one descriptor.
 
 ghost use Rattle.std.specs.Prelude.{◌≡◌, vec_len, IfOk};
 
-use crate::judge;
-use crate::made_evidence::{Group, Made, Place, accepted, failed, misviewed, put_sized, view_behind, zeros};
-use crate::Accepted;
+use crate::made_evidence::{
+    Group, Made, Place, accepted, failed, misviewed, put_sized, view_behind, zeros,
+};
+use crate::{Accepted, judge};
 use bulk_descriptor::make;
 use group_roster::Roster;
 use ring_encrypt::{PublicKey, public_of};
@@ -17,7 +18,9 @@ use wire_core::{List, Mem, put_bytes, put_u8, put_u32, put_u64};
 
 // The seeds of the inner keys, of the bulk keys and of the pads, by member.
 const INNER: [[u8; 32]; 2] = [[11; 32], [12; 32]];
+
 const BULK: [[u8; 32]; 2] = [[21; 32], [22; 32]];
+
 const PADS: [[u8; 32]; 2] = [[31; 32], [32; 32]];
 
 // What the last turn of shuffle A and the second member at its end say in a log.
@@ -141,21 +144,35 @@ fn pads_behind(alloc: Global, group: &mut Group, log: &[Made]) -> Mem<Made> {
     group.make(alloc, at, &zeros(alloc, 8, 8)?)
 }
 
-// An empty pad convicts where the log opens to the descriptor that asks for another, and not by a wrong view, by another
-// member or by a slot without a descriptor.
+// An empty pad convicts where the log opens to the descriptor that asks for another; not under a wrong view, nor by
+// another member, a slot without a descriptor or another seed.
 fn pads_are_judged(rt: &impl Abort, alloc: Global) -> Result<(), Fail> {
     let (mut group, roster) = Group::of(rt, alloc, 2)?;
-    let ends = Ends { turns: true, reveals: true };
+    let ends = Ends {
+        turns: true,
+        reveals: true,
+    };
     let all = log(alloc, &mut group, ends)?;
     let pads = pads_behind(alloc, &mut group, all.as_slice())?;
     let wrong = group.make(alloc, misviewed(6, 1), &zeros(alloc, 8, 8)?)?;
-    let own = Accusation { slot: 1, member: 1, seed: PADS[0] };
+    let own = Accusation {
+        slot: 1,
+        member: 1,
+        seed: PADS[0],
+    };
     for (detail, pads, want) in [
         (own, &pads, accepted(Claim::Pad)),
         (own, &wrong, failed(15, 11, 0)),
         (Accusation { member: 2, ..own }, &pads, failed(17, 0, 0)),
         (Accusation { slot: 2, ..own }, &pads, failed(17, 0, 1)),
-        (Accusation { seed: PADS[1], ..own }, &pads, failed(17, 0, 3)),
+        (
+            Accusation {
+                seed: PADS[1],
+                ..own
+            },
+            &pads,
+            failed(17, 0, 3),
+        ),
     ] {
         judged(rt, alloc, &roster, detail, all.as_slice(), pads, want)?;
     }
@@ -165,11 +182,23 @@ fn pads_are_judged(rt: &impl Abort, alloc: Global) -> Result<(), Fail> {
 // A log that does not open convicts nobody: somebody disputes at the end, or the last turn says Abort.
 fn logs_are_opened(rt: &impl Abort, alloc: Global) -> Result<(), Fail> {
     let (mut group, roster) = Group::of(rt, alloc, 2)?;
-    let own = Accusation { slot: 1, member: 1, seed: PADS[0] };
+    let own = Accusation {
+        slot: 1,
+        member: 1,
+        seed: PADS[0],
+    };
     for (turns, reveals, stage) in [(true, false, 5), (false, true, 3), (false, false, 5)] {
         let all = log(alloc, &mut group, Ends { turns, reveals })?;
         let pads = pads_behind(alloc, &mut group, all.as_slice())?;
-        judged(rt, alloc, &roster, own, all.as_slice(), &pads, failed(16, 0, stage))?;
+        judged(
+            rt,
+            alloc,
+            &roster,
+            own,
+            all.as_slice(),
+            &pads,
+            failed(16, 0, stage),
+        )?;
     }
     Ok(())
 }
