@@ -36,7 +36,8 @@ use Rattle.judge_core.proofs.PadSlots.{pads-said}
 -- ---- the pads of the accused
 
 -- what a post of pads says
-pub pads-body : (case : Case) (one : GivenSaid) (content : Content) → IsPadsPost case one → content_read (shape_in case) one.content.now ≡ Ok content → OfGrammar (shape_in case) content
+pub pads-body : (case : Case) (one : GivenSaid) (content : Content) → IsPadsPost case one → content_read (shape_in case) one.content.now ≡ Ok content
+    → OfGrammar (shape_in case) content
     → (pads : List (List ℕ)) × (content.body ≡ Pads pads) × (length pads ≡ (shape_in case).members)
 pads-body case one content is read grammar =
     let header = header_is content.header one.header (sym (content-header (shape_in case) one.content.now content read) ∙ is.readable.header) in
@@ -45,7 +46,8 @@ pads-body case one content is read grammar =
 -- ---- descriptors
 
 -- what the last list opens to
-pub descriptors-are : (shape : Shape) (past seeds list : List (List ℕ)) → seeds ≡ seeds_revealed shape past 1 → list_said shape past 1 shape.members ≡ Some list
+pub descriptors-are : (shape : Shape) (past seeds list : List (List ℕ)) → seeds ≡ seeds_revealed shape past 1
+    → list_said shape past 1 shape.members ≡ Some list
     → map (option_and_then (descriptor_read shape.members)) (opened_list seeds list) ≡ descriptors_opened shape past
 unfolding descriptors_opened items_opened
 descriptors-are shape past seeds list e said =
@@ -55,14 +57,16 @@ descriptors-are shape past seeds list e said =
 -- ---- the table
 
 -- so many pads a post of pads says
-pub pads-count : (case : Case) (one : GivenSaid) (content : Content) (row : List (List ℕ)) → IsPadsPost case one → content_read (shape_in case) one.content.now ≡ Ok content → OfGrammar (shape_in case) content
+pub pads-count : (case : Case) (one : GivenSaid) (content : Content) (row : List (List ℕ)) → IsPadsPost case one
+    → content_read (shape_in case) one.content.now ≡ Ok content → OfGrammar (shape_in case) content
     → row ≡ pads_in content.body → length row ≡ (shape_in case).members
 pads-count case one content row is read grammar e =
     let said = pads-body case one content is read grammar in
     ap (λ (l : List (List ℕ)). length l) (e ∙ ap pads_in said.1) ∙ said.2
 
 -- the descriptors and the table are of as many slots
-pub are-slots : (case : Case) (shape : Shape) (pads seeds list : List (List ℕ)) (descriptors : List (Option Description)) (table : List (List (List ℕ))) → shape ≡ shape_in case → table ≡ table_of case pads
+pub are-slots : (case : Case) (shape : Shape) (pads seeds list : List (List ℕ)) (descriptors : List (Option Description)) (table : List (List (List ℕ)))
+    → shape ≡ shape_in case → table ≡ table_of case pads
     → All (λ row. length row ≡ (shape_in case).members) table → length list ≡ (shape_in case).members
     → descriptors ≡ map (option_and_then (descriptor_read shape.members)) (opened_list seeds list) → All (λ slot. IfSome slot (λ d. length d.pad_hashes ≡ shape.members)) descriptors
     → AreSlots descriptors table × (length descriptors ≡ (shape_in case).members)
@@ -96,7 +100,8 @@ holds-by-log case shape past seeds list pads keys table descriptors a r same e s
 accused-refusal : (case : Case) (past pads : List (List ℕ)) (a : Accusation) → a.member ≡ case.accused
     → accusation_failure case past pads (Some a) ≡ option_map (λ refusal. Refuted refusal) (refusal_of a (descriptors_opened (shape_in case) past) (table_of case pads) (keys_said (shape_in case) past bulk_place))
 accused-refusal case past pads a is =
-    let refuted : Option FailedCheck = option_map (λ refusal. Refuted refusal) (refusal_of a (descriptors_opened (shape_in case) past) (table_of case pads) (keys_said (shape_in case) past bulk_place)) in
+    let refuted : Option FailedCheck =
+    option_map (λ refusal. Refuted refusal) (refusal_of a (descriptors_opened (shape_in case) past) (table_of case pads) (keys_said (shape_in case) past bulk_place)) in
     ap (λ (o : Option FailedCheck). first_some (o ∷ refuted ∷ [])) (fault_unless-true (a.member == case.accused) OtherMember (eq-eqb a.member case.accused is))
     ∙ only refuted
   where
@@ -104,7 +109,8 @@ accused-refusal case past pads a is =
     only None = refl
     only (Some f) = refl
 
-refuted : (o : Option AccusationRefusal) (refusal : AccusationRefusal) → value_unless o (tt {0}) ≡ Err refusal → value_unless (option_map (λ r. Refuted r) o) (tt {0}) ≡ Err (Refuted refusal)
+refuted : (o : Option AccusationRefusal) (refusal : AccusationRefusal) → value_unless o (tt {0}) ≡ Err refusal
+    → value_unless (option_map (λ r. Refuted r) o) (tt {0}) ≡ Err (Refuted refusal)
 refuted (Some r) refusal e = let same : r ≡ refusal = cc in rw same refl
 refuted None refusal e = absurd cc
 
@@ -113,7 +119,8 @@ borne None e = refl
 borne (Some r) e = absurd cc
 
 -- where the accused is named, that decides
-pub accusation-fails : (case : Case) (past pads : List (List ℕ)) (detail : Option Accusation) (a : Accusation) (refusal : AccusationRefusal) (r : Result (Unit {0}) AccusationRefusal) → detail ≡ Some a → a.member ≡ case.accused → r ≡ Err refusal
+pub accusation-fails : (case : Case) (past pads : List (List ℕ)) (detail : Option Accusation) (a : Accusation) (refusal : AccusationRefusal) (r : Result (Unit {0}) AccusationRefusal)
+    → detail ≡ Some a → a.member ≡ case.accused → r ≡ Err refusal
     → r ≡ value_unless (refusal_of a (descriptors_opened (shape_in case) past) (table_of case pads) (keys_said (shape_in case) past bulk_place)) (tt {0})
     → value_unless (accusation_failure case past pads detail) (tt {0}) ≡ Err (Refuted refusal)
 accusation-fails case past pads detail a refusal r is own e answers =
@@ -121,7 +128,8 @@ accusation-fails case past pads detail a refusal r is own e answers =
     ∙ ap (λ (o : Option FailedCheck). value_unless o (tt {0})) (accused-refusal case past pads a own)
     ∙ refuted (refusal_of a (descriptors_opened (shape_in case) past) (table_of case pads) (keys_said (shape_in case) past bulk_place)) refusal (sym answers ∙ e)
 
-pub accusation-holds : (case : Case) (past pads : List (List ℕ)) (detail : Option Accusation) (a : Accusation) (r : Result (Unit {0}) AccusationRefusal) → detail ≡ Some a → a.member ≡ case.accused → r ≡ Ok tt
+pub accusation-holds : (case : Case) (past pads : List (List ℕ)) (detail : Option Accusation) (a : Accusation) (r : Result (Unit {0}) AccusationRefusal)
+    → detail ≡ Some a → a.member ≡ case.accused → r ≡ Ok tt
     → r ≡ value_unless (refusal_of a (descriptors_opened (shape_in case) past) (table_of case pads) (keys_said (shape_in case) past bulk_place)) (tt {0})
     → value_unless (accusation_failure case past pads detail) (tt {0}) ≡ Ok tt
 accusation-holds case past pads detail a r is own e answers =
@@ -135,7 +143,8 @@ abbrev pub checks_of : Case → List (List ℕ) → Said → Result (Unit {0}) F
 checks_of case past pad = value_unless (pad_failure_of case past (Some pad)) (tt {0})
 
 -- of a log and a post of pads behind it
-pub checks-are : (case : Case) (said log : List GivenSaid) (pads : GivenSaid) → said ≡ log ++ pads ∷ [] → length log ≡ count_before_pads (shape_in case)
+pub checks-are : (case : Case) (said log : List GivenSaid) (pads : GivenSaid) → said ≡ log ++ pads ∷ []
+    → length log ≡ count_before_pads (shape_in case)
     → pad_answer case (map said_of said) ≡ checks_of case (contents_said log) (said_of pads)
 checks-are case said log pads is long =
     let front : List Said = map said_of log in
@@ -159,24 +168,28 @@ checks-are case said log pads is long =
     map_map f g (x ∷ xs) = ap (λ (l : List (List ℕ)). g (f x) ∷ l) (map_map f g xs)
 
 -- where the view is another
-pub view-fails : (v o a : Option FailedCheck) (failed : FailedCheck) → value_unless v (tt {0}) ≡ Err failed → value_unless (first_some (v ∷ o ∷ a ∷ [])) (tt {0}) ≡ Err failed
+pub view-fails : (v o a : Option FailedCheck) (failed : FailedCheck) → value_unless v (tt {0}) ≡ Err failed
+    → value_unless (first_some (v ∷ o ∷ a ∷ [])) (tt {0}) ≡ Err failed
 view-fails (Some f) o a failed e = e
 view-fails None o a failed e = absurd cc
 
 -- where the log does not open
-pub opening-fails : (shape : Shape) (past : List (List ℕ)) (v a failed : Option FailedCheck) → value_unless v (tt {0}) ≡ Ok tt → IsUnopened shape past failed → IsFault failed (value_unless (first_some (v ∷ opening_failure shape past ∷ a ∷ [])) (tt {0}))
+pub opening-fails : (shape : Shape) (past : List (List ℕ)) (v a failed : Option FailedCheck) → value_unless v (tt {0}) ≡ Ok tt
+    → IsUnopened shape past failed → IsFault failed (value_unless (first_some (v ∷ opening_failure shape past ∷ a ∷ [])) (tt {0}))
 opening-fails shape past v a None e unopened = tt
 opening-fails shape past None a (Some failed) e unopened = ap (λ (o : Option FailedCheck). value_unless (first_some (None ∷ o ∷ a ∷ [])) (tt {0})) unopened
 opening-fails shape past (Some f) a (Some failed) e unopened = absurd cc
 
 -- where it does, the accusation decides
-pub accusation-decides : (v o a : Option FailedCheck) → value_unless v (tt {0}) ≡ Ok tt → o ≡ None → value_unless (first_some (v ∷ o ∷ a ∷ [])) (tt {0}) ≡ value_unless a (tt {0})
+pub accusation-decides : (v o a : Option FailedCheck) → value_unless v (tt {0}) ≡ Ok tt → o ≡ None
+    → value_unless (first_some (v ∷ o ∷ a ∷ [])) (tt {0}) ≡ value_unless a (tt {0})
 accusation-decides None None None e is = refl
 accusation-decides None None (Some f) e is = refl
 accusation-decides None (Some f) a e is = absurd cc
 accusation-decides (Some f) o a e is = absurd cc
 
 -- the log that was split off is as long as it is to be
-pub split-long : (case : Case) (said log : List GivenSaid) (pads : GivenSaid) → ArePadPosts case said → said ≡ log ++ pads ∷ [] → length log ≡ count_before_pads (shape_in case)
+pub split-long : (case : Case) (said log : List GivenSaid) (pads : GivenSaid) → ArePadPosts case said → said ≡ log ++ pads ∷ []
+    → length log ≡ count_before_pads (shape_in case)
 split-long case said log pads are is =
     omega (arith, ap (λ (l : List GivenSaid). length l) (sym is ∙ are.all), length-append log (pads ∷ []), length-append are.log (are.pads ∷ []), are.is_log.whole)

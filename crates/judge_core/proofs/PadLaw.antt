@@ -95,7 +95,8 @@ IsLogOf roster round slots posts said =
     (log : List Post) × ArePostsOf roster round (zip slots posts) log × (contents_of log ≡ map content_said (take (length slots) said))
 
 -- one that is taken is the post of its slot
-post-taken : (case : Case) (first : Option Header) (a : ℕ) (slot : Slot) (bytes : List ℕ) (one : Said) → case.claim ≡ Pad → a < count_before_pads (shape_in case) → slot_at (shape_in case) a ≡ Some slot → IsBytes bytes
+post-taken : (case : Case) (first : Option Header) (a : ℕ) (slot : Slot) (bytes : List ℕ) (one : Said) → case.claim ≡ Pad
+    → a < count_before_pads (shape_in case) → slot_at (shape_in case) a ≡ Some slot → IsBytes bytes
     → taken_of case first (1 + a) bytes ≡ Ok one → (post : Post) × IsPostOf case.roster case.round slot bytes post × (post.content ≡ one.content)
 post-taken case first a slot bytes one is lt at fits taken =
     let shape : Shape = shape_in case in
@@ -126,7 +127,8 @@ log-more : (roster : Roster) (round : ℕ) (slot : Slot) (slots : List Slot) (by
 log-more roster round slot slots bytes posts one others here rest =
     (here.0 ∷ rest.0, (here.1, rest.1), ap (λ (c : List ℕ). c ∷ contents_of rest.0) here.2 ∙ ap (λ (l : List (List ℕ)). one.content ∷ l) rest.2)
 
-log-taken : (case : Case) (first : Option Header) (a : ℕ) (slots : List Slot) (posts : List (List ℕ)) (said : List Said) → case.claim ≡ Pad → SlotsFrom (shape_in case) a slots → a + length slots ≤ count_before_pads (shape_in case)
+log-taken : (case : Case) (first : Option Header) (a : ℕ) (slots : List Slot) (posts : List (List ℕ)) (said : List Said) → case.claim ≡ Pad
+    → SlotsFrom (shape_in case) a slots → a + length slots ≤ count_before_pads (shape_in case)
     → length slots ≤ length posts → AllByRecursion IsBytes posts → hearing_of case first (1 + a) posts ≡ Ok said → IsLogOf case.roster case.round slots posts said
 unfolding hearing_of
 log-taken case first a [] posts said is from most long fits e = ([], tt, refl)
@@ -138,7 +140,8 @@ log-taken case first a (slot ∷ slots) (bytes ∷ posts) said is from most long
     let next : 1 + a + 1 ≡ 1 + (a + 1) = omega arith in
     let heard = ap (λ (n : ℕ). hearing_of case (Some (unwrap_or first one.0.header)) n posts) (sym next) ∙ others.1 in
     let here = post-taken case first a slot bytes one.0 is (omega (arith, most)) (slots-first (shape_in case) a slot slots from) each.0 one.1 in
-    let rest = log-taken case (Some (unwrap_or first one.0.header)) (a + 1) slots posts others.0 is (slots-rest (shape_in case) a slot slots from) (omega (arith, most)) (omega (arith, long)) each.1 heard in
+    let rest =
+    log-taken case (Some (unwrap_or first one.0.header)) (a + 1) slots posts others.0 is (slots-rest (shape_in case) a slot slots from) (omega (arith, most)) (omega (arith, long)) each.1 heard in
     subst (IsLogOf case.roster case.round (slot ∷ slots) (bytes ∷ posts)) (list_is (one.0 ∷ others.0) said others.2)
     (log-more case.roster case.round slot slots bytes posts one.0 others.0 here rest)
 
@@ -168,7 +171,8 @@ list-some : (o : Option (List (List ℕ))) → IsSome o → is_some o ≡ true
 list-some (Some list) e = refl
 list-some None e = absurd cc
 
-each-passes : {A : Type 0} (p : A → Bool) (f : ℕ → A) (a n k : ℕ) → list_all p (map f (range_with_len a n)) ≡ true → a ≤ k → k < a + n → p (f k) ≡ true
+each-passes : {A : Type 0} (p : A → Bool) (f : ℕ → A) (a n k : ℕ) → list_all p (map f (range_with_len a n)) ≡ true → a ≤ k → k < a + n
+    → p (f k) ≡ true
 each-passes {A} p f a zero k e least lt = absurd (omega arith)
 each-passes {A} p f a (suc n) k e least lt =
     let parts = and_parts (p (f a)) (list_all p (map f (range_with_len (a + 1) n))) e in
@@ -194,7 +198,8 @@ opens-again shape past opens =
 
 -- ---- the table
 
-rows-same : (f g : ℕ → List (List ℕ)) (a n k : ℕ) → f (a + k) ≡ g (a + k) → get_or (map f (range_with_len a n)) k [] ≡ get_or (map g (range_with_len a n)) k []
+rows-same : (f g : ℕ → List (List ℕ)) (a n k : ℕ) → f (a + k) ≡ g (a + k)
+    → get_or (map f (range_with_len a n)) k [] ≡ get_or (map g (range_with_len a n)) k []
 rows-same f g a zero k e = refl
 rows-same f g a (suc n) zero e = let none : a ≡ a + 0 = omega arith in ap f none ∙ e ∙ sym (ap g none)
 rows-same f g a (suc n) (suc k) e =
@@ -219,7 +224,8 @@ pub record IsBorne (case : Case) (past pads : List (List ℕ)) (detail : Option 
   pub accused : accusation.member ≡ case.accused
   pub holds : Holds accusation (descriptors_opened (shape_in case) past) (table_accused (shape_in case) case.accused pads) (keys_said (shape_in case) past bulk_place)
 
-borne-found : (case : Case) (past pads : List (List ℕ)) (detail : Option Accusation) → 1 ≤ case.accused → accusation_failure case past pads detail ≡ None → IsBorne case past pads detail
+borne-found : (case : Case) (past pads : List (List ℕ)) (detail : Option Accusation) → 1 ≤ case.accused
+    → accusation_failure case past pads detail ≡ None → IsBorne case past pads detail
 borne-found case past pads None least e = absurd cc
 borne-found case past pads (Some a) least e =
     let refusal = refusal_of a (descriptors_opened (shape_in case) past) (table_of case pads) (keys_said (shape_in case) past bulk_place) in
@@ -234,7 +240,8 @@ borne-found case past pads (Some a) least e =
           (sym (refusal-same case pads a past least own) ∙ nothing_mapped (λ r. Refuted r) refusal last.0);
     }
 
-borne-again : (case : Case) (past pads : List (List ℕ)) (detail : Option Accusation) → 1 ≤ case.accused → IsBorne case past pads detail → accusation_failure case past pads detail ≡ None
+borne-again : (case : Case) (past pads : List (List ℕ)) (detail : Option Accusation) → 1 ≤ case.accused → IsBorne case past pads detail
+    → accusation_failure case past pads detail ≡ None
 borne-again case past pads detail least b =
     let none = refusal-same case pads b.accusation past least b.accused
     ∙ (holds_exactly b.accusation (descriptors_opened (shape_in case) past) (table_accused (shape_in case) case.accused pads) (keys_said (shape_in case) past bulk_place)).1 b.holds in
@@ -244,7 +251,8 @@ borne-again case past pads detail least b =
 -- ---- the post of pads
 
 -- a stage has one kind
-never-pad : {A : Type 0} (shape : Shape) (stage : ℕ) (kind : StageKind) → kind_of_stage shape stage ≡ Some AtPad → kind_of_stage shape stage ≡ Some kind → (AtPad ≡ kind → ⊥) → A
+never-pad : {A : Type 0} (shape : Shape) (stage : ℕ) (kind : StageKind) → kind_of_stage shape stage ≡ Some AtPad
+    → kind_of_stage shape stage ≡ Some kind → (AtPad ≡ kind → ⊥) → A
 never-pad {A} shape stage kind e is other = absurd (other (let both : Some AtPad ≡ Some kind = sym e ∙ is in cc))
 
 never-none : {A : Type 0} (shape : Shape) (stage : ℕ) → kind_of_stage shape stage ≡ Some AtPad → kind_of_stage shape stage ≡ None → A
@@ -300,7 +308,8 @@ pub record IsPadsFile (case : Case) (bytes : List ℕ) (one : Said) : Type 0 whe
   pub at : header.stage ≡ pad_stage (shape_in case)
   pub least : 1 ≤ header.sender
 
-pads-file : (case : Case) (first : Option Header) (number : ℕ) (bytes : List ℕ) (one : Said) → case.claim ≡ Pad → number ≡ claim_posts (shape_in case) Pad → IsBytes bytes → taken_of case first number bytes ≡ Ok one → IsPadsFile case bytes one
+pads-file : (case : Case) (first : Option Header) (number : ℕ) (bytes : List ℕ) (one : Said) → case.claim ≡ Pad
+    → number ≡ claim_posts (shape_in case) Pad → IsBytes bytes → taken_of case first number bytes ≡ Ok one → IsPadsFile case bytes one
 pads-file case first number bytes one is last fits taken =
     let shape : Shape = shape_in case in
     let t = taken-found case first number bytes one (ap is_of_bodies is) fits taken in
@@ -335,13 +344,15 @@ bytes-at [] k fits lt = absurd (omega arith)
 bytes-at (post ∷ posts) zero fits lt = fits.0
 bytes-at (post ∷ posts) (suc k) fits lt = bytes-at posts k fits.1 (omega arith)
 
-all-bytes : (slots : List Slot) (posts : List (List ℕ)) → AllByRecursion IsBytes posts → All (λ (pair : Slot × List ℕ). IsBytes pair.1) (zip slots posts)
+all-bytes : (slots : List Slot) (posts : List (List ℕ)) → AllByRecursion IsBytes posts
+    → All (λ (pair : Slot × List ℕ). IsBytes pair.1) (zip slots posts)
 all-bytes [] posts fits k d lt = absurd (omega arith)
 all-bytes (slot ∷ slots) [] fits k d lt = absurd (omega arith)
 all-bytes (slot ∷ slots) (post ∷ posts) fits zero d lt = fits.0
 all-bytes (slot ∷ slots) (post ∷ posts) fits (suc k) d lt = all-bytes slots posts fits.1 k d (omega arith)
 
-posts-are : (roster : Roster) (round : ℕ) (slots : List Slot) (posts : List (List ℕ)) (log : List Post) → ArePostsOf roster round (zip slots posts) log → length slots ≤ length posts → length log ≡ length slots
+posts-are : (roster : Roster) (round : ℕ) (slots : List Slot) (posts : List (List ℕ)) (log : List Post)
+    → ArePostsOf roster round (zip slots posts) log → length slots ≤ length posts → length log ≡ length slots
 posts-are roster round [] posts [] are le = refl
 posts-are roster round [] posts (post ∷ log) are le = absurd are
 posts-are roster round (slot ∷ slots) [] log are le = absurd (omega arith)
@@ -349,12 +360,14 @@ posts-are roster round (slot ∷ slots) (bytes ∷ posts) [] are le = absurd are
 posts-are roster round (slot ∷ slots) (bytes ∷ posts) (post ∷ log) are le = omega (arith, posts-are roster round slots posts log are.1 (omega arith))
 
 -- the checks by the log and the post of pads
-failure-by : (case : Case) (said : List Said) (past : List (List ℕ)) (pad : Said) → map content_said (take (count_before_pads (shape_in case)) said) ≡ past → slice_get said (count_before_pads (shape_in case)) ≡ Some pad
+failure-by : (case : Case) (said : List Said) (past : List (List ℕ)) (pad : Said)
+    → map content_said (take (count_before_pads (shape_in case)) said) ≡ past → slice_get said (count_before_pads (shape_in case)) ≡ Some pad
     → pad_failure case said ≡ pad_failure_of case past (Some pad)
 failure-by case said past pad is last =
     ap (λ (p : List (List ℕ)). pad_failure_of case p (slice_get said (count_before_pads (shape_in case)))) is ∙ ap (pad_failure_of case past) last
 
-pub pad-found : (roster : Roster) (t : Transcript) → t.claim ≡ Pad → length t.posts ≡ claim_posts (shape_of_roster roster) Pad → AllByRecursion IsBytes t.posts → conviction_of (case_of_transcript roster t) t.posts ≡ Ok tt → ShowsBadPad roster t
+pub pad-found : (roster : Roster) (t : Transcript) → t.claim ≡ Pad → length t.posts ≡ claim_posts (shape_of_roster roster) Pad
+    → AllByRecursion IsBytes t.posts → conviction_of (case_of_transcript roster t) t.posts ≡ Ok tt → ShowsBadPad roster t
 unfolding conviction_of
 pad-found roster t is count fits e =
     let case : Case = case_of_transcript roster t in
@@ -373,13 +386,15 @@ pad-found roster t is count fits e =
     let pad = some-at said.0 n (omega (arith, each.0, count)) in
     let last = some-at t.posts n (omega (arith, count)) in
     let taken = each.1 n pad.0 (omega (arith, each.0, count)) in
-    let one = pads-file case taken.first (1 + n) (get_or t.posts n []) (get_or said.0 n pad.0) is (omega arith) (bytes-at t.posts n fits (omega (arith, count))) taken.taken in
+    let one =
+    pads-file case taken.first (1 + n) (get_or t.posts n []) (get_or said.0 n pad.0) is (omega arith) (bytes-at t.posts n fits (omega (arith, count))) taken.taken in
     let file = subst (λ (b : List ℕ). IsPadsFile case b pad.0) (last.2 []) (subst (λ (s : Said). IsPadsFile case (get_or t.posts n []) s) (pad.2 pad.0) one) in
     let checks = sym (failure-by case said.0 past pad.0 contents pad.1) ∙ failure in
     let view = first_some-none_parts (view_failure shape past pad.0) _ checks in
     let opening = first_some-none_parts (opening_failure shape past) _ view.1 in
     let accusation = first_some-none_parts (accusation_failure case past (pads_row case pad.0) case.detail) [] opening.1 in
-    let borne = borne-found case past file.pads case.detail (omega (arith, file.least, file.sender)) (ap (λ (p : List (List ℕ)). accusation_failure case past p case.detail) (sym file.row) ∙ accusation.0) in
+    let borne =
+    borne-found case past file.pads case.detail (omega (arith, file.least, file.sender)) (ap (λ (p : List (List ℕ)). accusation_failure case past p case.detail) (sym file.row) ∙ accusation.0) in
     record {
       log = log.0;
       whole = posts-are roster t.round slots t.posts log.0 log.1 (omega (arith, listed, count)) ∙ listed ∙ sym before;
@@ -408,19 +423,23 @@ record IsSaid (case : Case) (first : Option Header) (number : ℕ) (posts : List
   pub contents : map content_said (take count said) ≡ past
   pub end : slice_get said count ≡ Some last
 
-post-again : (case : Case) (first : Option Header) (a : ℕ) (slot : Slot) (bytes : List ℕ) (post : Post) → case.claim ≡ Pad → a < count_before_pads (shape_in case) → slot_at (shape_in case) a ≡ Some slot
+post-again : (case : Case) (first : Option Header) (a : ℕ) (slot : Slot) (bytes : List ℕ) (post : Post) → case.claim ≡ Pad
+    → a < count_before_pads (shape_in case) → slot_at (shape_in case) a ≡ Some slot
     → (o : IsPostOf case.roster case.round slot bytes post) → taken_of case first (1 + a) bytes ≡ Ok (record { header = o.content.header; content = post.content })
 post-again case first a slot bytes post is lt at o =
     let shape : Shape = shape_in case in
     let header : Header = o.content.header in
-    let file : IsPostFile case.roster case.round bytes o.content = record { text = post.content; says = record { signature = post.signature; spelled = o.spelled; admitted = o.admitted }; reads = o.reads } in
+    let file : IsPostFile case.roster case.round bytes o.content =
+    record { text = post.content; says = record { signature = post.signature; spelled = o.spelled; admitted = o.admitted }; reads = o.reads } in
     let slot_is = (slot_at-is shape a slot at).1 in
     let number : slot_number shape header.stage header.sender ≡ 1 + a - 1 = ap (λ (s : Slot). slot_number shape s.stage s.sender) o.named ∙ slot_is ∙ omega arith in
-    let asked = asked-again case Pad first (1 + a) header is (asked-slot case (kind_of_stage shape header.stage) first (1 + a) header (omega (arith, lt)) ∙ eq-eqb _ _ number) in
+    let asked =
+    asked-again case Pad first (1 + a) header is (asked-slot case (kind_of_stage shape header.stage) first (1 + a) header (omega (arith, lt)) ∙ eq-eqb _ _ number) in
     let kind : is_kind_asked case.claim first o.content.body ≡ true = subst (λ (c : Claim). is_kind_asked c first o.content.body ≡ true) (sym is) refl in
     file-taken case first (1 + a) bytes o.content file asked kind
 
-said-more : (case : Case) (first : Option Header) (number : ℕ) (bytes : List ℕ) (posts : List (List ℕ)) (count : ℕ) (past : List (List ℕ)) (last one : Said) → taken_of case first number bytes ≡ Ok one
+said-more : (case : Case) (first : Option Header) (number : ℕ) (bytes : List ℕ) (posts : List (List ℕ)) (count : ℕ) (past : List (List ℕ)) (last one : Said)
+    → taken_of case first number bytes ≡ Ok one
     → IsSaid case (Some (unwrap_or first one.header)) (number + 1) posts count past last → IsSaid case first number (bytes ∷ posts) (suc count) (one.content ∷ past) last
 unfolding hearing_of
 said-more case first number bytes posts count past last one taken rest = record {
@@ -430,7 +449,8 @@ said-more case first number bytes posts count past last one taken rest = record 
   end = rest.end;
 }
 
-said-last : (case : Case) (first : Option Header) (number : ℕ) (posts : List (List ℕ)) (bytes : List ℕ) (last : Said) → posts ≡ bytes ∷ [] → taken_of case first number bytes ≡ Ok last → IsSaid case first number posts 0 [] last
+said-last : (case : Case) (first : Option Header) (number : ℕ) (posts : List (List ℕ)) (bytes : List ℕ) (last : Said) → posts ≡ bytes ∷ []
+    → taken_of case first number bytes ≡ Ok last → IsSaid case first number posts 0 [] last
 unfolding hearing_of
 said-last case first number posts bytes last is taken = record {
   said = last ∷ [];
@@ -444,7 +464,8 @@ only-one [] bytes long e = absurd (omega arith)
 only-one (post ∷ []) bytes long e = let same : post ≡ bytes = cc in ap (λ (p : List ℕ). p ∷ []) same
 only-one (post ∷ other ∷ posts) bytes long e = absurd (omega arith)
 
-log-again : (case : Case) (first : Option Header) (a : ℕ) (slots : List Slot) (posts : List (List ℕ)) (log : List Post) (bytes : List ℕ) (last : Said) → case.claim ≡ Pad → SlotsFrom (shape_in case) a slots
+log-again : (case : Case) (first : Option Header) (a : ℕ) (slots : List Slot) (posts : List (List ℕ)) (log : List Post) (bytes : List ℕ) (last : Said)
+    → case.claim ≡ Pad → SlotsFrom (shape_in case) a slots
     → a + length slots ≡ count_before_pads (shape_in case) → length posts ≡ length slots + 1 → ArePostsOf case.roster case.round (zip slots posts) log → slice_get posts (length slots) ≡ Some bytes
     → ((first : Option Header) → taken_of case first (1 + count_before_pads (shape_in case)) bytes ≡ Ok last) → IsSaid case first (1 + a) posts (length slots) (contents_of log) last
 log-again case first a [] posts [] bytes last is from most long are end taken =
@@ -458,11 +479,13 @@ log-again case first a (slot ∷ slots) (one ∷ posts) (post ∷ log) bytes las
     let said : Said = record { header = o.content.header; content = post.content } in
     let here = post-again case first a slot one post is (omega (arith, most)) (slots-first (shape_in case) a slot slots from) o in
     let next : 1 + (a + 1) ≡ 1 + a + 1 = omega arith in
-    let rest = log-again case (Some (unwrap_or first said.header)) (a + 1) slots posts log bytes last is (slots-rest (shape_in case) a slot slots from) (omega (arith, most)) (omega (arith, long)) are.1 end taken in
+    let rest =
+    log-again case (Some (unwrap_or first said.header)) (a + 1) slots posts log bytes last is (slots-rest (shape_in case) a slot slots from) (omega (arith, most)) (omega (arith, long)) are.1 end taken in
     said-more case first (1 + a) one posts (length slots) (contents_of log) last said here
     (subst (λ (n : ℕ). IsSaid case (Some (unwrap_or first said.header)) n posts (length slots) (contents_of log) last) next rest)
 
-pub pad-again : (roster : Roster) (t : Transcript) → t.claim ≡ Pad → length t.posts ≡ claim_posts (shape_of_roster roster) Pad → AllByRecursion IsBytes t.posts → ShowsBadPad roster t → conviction_of (case_of_transcript roster t) t.posts ≡ Ok tt
+pub pad-again : (roster : Roster) (t : Transcript) → t.claim ≡ Pad → length t.posts ≡ claim_posts (shape_of_roster roster) Pad
+    → AllByRecursion IsBytes t.posts → ShowsBadPad roster t → conviction_of (case_of_transcript roster t) t.posts ≡ Ok tt
 pad-again roster t is count fits m =
     let case : Case = case_of_transcript roster t in
     let shape : Shape = shape_of_roster roster in
@@ -485,8 +508,10 @@ pad-again roster t is count fits m =
     let last : slice_get said.said n ≡ Some pads = ap (slice_get said.said) (sym listed) ∙ said.end in
     let row : pads_row case pads ≡ m.pads = ap (λ (r : Result Content Offence). pads_in (body_of r)) m.pads_are.reads in
     let least = (slot-bounds shape m.header.stage m.header.sender m.pads_are.says.admitted.slot).1 in
-    let view = fault_unless-true (bytes_eq m.header.view (view_of shape past (pad_stage shape))) (View (n + 1)) ((bytes_eq-Decides m.header.view (view_of shape past (pad_stage shape))).1 m.view) in
-    let borne = borne-again case past m.pads t.detail (omega (arith, least, m.sender)) (record { accusation = m.accusation; detail_is = m.detail; accused = m.accused; holds = m.holds }) in
+    let view =
+    fault_unless-true (bytes_eq m.header.view (view_of shape past (pad_stage shape))) (View (n + 1)) ((bytes_eq-Decides m.header.view (view_of shape past (pad_stage shape))).1 m.view) in
+    let borne =
+    borne-again case past m.pads t.detail (omega (arith, least, m.sender)) (record { accusation = m.accusation; detail_is = m.detail; accused = m.accused; holds = m.holds }) in
     let failure : pad_failure case said.said ≡ None = failure-by case said.said past pads contents last ∙ no-failure (view_failure shape past pads) (opening_failure shape past) (accusation_failure case past (pads_row case pads) t.detail) view
     (opens-again shape past m.opens) (ap (λ (p : List (List ℕ)). accusation_failure case past p t.detail) row ∙ borne) in
     heard-pad case t.posts said.said is said.heard ∙ ap (λ (o : Option FailedCheck). value_unless o (tt {0})) failure

@@ -33,7 +33,8 @@ pub record IsTaken (case : Case) (number : ℕ) (bytes : List ℕ) (said : Said)
 abbrev pub AreTaken : Case → ℕ → List (List ℕ) → List Said → Type 0
 AreTaken case number posts said = (k : ℕ) (d : Said) → k < length said → IsTaken case (number + k) (get_or posts k []) (get_or said k d)
 
-taken-more : (case : Case) (number : ℕ) (post : List ℕ) (posts : List (List ℕ)) (one : Said) (others : List Said) → IsTaken case number post one → AreTaken case (number + 1) posts others → AreTaken case number (post ∷ posts) (one ∷ others)
+taken-more : (case : Case) (number : ℕ) (post : List ℕ) (posts : List (List ℕ)) (one : Said) (others : List Said) → IsTaken case number post one
+    → AreTaken case (number + 1) posts others → AreTaken case number (post ∷ posts) (one ∷ others)
 taken-more case number post posts one others here rest zero d lt =
     let same : number ≡ number + 0 = omega arith in
     subst (λ (n : ℕ). IsTaken case n post one) same here
@@ -41,7 +42,8 @@ taken-more case number post posts one others here rest (suc k) d lt =
     let same : number + 1 + k ≡ number + suc k = omega arith in
     subst (λ (n : ℕ). IsTaken case n (get_or posts k []) (get_or others k d)) same (rest k d (omega arith))
 
-pub each-taken : (case : Case) (first : Option Header) (number : ℕ) (posts : List (List ℕ)) (said : List Said) → hearing_of case first number posts ≡ Ok said → (length said ≡ length posts) × AreTaken case number posts said
+pub each-taken : (case : Case) (first : Option Header) (number : ℕ) (posts : List (List ℕ)) (said : List Said)
+    → hearing_of case first number posts ≡ Ok said → (length said ≡ length posts) × AreTaken case number posts said
 unfolding hearing_of
 each-taken case first number [] said e =
     subst (λ (s : List Said). (length s ≡ 0) × AreTaken case number [] s) (list_is [] said e) (refl, λ k d lt. absurd (omega arith))
@@ -66,14 +68,16 @@ is-pad (Some AtCheck) e = absurd cc
 is-pad (Some AtConfirm) e = absurd cc
 
 -- before the last in the slot of its number
-pub asked-slot : (case : Case) (kind : Option StageKind) (first : Option Header) (number : ℕ) (header : Header) → number < claim_posts (shape_in case) Pad
+pub asked-slot : (case : Case) (kind : Option StageKind) (first : Option Header) (number : ℕ) (header : Header)
+    → number < claim_posts (shape_in case) Pad
     → is_slot_asked Pad case kind first number header ≡ (slot_number (shape_in case) header.stage header.sender == number - 1)
 asked-slot case kind first number header lt =
     cond-false (number == claim_posts (shape_in case) Pad) (header.sender == case.accused && is_pad_stage kind) (slot_number (shape_in case) header.stage header.sender == number - 1)
     (false_from_ne_true (number == claim_posts (shape_in case) Pad) (λ e. let same = eqb-true number (claim_posts (shape_in case) Pad) e in absurd (omega arith)))
 
 -- and the last is of the accused, at the stage of pads
-pub asked-last : (case : Case) (kind : Option StageKind) (first : Option Header) (number : ℕ) (header : Header) → number ≡ claim_posts (shape_in case) Pad
+pub asked-last : (case : Case) (kind : Option StageKind) (first : Option Header) (number : ℕ) (header : Header)
+    → number ≡ claim_posts (shape_in case) Pad
     → is_slot_asked Pad case kind first number header ≡ (header.sender == case.accused && is_pad_stage kind)
 asked-last case kind first number header is =
     cond-true (number == claim_posts (shape_in case) Pad) (header.sender == case.accused && is_pad_stage kind) (slot_number (shape_in case) header.stage header.sender == number - 1)
@@ -85,21 +89,24 @@ pad-at case header e =
     let parts = and_parts (header.sender == case.accused) (is_pad_stage (kind_of_stage (shape_in case) header.stage)) e in
     (eqb-true header.sender case.accused parts.0, is-pad (kind_of_stage (shape_in case) header.stage) parts.1)
 
-readable : (case : Case) (number : ℕ) (bytes : List ℕ) (one : GivenSaid) → case.claim ≡ Pad → IsTaken case number bytes (said_of one) → length one.content.now < 2 ^ 32 → IsReadable (shape_in case) one
+readable : (case : Case) (number : ℕ) (bytes : List ℕ) (one : GivenSaid) → case.claim ≡ Pad → IsTaken case number bytes (said_of one)
+    → length one.content.now < 2 ^ 32 → IsReadable (shape_in case) one
 readable case number bytes one is t short = record {
   grammar = taken-grammar case t.first number bytes (said_of one) (ap is_of_bodies is) t.taken;
   short = short;
   header = (heard-parts case t.first number bytes (said_of one) (taken-heard case t.first number bytes (said_of one) t.taken)).0;
 }
 
-stands : (case : Case) (place : ℕ) (bytes : List ℕ) (one : GivenSaid) → case.claim ≡ Pad → place < count_before_pads (shape_in case) → IsTaken case (1 + place) bytes (said_of one) → length one.content.now < 2 ^ 32 → StandsAt (shape_in case) place one
+stands : (case : Case) (place : ℕ) (bytes : List ℕ) (one : GivenSaid) → case.claim ≡ Pad → place < count_before_pads (shape_in case)
+    → IsTaken case (1 + place) bytes (said_of one) → length one.content.now < 2 ^ 32 → StandsAt (shape_in case) place one
 stands case place bytes one is lt t short =
     let kind : Option StageKind = kind_of_stage (shape_in case) one.header.stage in
     let asked = sym (asked-slot case kind t.first (1 + place) one.header (omega (arith, lt))) ∙ asked-as case Pad t.first (1 + place) bytes (said_of one) is t.taken in
     let there = eqb-true (slot_number (shape_in case) one.header.stage one.header.sender) (1 + place - 1) asked in
     record { readable = readable case (1 + place) bytes one is t short; there = omega (arith, there) }
 
-is-pads : (case : Case) (bytes : List ℕ) (one : GivenSaid) → case.claim ≡ Pad → IsTaken case (1 + count_before_pads (shape_in case)) bytes (said_of one) → length one.content.now < 2 ^ 32 → IsPadsPost case one
+is-pads : (case : Case) (bytes : List ℕ) (one : GivenSaid) → case.claim ≡ Pad
+    → IsTaken case (1 + count_before_pads (shape_in case)) bytes (said_of one) → length one.content.now < 2 ^ 32 → IsPadsPost case one
 is-pads case bytes one is t short =
     let number : ℕ = 1 + count_before_pads (shape_in case) in
     let kind : Option StageKind = kind_of_stage (shape_in case) one.header.stage in
@@ -112,7 +119,8 @@ some-given : (given : List GivenSaid) → 0 < length given → GivenSaid
 some-given [] lt = absurd (omega arith)
 some-given (one ∷ others) lt = one
 
-pub pad-posts : (case : Case) (posts : List (List ℕ)) (given : List GivenSaid) → case.claim ≡ Pad → length posts ≡ claim_posts (shape_in case) Pad → hearing_of case None 1 posts ≡ Ok (map said_of given)
+pub pad-posts : (case : Case) (posts : List (List ℕ)) (given : List GivenSaid) → case.claim ≡ Pad → length posts ≡ claim_posts (shape_in case) Pad
+    → hearing_of case None 1 posts ≡ Ok (map said_of given)
     → All (λ (one : GivenSaid). length one.content.now < 2 ^ 32) given → ArePadPosts case given
 pad-posts case posts given is count e short =
     let n : ℕ = count_before_pads (shape_in case) in
@@ -138,11 +146,13 @@ pad-posts case posts given is count e short =
 
 -- ---- what the transcript comes to
 
-pub unheard-pad : (case : Case) (posts : List (List ℕ)) (failed : Option FailedCheck) → IsFault failed (hearing_of case None 1 posts) → IsFault failed (conviction_of case posts)
+pub unheard-pad : (case : Case) (posts : List (List ℕ)) (failed : Option FailedCheck) → IsFault failed (hearing_of case None 1 posts)
+    → IsFault failed (conviction_of case posts)
 unfolding conviction_of
 unheard-pad case posts None fault = tt
 unheard-pad case posts (Some failed) fault = rw fault refl
 
-pub heard-pad : (case : Case) (posts : List (List ℕ)) (said : List Said) → case.claim ≡ Pad → hearing_of case None 1 posts ≡ Ok said → conviction_of case posts ≡ pad_answer case said
+pub heard-pad : (case : Case) (posts : List (List ℕ)) (said : List Said) → case.claim ≡ Pad → hearing_of case None 1 posts ≡ Ok said
+    → conviction_of case posts ≡ pad_answer case said
 unfolding conviction_of
 heard-pad case posts said is e = rw e (ap (λ (claim : Claim). value_unless (own_failure claim case said) (tt {0})) is)

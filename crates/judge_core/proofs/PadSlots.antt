@@ -59,7 +59,8 @@ senders-some shape AtCheck is = omega (arith, is.least)
 senders-some shape AtConfirm is = omega (arith, is.least)
 
 -- a stage before the pads has a slot
-pub stage-some : (shape : Shape) (stage : ℕ) → IsShape shape.version shape.members → stage < pad_stage shape → slots_before shape stage < slots_before shape (stage + 1)
+pub stage-some : (shape : Shape) (stage : ℕ) → IsShape shape.version shape.members → stage < pad_stage shape
+    → slots_before shape stage < slots_before shape (stage + 1)
 stage-some shape stage is lt = by_kind (kind_of_stage shape stage) refl
   where
     by_kind : (o : Option StageKind) → kind_of_stage shape stage ≡ o → slots_before shape stage < slots_before shape (stage + 1)
@@ -70,7 +71,8 @@ stage-some shape stage is lt = by_kind (kind_of_stage shape stage) refl
 pub stage-within : (shape : Shape) (stage : ℕ) → stage < pad_stage shape → slots_before shape (stage + 1) ≤ count_before_pads shape
 stage-within shape stage lt = omega (arith, slots_before-rises shape (stage + 1) (pad_stage shape) (omega (arith, lt)), before-pads shape)
 
-pub slot-within : (shape : Shape) (stage sender : ℕ) → is_slot shape stage sender ≡ true → stage < pad_stage shape → slot_number shape stage sender < count_before_pads shape
+pub slot-within : (shape : Shape) (stage sender : ℕ) → is_slot shape stage sender ≡ true → stage < pad_stage shape
+    → slot_number shape stage sender < count_before_pads shape
 slot-within shape stage sender there lt = omega (arith, (slot_number-within shape stage sender there).1, stage-within shape stage lt)
 
 -- ---- which
@@ -78,13 +80,15 @@ slot-within shape stage sender there lt = omega (arith, (slot_number-within shap
 member-there : (n sender : ℕ) → 1 ≤ sender → sender ≤ n → is_member n sender ≡ true
 member-there n sender least most = and_from (nat_le 1 sender) (nat_le sender n) (le-leb 1 sender least) (le-leb sender n most)
 
-slot-of : (shape : Shape) (stage sender : ℕ) (kind : StageKind) → kind_of_stage shape stage ≡ Some kind → is_sender shape kind sender ≡ true → is_slot shape stage sender ≡ true
+slot-of : (shape : Shape) (stage sender : ℕ) (kind : StageKind) → kind_of_stage shape stage ≡ Some kind → is_sender shape kind sender ≡ true
+    → is_slot shape stage sender ≡ true
 slot-of shape stage sender kind at there = ap (λ (o : Option StageKind). speaks shape o sender) at ∙ there
 
 pub keys-slot : (shape : Shape) (sender : ℕ) → 1 ≤ sender → sender ≤ shape.members → is_slot shape 0 sender ≡ true
 keys-slot shape sender least most = slot-of shape 0 sender AtKeys (keys_is shape 0 refl) (member-there shape.members sender least most)
 
-pub final-slot : (shape : Shape) (stage sender : ℕ) → stage ≡ shape.members + 3 → 1 ≤ sender → sender ≤ shape.members → is_slot shape stage sender ≡ true
+pub final-slot : (shape : Shape) (stage sender : ℕ) → stage ≡ shape.members + 3 → 1 ≤ sender → sender ≤ shape.members
+    → is_slot shape stage sender ≡ true
 final-slot shape stage sender e least most = slot-of shape stage sender (AtFinal 1) (final_a_is shape stage e) (member-there shape.members sender least most)
 
 pub last_turn-slot : (shape : Shape) → 1 ≤ shape.members → is_slot shape (shape.members + 1) shape.members ≡ true
@@ -92,7 +96,8 @@ last_turn-slot shape least =
     slot-of shape (shape.members + 1) shape.members (AtShuffle 1 shape.members) (turn_a shape (shape.members + 1) shape.members refl least (omega arith)) (eq-eqb shape.members shape.members refl)
 
 -- slots of one number are one
-pub same-slot : (shape : Shape) (stage sender other who : ℕ) → is_slot shape stage sender ≡ true → is_slot shape other who ≡ true → slot_number shape stage sender ≡ slot_number shape other who → (stage ≡ other) × (sender ≡ who)
+pub same-slot : (shape : Shape) (stage sender other who : ℕ) → is_slot shape stage sender ≡ true → is_slot shape other who ≡ true
+    → slot_number shape stage sender ≡ slot_number shape other who → (stage ≡ other) × (sender ≡ who)
 same-slot shape stage sender other who there here same =
     let e : slot_some (record { stage = stage; sender = sender }) ≡ slot_some (record { stage = other; sender = who }) =
     sym (slot_at-number shape stage sender there) ∙ ap (slot_at shape) same ∙ slot_at-number shape other who here in
@@ -112,7 +117,8 @@ all-of {A} P [] each k d below = absurd (omega arith)
 all-of {A} P (x ∷ xs) each zero d below = each.0
 all-of {A} P (x ∷ xs) each (suc k) d below = all-of P xs each.1 k d (omega arith)
 
-body-at : (shape : Shape) (stage : ℕ) (kind : StageKind) (body : Body) → kind_of_stage shape stage ≡ Some kind → IsBody shape stage body → IsBodyAt shape (slots_before shape stage) kind body
+body-at : (shape : Shape) (stage : ℕ) (kind : StageKind) (body : Body) → kind_of_stage shape stage ≡ Some kind → IsBody shape stage body
+    → IsBodyAt shape (slots_before shape stage) kind body
 body-at shape stage kind body at is = (bodies_are_of_kinds shape stage kind body at).0 is
 
 -- at the stage of keys five keys
@@ -145,7 +151,8 @@ bulk-key body keys d five is =
 level-small : (n k : ℕ) → n ≤ 8 → level n 1 k < 2 ^ 32
 level-small n k most = omega (arith, most)
 
-turn-entries : (shape : Shape) (before k : ℕ) (body : Body) (list : List (List ℕ)) → shape.members ≤ 8 → IsBodyAt shape before (AtShuffle 1 k) body → list_of body ≡ Some list → AreEntries shape list
+turn-entries : (shape : Shape) (before k : ℕ) (body : Body) (list : List (List ℕ)) → shape.members ≤ 8 → IsBodyAt shape before (AtShuffle 1 k) body
+    → list_of body ≡ Some list → AreEntries shape list
 turn-entries shape before k (Shuffled entries) list most is e =
     let same = list_is entries list e in
     subst (AreEntries shape) same (
@@ -171,16 +178,19 @@ turn-entries shape before k (Check vote) list most is e = absurd is
 turn-entries shape before k (Confirm votes) list most is e = absurd is
 turn-entries shape before k (Differ posts) list most is e = absurd is
 
-pub last-entries : (shape : Shape) (stage : ℕ) (body : Body) (list : List (List ℕ)) → IsShape shape.version shape.members → stage ≡ shape.members + 1 → IsBody shape stage body → list_of body ≡ Some list → AreEntries shape list
+pub last-entries : (shape : Shape) (stage : ℕ) (body : Body) (list : List (List ℕ)) → IsShape shape.version shape.members → stage ≡ shape.members + 1
+    → IsBody shape stage body → list_of body ≡ Some list → AreEntries shape list
 last-entries shape stage body list is at said e =
     turn-entries shape (slots_before shape stage) shape.members body list is.most
     (body-at shape stage (AtShuffle 1 shape.members) body (turn_a shape stage shape.members at (omega (arith, is.least)) (omega arith)) said) e
 
 -- pads, one for each slot of the list
-pub pads-said : (shape : Shape) (stage : ℕ) (body : Body) → kind_of_stage shape stage ≡ Some AtPad → IsBody shape stage body → (pads : List (List ℕ)) × (body ≡ Pads pads) × (length pads ≡ shape.members)
+pub pads-said : (shape : Shape) (stage : ℕ) (body : Body) → kind_of_stage shape stage ≡ Some AtPad → IsBody shape stage body
+    → (pads : List (List ℕ)) × (body ≡ Pads pads) × (length pads ≡ shape.members)
 pads-said shape stage body at is = pads_in (slots_before shape stage) body (body-at shape stage AtPad body at is)
   where
-    pads_in : (before : ℕ) (body : Body) → IsBodyAt shape before AtPad body → (pads : List (List ℕ)) × (body ≡ Pads pads) × (length pads ≡ shape.members)
+    pads_in : (before : ℕ) (body : Body) → IsBodyAt shape before AtPad body
+        → (pads : List (List ℕ)) × (body ≡ Pads pads) × (length pads ≡ shape.members)
     pads_in before (Pads pads) is = (pads, refl, is.1)
     pads_in before (Keys keys) is = absurd is
     pads_in before (Submit ciphertext) is = absurd is

@@ -40,7 +40,8 @@ pub(crate) fn view_behind(shape: Shape, log: &[Said<'_>]) -> [u8; 32]
 fn posts_at<'a, 'b>(shape: Shape, log: &'a [Said<'b>], stage: u8) -> &'a [Said<'b>]
     requires log { IsListedLog (shape_of shape) log.now }
     requires earlier { stage < pad_stage (shape_of shape) }
-    ensures { result.now ≡ slice_range log.now (slots_before (shape_of shape) stage) (slots_before (shape_of shape) (stage + 1)) }
+    ensures { result.now
+        ≡ slice_range log.now (slots_before (shape_of shape) stage) (slots_before (shape_of shape) (stage + 1)) }
 {
     let first = slots_before(shape, stage) as usize;
     let end = slots_before(shape, stage + 1) as usize;
@@ -68,7 +69,8 @@ fn read_slot(alloc: Global, shape: Shape, log: &[Said<'_>], slot: Slot) -> Mem<B
     requires log { IsListedLog (shape_of shape) log.now }
     requires there { IsTrue (is_slot (shape_of shape) slot.stage slot.sender) }
     requires earlier { slot_number (shape_of shape) slot.stage slot.sender < length log.now }
-    ensures value { IfOk result (λ body. body ≡ said_in (shape_of shape) (contents_said log.now) slot.stage slot.sender) }
+    ensures value { IfOk result (λ body.
+        body ≡ said_in (shape_of shape) (contents_said log.now) slot.stage slot.sender) }
     ensures grammar { IfOk result (IsBody (shape_of shape) slot.stage) }
 {
     let said = log[slot_number(shape, slot) as usize];
@@ -114,7 +116,8 @@ pub(crate) fn last_list(
     log: &[Said<'_>],
 ) -> Mem<Option<List<List<u8>>>>
     requires { IsListedLog (shape_of shape) log.now }
-    ensures value { IfOk result (λ list. list ≡ list_said (shape_of shape) (contents_said log.now) 1 (shape_of shape).members) }
+    ensures value { IfOk result (λ list.
+        list ≡ list_said (shape_of shape) (contents_said log.now) 1 (shape_of shape).members) }
     ensures entries { IfOk result (λ list. IfSome list (AreEntries (shape_of shape))) }
 {
     let slot = Slot {

@@ -105,8 +105,8 @@ fn check_accusation(
     requires log { IsListedLog (shape_in (case_of case)) log.now }
     requires pads { IsPadsPost (case_of case) pads }
     requires revealed { IsRevealed (shape_in (case_of case)) (contents_said log.now) revealed.now }
-    ensures { Gives failed_of (λ x. x) result
-        (value_unless (accusation_failure (case_of case.entry) (contents_said log.now) (pads_row (case_of case.entry) (said_of pads.entry)) (case_of case.entry).detail) tt) }
+    ensures { let case = case_of case.entry in Gives failed_of (λ x. x) result (value_unless
+        (accusation_failure case (contents_said log.now) (pads_row case (said_of pads.entry)) case.detail) tt) }
 {
     let Some(accusation) = case.detail else {
         return Err(Unjudged::Failed(FailedCheck::OtherMember));
@@ -139,8 +139,10 @@ fn opened_descriptors(
 ) -> Mem<Vec<Option<Descriptor>>>
     requires { AreEntries (shape_of shape) revealed.now.list }
     ensures value { IfOk result (λ found. map (option_map description_of) found.items
-        ≡ map (option_and_then (descriptor_read (shape_of shape).members)) (opened_list revealed.now.seeds revealed.now.list)) }
-    ensures hashes { IfOk result (λ found. All (λ slot. IfSome slot (λ d. length d.pad_hashes ≡ (shape_of shape).members))
+        ≡ map (option_and_then (descriptor_read (shape_of shape).members))
+        (opened_list revealed.now.seeds revealed.now.list)) }
+    ensures hashes { IfOk result (λ found.
+        All (λ slot. IfSome slot (λ d. length d.pad_hashes ≡ (shape_of shape).members))
         (map (option_map description_of) found.items)) }
 {
     let items = open_final(alloc, revealed.seeds.items(), revealed.list.items())?;
@@ -154,8 +156,10 @@ fn opened_descriptors(
 
 // The descriptor that an entry opened to, if it is one.
 fn descriptor_in(alloc: Global, members: u8, item: &Option<List<u8>>) -> Mem<Option<Descriptor>>
-    ensures value { IfOk result (λ found. option_map description_of found ≡ option_and_then (descriptor_read members) item.now) }
-    ensures hashes { IfOk result (λ found. IfSome (option_map description_of found) (λ d. length d.pad_hashes ≡ members)) }
+    ensures value { IfOk result (λ found.
+        option_map description_of found ≡ option_and_then (descriptor_read members) item.now) }
+    ensures hashes { IfOk result (λ found.
+        IfSome (option_map description_of found) (λ d. length d.pad_hashes ≡ members)) }
 {
     match item {
         None => Ok(None),
@@ -166,8 +170,10 @@ fn descriptor_in(alloc: Global, members: u8, item: &Option<List<u8>>) -> Mem<Opt
 // The pads of the accused, and empty ones of the other members.
 fn table_of(alloc: Global, case: Case<'_>, pads: Said<'_>) -> Mem<PadTable>
     requires { IsPadsPost (case_of case) pads }
-    ensures rows { IfOk result (λ table. All (λ row. length row ≡ (shape_in (case_of case.entry)).members) table.members) }
-    ensures value { IfOk result (λ table. table.members ≡ table_of (case_of case.entry) (pads_row (case_of case.entry) (said_of pads.entry))) }
+    ensures rows { IfOk result (λ table.
+        All (λ row. length row ≡ (shape_in (case_of case.entry)).members) table.members) }
+    ensures value { IfOk result (λ table.
+        table.members ≡ table_of (case_of case.entry) (pads_row (case_of case.entry) (said_of pads.entry))) }
 {
     let members = case.roster.shape().members;
     let mut rows = Vec::with_capacity(alloc, usize::from(members))?;
@@ -184,7 +190,8 @@ fn table_of(alloc: Global, case: Case<'_>, pads: Said<'_>) -> Mem<PadTable>
 fn row_of(alloc: Global, case: Case<'_>, pads: Said<'_>, member: u8) -> Mem<List<List<u8>>>
     requires { IsPadsPost (case_of case) pads }
     ensures count { IfOk result (λ row. length row ≡ (shape_in (case_of case.entry)).members) }
-    ensures value { IfOk result (λ row. row ≡ row_of (case_of case.entry) (pads_row (case_of case.entry) (said_of pads.entry)) member) }
+    ensures value { IfOk result (λ row.
+        row ≡ row_of (case_of case.entry) (pads_row (case_of case.entry) (said_of pads.entry)) member) }
 {
     if member == case.accused {
         said_pads(alloc, case, pads)

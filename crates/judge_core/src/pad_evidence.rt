@@ -1,4 +1,4 @@
-//! Evidence of a bad pad: the log of two members before the pads, made from keys, whose last list opens to one descriptor.
+//! Evidence of a bad pad: the log of two members before the pads, made from keys, whose list opens to one descriptor.
 
 ghost use Rattle.std.specs.Prelude.{◌≡◌, vec_len, IfOk};
 
@@ -144,8 +144,8 @@ fn pads_behind(alloc: Global, group: &mut Group, log: &[Made]) -> Mem<Made> {
     group.make(alloc, at, &zeros(alloc, 8, 8)?)
 }
 
-// An empty pad convicts where the log opens to the descriptor that asks for another, and not by a wrong view, by another
-// member or by a slot without a descriptor.
+// An empty pad convicts where the log opens to the descriptor that asks for another; not under a wrong view, nor by
+// another member, a slot without a descriptor or another seed.
 fn pads_are_judged(rt: &impl Abort, alloc: Global) -> Result<(), Fail> {
     let (mut group, roster) = Group::of(rt, alloc, 2)?;
     let ends = Ends {

@@ -1,4 +1,4 @@
-use Rattle.std.proofs.Common.{sym, ℕ, List, length, map, ap, ◌∙◌, arith}
+use Rattle.std.proofs.Common.{ℕ, List, length, map, ap, sym, ◌∙◌, arith}
 use Rattle.std.specs.Option.{option_map}
 use Rattle.std.proofs.lemmas.Bool.{eqb-true}
 use Rattle.std.proofs.lemmas.List.{length-map}
@@ -25,7 +25,8 @@ holds-requires-clause-keys c =
     let shape : Shape = shape_of c.shape-shape.result in
     let slots = (are-slots case shape (pads_row case (said_of c.args.pads)) c.args.revealed.now.seeds c.args.revealed.now.list (map (option_map description_of) c.in_ok-descriptors.descriptors.items) c.in_ok-table.table.members
     c.shape-shape.ensures c.in_ok-table.ensures.value c.in_ok-table.ensures.rows c.requires.revealed.entries.1 c.in_ok-descriptors.ensures.value c.in_ok-descriptors.ensures.hashes).1 in
-    let keys = ap (λ (l : List (List ℕ)). length l) c.in_ok-keys.ensures ∙ length-map-range_with_len (key_said shape (contents_said c.args.log.now) bulk_place) 1 shape.members in
+    let keys =
+    ap (λ (l : List (List ℕ)). length l) c.in_ok-keys.ensures ∙ length-map-range_with_len (key_said shape (contents_said c.args.log.now) bulk_place) 1 shape.members in
     omega (arith, c.in_ok-keys.keys.ok, c.in_ok-descriptors.descriptors.ok, keys, ap (λ (s : Shape). s.members) c.shape-shape.ensures, slots, length-map c.in_ok-descriptors.descriptors.items (option_map description_of))
 
 pub returns-in-Ok : goal.returns-in-Ok
