@@ -68,12 +68,20 @@ pads-count case one content row is read grammar e =
 pub are-slots : (case : Case) (shape : Shape) (pads seeds list : List (List ℕ)) (descriptors : List (Option Description)) (table : List (List (List ℕ)))
     → shape ≡ shape_in case → table ≡ table_of case pads
     → All (λ row. length row ≡ (shape_in case).members) table → length list ≡ (shape_in case).members
-    → descriptors ≡ map (option_and_then (descriptor_read shape.members)) (opened_list seeds list) → All (λ slot. IfSome slot (λ d. length d.pad_hashes ≡ shape.members)) descriptors
+    → descriptors ≡ map (option_and_then (descriptor_read shape.members)) (opened_list seeds list) → All
+    (λ slot. IfSome slot (λ d. length d.pad_hashes ≡ shape.members)) descriptors
     → AreSlots descriptors table × (length descriptors ≡ (shape_in case).members)
 are-slots case shape pads seeds list descriptors table same is rows count opened hashes =
     let n : ℕ = (shape_in case).members in
     let many : length table ≡ n = ap (λ (t : List (List (List ℕ))). length t) is ∙ length-map-range_with_len (row_of case pads) 1 n in
-    let slots : length descriptors ≡ n = omega (arith, ap (λ (d : List (Option Description)). length d) opened, length-map (opened_list seeds list) (option_and_then (descriptor_read shape.members)), length-map list (opened_item seeds), count) in (
+    let slots : length descriptors ≡ n = omega (
+      arith,
+      ap (λ (d : List (Option Description)). length d) opened,
+      length-map (opened_list seeds list)
+          (option_and_then (descriptor_read shape.members)),
+      length-map list (opened_item seeds),
+      count,
+    ) in (
       record {
         members = many ∙ sym slots;
         pads = subst (λ (m : ℕ). All (λ (row : List (List ℕ)). length row ≡ m) table) (sym slots) rows;
@@ -85,10 +93,12 @@ are-slots case shape pads seeds list descriptors table same is rows count opened
 -- ---- the accusation
 
 -- whether it holds by what was opened is whether it holds by the log
-pub holds-by-log : (case : Case) (shape : Shape) (past seeds list pads keys : List (List ℕ)) (table : List (List (List ℕ))) (descriptors : List (Option Description)) (a : Accusation) (r : Result (Unit {0}) AccusationRefusal)
+pub holds-by-log : (case : Case) (shape : Shape) (past seeds list pads keys : List (List ℕ)) (table : List (List (List ℕ)))
+    (descriptors : List (Option Description)) (a : Accusation) (r : Result (Unit {0}) AccusationRefusal)
     → shape ≡ shape_in case → seeds ≡ seeds_revealed (shape_in case) past 1 → list_said (shape_in case) past 1 (shape_in case).members ≡ Some list
     → descriptors ≡ map (option_and_then (descriptor_read shape.members)) (opened_list seeds list) → table ≡ table_of case pads → keys ≡ keys_said shape past bulk_place
-    → r ≡ value_unless (refusal_of a descriptors table keys) (tt {0}) → r ≡ value_unless (refusal_of a (descriptors_opened (shape_in case) past) (table_of case pads) (keys_said (shape_in case) past bulk_place)) (tt {0})
+    → r ≡ value_unless (refusal_of a descriptors table keys) (tt {0}) → r ≡ value_unless
+    (refusal_of a (descriptors_opened (shape_in case) past) (table_of case pads) (keys_said (shape_in case) past bulk_place)) (tt {0})
 holds-by-log case shape past seeds list pads keys table descriptors a r same e said opened is own answers =
     let n = ap (λ (s : Shape). map (option_and_then (descriptor_read s.members)) (opened_list seeds list)) same in
     let found : descriptors ≡ descriptors_opened (shape_in case) past = opened ∙ n ∙ descriptors-are (shape_in case) past seeds list e said in
@@ -98,7 +108,8 @@ holds-by-log case shape past seeds list pads keys table descriptors a r same e s
     ∙ ap (λ (k : List (List ℕ)). value_unless (refusal_of a (descriptors_opened (shape_in case) past) (table_of case pads) k) (tt {0})) bulk
 
 accused-refusal : (case : Case) (past pads : List (List ℕ)) (a : Accusation) → a.member ≡ case.accused
-    → accusation_failure case past pads (Some a) ≡ option_map (λ refusal. Refuted refusal) (refusal_of a (descriptors_opened (shape_in case) past) (table_of case pads) (keys_said (shape_in case) past bulk_place))
+    → accusation_failure case past pads (Some a) ≡ option_map (λ refusal. Refuted refusal)
+    (refusal_of a (descriptors_opened (shape_in case) past) (table_of case pads) (keys_said (shape_in case) past bulk_place))
 accused-refusal case past pads a is =
     let refuted : Option FailedCheck =
     option_map (λ refusal. Refuted refusal) (refusal_of a (descriptors_opened (shape_in case) past) (table_of case pads) (keys_said (shape_in case) past bulk_place)) in
@@ -119,7 +130,8 @@ borne None e = refl
 borne (Some r) e = absurd cc
 
 -- where the accused is named, that decides
-pub accusation-fails : (case : Case) (past pads : List (List ℕ)) (detail : Option Accusation) (a : Accusation) (refusal : AccusationRefusal) (r : Result (Unit {0}) AccusationRefusal)
+pub accusation-fails : (case : Case) (past pads : List (List ℕ)) (detail : Option Accusation) (a : Accusation) (refusal : AccusationRefusal)
+    (r : Result (Unit {0}) AccusationRefusal)
     → detail ≡ Some a → a.member ≡ case.accused → r ≡ Err refusal
     → r ≡ value_unless (refusal_of a (descriptors_opened (shape_in case) past) (table_of case pads) (keys_said (shape_in case) past bulk_place)) (tt {0})
     → value_unless (accusation_failure case past pads detail) (tt {0}) ≡ Err (Refuted refusal)

@@ -73,13 +73,15 @@ slots_listed shape = take (slots_before shape (pad_stage shape)) (slots_of shape
 
 listed-long : (shape : Shape) → length (slots_listed shape) ≡ count_before_pads shape
 listed-long shape =
-    length-take-le (slots_before shape (pad_stage shape)) (slots_of shape) (omega (arith, length-slots_of shape, slots_before-most shape (pad_stage shape))) ∙ before-pads shape
+    length-take-le (slots_before shape (pad_stage shape)) (slots_of shape)
+    (omega (arith, length-slots_of shape, slots_before-most shape (pad_stage shape))) ∙ before-pads shape
 
 listed-from : (shape : Shape) → SlotsFrom shape 0 (slots_listed shape)
 listed-from shape k slot e =
     let within = slice_get_within (slots_listed shape) k slot e in
     let none : 0 + k ≡ k = omega arith in
-    ap (slot_at shape) none ∙ sym (slice_get-take (slots_of shape) (slots_before shape (pad_stage shape)) k (omega (arith, within, listed-long shape, before-pads shape))) ∙ e
+    ap (slot_at shape) none ∙ sym (slice_get-take (slots_of shape) (slots_before shape (pad_stage shape)) k
+    (omega (arith, within, listed-long shape, before-pads shape))) ∙ e
 
 some_is : (a b : Slot) → (let told : Slot → Option Slot = λ s. Some s in told a ≡ told b) → a ≡ b
 some_is a b e = cc
@@ -107,7 +109,8 @@ post-taken case first a slot bytes one is lt at fits taken =
     let asked = sym (asked-slot case kind first (1 + a) one.header (omega (arith, lt))) ∙ asked-found case Pad first (1 + a) one.header is t.asked in
     let number = eqb-true (slot_number shape one.header.stage one.header.sender) (1 + a - 1) asked in
     let same_number : slot_number shape one.header.stage one.header.sender ≡ a = omega (arith, number) in
-    let named : slot_named one.header ≡ slot = some_is (slot_named one.header) slot (sym (slot_at-number shape one.header.stage one.header.sender says.admitted.slot) ∙ ap (slot_at shape) same_number ∙ at) in (
+    let named : slot_named one.header ≡ slot = some_is (slot_named one.header) slot
+    (sym (slot_at-number shape one.header.stage one.header.sender says.admitted.slot) ∙ ap (slot_at shape) same_number ∙ at) in (
       post,
       record {
         spelled = says.spelled;
@@ -123,7 +126,8 @@ first-bytes : (bytes : List ℕ) (posts : List (List ℕ)) → AllByRecursion Is
 first-bytes bytes posts fits = (fits.0, fits.1)
 
 log-more : (roster : Roster) (round : ℕ) (slot : Slot) (slots : List Slot) (bytes : List ℕ) (posts : List (List ℕ)) (one : Said) (others : List Said)
-    → (post : Post) × IsPostOf roster round slot bytes post × (post.content ≡ one.content) → IsLogOf roster round slots posts others → IsLogOf roster round (slot ∷ slots) (bytes ∷ posts) (one ∷ others)
+    → (post : Post) × IsPostOf roster round slot bytes post × (post.content ≡ one.content) → IsLogOf roster round slots posts others → IsLogOf roster
+    round (slot ∷ slots) (bytes ∷ posts) (one ∷ others)
 log-more roster round slot slots bytes posts one others here rest =
     (here.0 ∷ rest.0, (here.1, rest.1), ap (λ (c : List ℕ). c ∷ contents_of rest.0) here.2 ∙ ap (λ (l : List (List ℕ)). one.content ∷ l) rest.2)
 
@@ -141,7 +145,8 @@ log-taken case first a (slot ∷ slots) (bytes ∷ posts) said is from most long
     let heard = ap (λ (n : ℕ). hearing_of case (Some (unwrap_or first one.0.header)) n posts) (sym next) ∙ others.1 in
     let here = post-taken case first a slot bytes one.0 is (omega (arith, most)) (slots-first (shape_in case) a slot slots from) each.0 one.1 in
     let rest =
-    log-taken case (Some (unwrap_or first one.0.header)) (a + 1) slots posts others.0 is (slots-rest (shape_in case) a slot slots from) (omega (arith, most)) (omega (arith, long)) each.1 heard in
+    log-taken case (Some (unwrap_or first one.0.header)) (a + 1) slots posts others.0 is (slots-rest (shape_in case) a slot slots from)
+    (omega (arith, most)) (omega (arith, long)) each.1 heard in
     subst (IsLogOf case.roster case.round (slot ∷ slots) (bytes ∷ posts)) (list_is (one.0 ∷ others.0) said others.2)
     (log-more case.roster case.round slot slots bytes posts one.0 others.0 here rest)
 
@@ -187,7 +192,8 @@ opens-found shape past e =
     let list = first_some-none_parts (fault_unless (is_some (list_said shape past 1 shape.members)) (NotOpened _)) [] parts.1 in
     let revealed = fault_unless-holds (are_revealed shape past) (NotOpened (final_stage shape 1)) parts.0 in
     record {
-      reveals = λ member least most. reveal-body (said_in shape past (final_stage shape 1) member) (each-passes is_reveal (said_in shape past (final_stage shape 1)) 1 shape.members member revealed least (omega arith));
+      reveals = λ member least most. reveal-body (said_in shape past (final_stage shape 1) member)
+          (each-passes is_reveal (said_in shape past (final_stage shape 1)) 1 shape.members member revealed least (omega arith));
       list = some-list (list_said shape past 1 shape.members) (fault_unless-holds (is_some (list_said shape past 1 shape.members)) (NotOpened _) list.0);
     }
 
@@ -213,7 +219,8 @@ refusal-same : (case : Case) (pads : List (List ℕ)) (a : Accusation) (past : L
 refusal-same case pads a past least is =
     let other : ℕ → List (List ℕ) = λ member. if member == case.accused then pads else [] in
     let own : (1 + (a.member - 1) == case.accused) ≡ true = eq-eqb (1 + (a.member - 1)) case.accused (omega (arith, least, is)) in
-    holds_looks_at_one a (descriptors_opened (shape_in case) past) (table_of case pads) (table_accused (shape_in case) case.accused pads) (keys_said (shape_in case) past bulk_place)
+    holds_looks_at_one a (descriptors_opened (shape_in case) past) (table_of case pads) (table_accused (shape_in case) case.accused pads)
+    (keys_said (shape_in case) past bulk_place)
     (rows-same (row_of case pads) other 1 (shape_in case).members (a.member - 1)
     (cond-true (1 + (a.member - 1) == case.accused) pads (replicate (shape_in case).members []) own ∙ sym (cond-true (1 + (a.member - 1) == case.accused) pads [] own)))
 
@@ -244,7 +251,8 @@ borne-again : (case : Case) (past pads : List (List ℕ)) (detail : Option Accus
     → accusation_failure case past pads detail ≡ None
 borne-again case past pads detail least b =
     let none = refusal-same case pads b.accusation past least b.accused
-    ∙ (holds_exactly b.accusation (descriptors_opened (shape_in case) past) (table_accused (shape_in case) case.accused pads) (keys_said (shape_in case) past bulk_place)).1 b.holds in
+    ∙ (holds_exactly b.accusation (descriptors_opened (shape_in case) past) (table_accused (shape_in case) case.accused pads)
+    (keys_said (shape_in case) past bulk_place)).1 b.holds in
     ap (accusation_failure case past pads) b.detail_is
     ∙ rw (eq-eqb b.accusation.member case.accused b.accused, none) refl
 
@@ -394,7 +402,8 @@ pad-found roster t is count fits e =
     let opening = first_some-none_parts (opening_failure shape past) _ view.1 in
     let accusation = first_some-none_parts (accusation_failure case past (pads_row case pad.0) case.detail) [] opening.1 in
     let borne =
-    borne-found case past file.pads case.detail (omega (arith, file.least, file.sender)) (ap (λ (p : List (List ℕ)). accusation_failure case past p case.detail) (sym file.row) ∙ accusation.0) in
+    borne-found case past file.pads case.detail (omega (arith, file.least, file.sender))
+    (ap (λ (p : List (List ℕ)). accusation_failure case past p case.detail) (sym file.row) ∙ accusation.0) in
     record {
       log = log.0;
       whole = posts-are roster t.round slots t.posts log.0 log.1 (omega (arith, listed, count)) ∙ listed ∙ sym before;
@@ -466,8 +475,10 @@ only-one (post ∷ other ∷ posts) bytes long e = absurd (omega arith)
 
 log-again : (case : Case) (first : Option Header) (a : ℕ) (slots : List Slot) (posts : List (List ℕ)) (log : List Post) (bytes : List ℕ) (last : Said)
     → case.claim ≡ Pad → SlotsFrom (shape_in case) a slots
-    → a + length slots ≡ count_before_pads (shape_in case) → length posts ≡ length slots + 1 → ArePostsOf case.roster case.round (zip slots posts) log → slice_get posts (length slots) ≡ Some bytes
-    → ((first : Option Header) → taken_of case first (1 + count_before_pads (shape_in case)) bytes ≡ Ok last) → IsSaid case first (1 + a) posts (length slots) (contents_of log) last
+    → a + length slots ≡ count_before_pads (shape_in case) → length posts ≡ length slots + 1 → ArePostsOf case.roster case.round (zip slots posts) log
+    → slice_get posts (length slots) ≡ Some bytes
+    → ((first : Option Header) → taken_of case first (1 + count_before_pads (shape_in case)) bytes ≡ Ok last) → IsSaid case first (1 + a) posts
+    (length slots) (contents_of log) last
 log-again case first a [] posts [] bytes last is from most long are end taken =
     let here : 1 + count_before_pads (shape_in case) ≡ 1 + a = omega (arith, most) in
     said-last case first (1 + a) posts bytes last (only-one posts bytes (omega (arith, long)) end) (ap (λ (n : ℕ). taken_of case first n bytes) (sym here) ∙ taken first)
@@ -480,7 +491,8 @@ log-again case first a (slot ∷ slots) (one ∷ posts) (post ∷ log) bytes las
     let here = post-again case first a slot one post is (omega (arith, most)) (slots-first (shape_in case) a slot slots from) o in
     let next : 1 + (a + 1) ≡ 1 + a + 1 = omega arith in
     let rest =
-    log-again case (Some (unwrap_or first said.header)) (a + 1) slots posts log bytes last is (slots-rest (shape_in case) a slot slots from) (omega (arith, most)) (omega (arith, long)) are.1 end taken in
+    log-again case (Some (unwrap_or first said.header)) (a + 1) slots posts log bytes last is (slots-rest (shape_in case) a slot slots from)
+    (omega (arith, most)) (omega (arith, long)) are.1 end taken in
     said-more case first (1 + a) one posts (length slots) (contents_of log) last said here
     (subst (λ (n : ℕ). IsSaid case (Some (unwrap_or first said.header)) n posts (length slots) (contents_of log) last) next rest)
 
@@ -509,10 +521,13 @@ pad-again roster t is count fits m =
     let row : pads_row case pads ≡ m.pads = ap (λ (r : Result Content Offence). pads_in (body_of r)) m.pads_are.reads in
     let least = (slot-bounds shape m.header.stage m.header.sender m.pads_are.says.admitted.slot).1 in
     let view =
-    fault_unless-true (bytes_eq m.header.view (view_of shape past (pad_stage shape))) (View (n + 1)) ((bytes_eq-Decides m.header.view (view_of shape past (pad_stage shape))).1 m.view) in
+    fault_unless-true (bytes_eq m.header.view (view_of shape past (pad_stage shape))) (View (n + 1))
+    ((bytes_eq-Decides m.header.view (view_of shape past (pad_stage shape))).1 m.view) in
     let borne =
-    borne-again case past m.pads t.detail (omega (arith, least, m.sender)) (record { accusation = m.accusation; detail_is = m.detail; accused = m.accused; holds = m.holds }) in
-    let failure : pad_failure case said.said ≡ None = failure-by case said.said past pads contents last ∙ no-failure (view_failure shape past pads) (opening_failure shape past) (accusation_failure case past (pads_row case pads) t.detail) view
+    borne-again case past m.pads t.detail (omega (arith, least, m.sender))
+    (record { accusation = m.accusation; detail_is = m.detail; accused = m.accused; holds = m.holds }) in
+    let failure : pad_failure case said.said ≡ None = failure-by case said.said past pads contents last ∙ no-failure (view_failure shape past pads)
+    (opening_failure shape past) (accusation_failure case past (pads_row case pads) t.detail) view
     (opens-again shape past m.opens) (ap (λ (p : List (List ℕ)). accusation_failure case past p t.detail) row ∙ borne) in
     heard-pad case t.posts said.said is said.heard ∙ ap (λ (o : Option FailedCheck). value_unless o (tt {0})) failure
   where

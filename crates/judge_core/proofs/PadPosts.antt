@@ -72,7 +72,8 @@ pub asked-slot : (case : Case) (kind : Option StageKind) (first : Option Header)
     → number < claim_posts (shape_in case) Pad
     → is_slot_asked Pad case kind first number header ≡ (slot_number (shape_in case) header.stage header.sender == number - 1)
 asked-slot case kind first number header lt =
-    cond-false (number == claim_posts (shape_in case) Pad) (header.sender == case.accused && is_pad_stage kind) (slot_number (shape_in case) header.stage header.sender == number - 1)
+    cond-false (number == claim_posts (shape_in case) Pad) (header.sender == case.accused && is_pad_stage kind)
+    (slot_number (shape_in case) header.stage header.sender == number - 1)
     (false_from_ne_true (number == claim_posts (shape_in case) Pad) (λ e. let same = eqb-true number (claim_posts (shape_in case) Pad) e in absurd (omega arith)))
 
 -- and the last is of the accused, at the stage of pads
@@ -80,7 +81,8 @@ pub asked-last : (case : Case) (kind : Option StageKind) (first : Option Header)
     → number ≡ claim_posts (shape_in case) Pad
     → is_slot_asked Pad case kind first number header ≡ (header.sender == case.accused && is_pad_stage kind)
 asked-last case kind first number header is =
-    cond-true (number == claim_posts (shape_in case) Pad) (header.sender == case.accused && is_pad_stage kind) (slot_number (shape_in case) header.stage header.sender == number - 1)
+    cond-true (number == claim_posts (shape_in case) Pad) (header.sender == case.accused && is_pad_stage kind)
+    (slot_number (shape_in case) header.stage header.sender == number - 1)
     (eq-eqb number (claim_posts (shape_in case) Pad) is)
 
 pub pad-at : (case : Case) (header : Header) → (header.sender == case.accused && is_pad_stage (kind_of_stage (shape_in case) header.stage)) ≡ true
@@ -129,7 +131,8 @@ pad-posts case posts given is count e short =
     let d : GivenSaid = some-given given (omega (arith, long)) in
     let front : length (take n given) ≡ n = length-take-le n given (omega (arith, long)) in
     let at = λ (k : ℕ) (x : GivenSaid) (lt : k < length given).
-    subst (λ (s : Said). IsTaken case (1 + k) (get_or posts k []) s) (get_or-map said_of given k x (said_of x) lt) (each.1 k (said_of x) (omega (arith, length-map given said_of, lt))) in
+    subst (λ (s : Said). IsTaken case (1 + k) (get_or posts k []) s) (get_or-map said_of given k x (said_of x) lt)
+    (each.1 k (said_of x) (omega (arith, length-map given said_of, lt))) in
     record {
       log = take n given;
       pads = get_or given n d;

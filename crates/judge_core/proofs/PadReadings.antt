@@ -78,9 +78,11 @@ short-range shape log a b is =
 
 -- the view of a stage more
 pub next-view : (shape : Shape) (log : List GivenSaid) (stage : ℕ)
-    → hash_of View (view_of shape (contents_said log) stage ∷ contents_said (slice_range log (slots_before shape stage) (slots_before shape (stage + 1)))) ≡ view_of shape (contents_said log) (stage + 1)
+    → hash_of View (view_of shape (contents_said log) stage ∷ contents_said
+    (slice_range log (slots_before shape stage) (slots_before shape (stage + 1)))) ≡ view_of shape (contents_said log) (stage + 1)
 next-view shape log stage =
-    ap (λ (said : List (List ℕ)). hash_of View (view_of shape (contents_said log) stage ∷ said)) (said-range log (slots_before shape stage) (slots_before shape (stage + 1)))
+    ap (λ (said : List (List ℕ)). hash_of View (view_of shape (contents_said log) stage ∷ said))
+    (said-range log (slots_before shape stage) (slots_before shape (stage + 1)))
     ∙ sym (ap (view_of shape (contents_said log)) (add-one stage))
 
 -- one post more of a stage
@@ -182,7 +184,8 @@ revealed-next shape past sender seeds more body seed least so is tells pushed =
     record {
       each = λ k low lt. elim (cases_lt k sender) [
         | inl before ↦ so.each k low before
-        | inr now ↦ (let same : sender ≡ k = omega arith in ap (λ (m : ℕ). is_reveal (said_in shape past (final_stage shape 1) m)) (sym same) ∙ ap is_reveal (sym said) ∙ tells.0)
+        | inr now ↦ (let same : sender ≡ k = omega arith in ap (λ (m : ℕ). is_reveal (said_in shape past (final_stage shape 1) m)) (sym same) ∙ ap
+            is_reveal (sym said) ∙ tells.0)
       ];
       seeds = pushed ∙ member-next (λ member. seed_in (said_in shape past (final_stage shape 1) member)) sender seeds seed least so.seeds (tells.1 ∙ ap seed_in said);
     }
@@ -190,8 +193,11 @@ revealed-next shape past sender seeds more body seed least so is tells pushed =
 pub revealed-all : (shape : Shape) (past : List (List ℕ)) (sender : ℕ) (seeds list : List (List ℕ)) → sender ≡ shape.members + 1
     → RevealedSoFar shape past sender seeds → list ≡ seeds → TellsSeeds shape past (Some list)
 revealed-all shape past sender seeds list end so is =
-    let count : sender - 1 ≡ shape.members = omega arith in
-    (all-revealed shape past (λ k least lt. so.each k least (omega arith)), is ∙ so.seeds ∙ ap (λ (n : ℕ). map (λ member. seed_in (said_in shape past (final_stage shape 1) member)) (range_with_len 1 n)) count)
+    let count : sender - 1 ≡ shape.members = omega arith in (
+      all-revealed shape past (λ k least lt. so.each k least (omega arith)),
+      is ∙ so.seeds ∙ ap
+          (λ (n : ℕ). map (λ member. seed_in (said_in shape past (final_stage shape 1) member)) (range_with_len 1 n)) count,
+    )
 
 -- ---- the posts of a stage
 
@@ -205,7 +211,8 @@ range-some shape log stage is listed lt =
 
 pub seen-next : (shape : Shape) (log : List GivenSaid) (stage : ℕ) (posts : List GivenSaid) (running : RunningView)
     → posts ≡ slice_range log (slots_before shape stage) (slots_before shape (stage + 1))
-    → Carries running (hash_of View (view_of shape (contents_said log) stage ∷ contents_said posts)) [] → Carries running (view_of shape (contents_said log) (stage + 1)) []
+    → Carries running (hash_of View (view_of shape (contents_said log) stage ∷ contents_said posts)) [] → Carries running
+    (view_of shape (contents_said log) (stage + 1)) []
 seen-next shape log stage posts running is carries =
     subst (λ (view : List ℕ). Carries running view [])
     (ap (λ (p : List GivenSaid). hash_of View (view_of shape (contents_said log) stage ∷ contents_said p)) is ∙ next-view shape log stage) carries

@@ -93,7 +93,8 @@ final-slot shape stage sender e least most = slot-of shape stage sender (AtFinal
 
 pub last_turn-slot : (shape : Shape) → 1 ≤ shape.members → is_slot shape (shape.members + 1) shape.members ≡ true
 last_turn-slot shape least =
-    slot-of shape (shape.members + 1) shape.members (AtShuffle 1 shape.members) (turn_a shape (shape.members + 1) shape.members refl least (omega arith)) (eq-eqb shape.members shape.members refl)
+    slot-of shape (shape.members + 1) shape.members (AtShuffle 1 shape.members)
+    (turn_a shape (shape.members + 1) shape.members refl least (omega arith)) (eq-eqb shape.members shape.members refl)
 
 -- slots of one number are one
 pub same-slot : (shape : Shape) (stage sender other who : ℕ) → is_slot shape stage sender ≡ true → is_slot shape other who ≡ true

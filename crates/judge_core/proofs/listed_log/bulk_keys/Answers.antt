@@ -24,4 +24,5 @@ pub loop-sender-preserved : goal.loop-sender-preserved
 loop-sender-preserved c =
     let shape : Shape = shape_of c.args.shape in
     let said = c.bulk_key.ensures ∙ ap (λ (body : Body). slice_index_or (keys_in body) bulk_place []) c.in_ok-body.ensures.value in
-    c.in_ok-push.ensures.items ∙ member-next (key_said shape (contents_said c.args.log.now) bulk_place) c.loop-sender.sender c.loop-sender.keys.items c.bulk_key.result (omega arith) c.loop-sender.invariant said
+    c.in_ok-push.ensures.items ∙ member-next (key_said shape (contents_said c.args.log.now) bulk_place) c.loop-sender.sender c.loop-sender.keys.items
+    c.bulk_key.result (omega arith) c.loop-sender.invariant said

@@ -16,7 +16,8 @@ read_slot-requires-clause-earlier c =
 
 pub returns-clause-value : goal.returns-clause-value
 returns-clause-value c =
-    last-list (shape_of c.args.shape) (contents_said c.args.log.now) c.in_ok-body.body c.list_in.result (omega (arith, c.args.shape.form.least)) c.in_ok-body.ensures.value c.list_in.ensures
+    last-list (shape_of c.args.shape) (contents_said c.args.log.now) c.in_ok-body.body c.list_in.result (omega (arith, c.args.shape.form.least))
+    c.in_ok-body.ensures.value c.list_in.ensures
 
 pub returns-clause-entries : goal.returns-clause-entries
 returns-clause-entries c = list-entries (shape_of c.args.shape) c.in_ok-body.body c.list_in.result c.args.shape.form c.in_ok-body.ensures.grammar c.list_in.ensures

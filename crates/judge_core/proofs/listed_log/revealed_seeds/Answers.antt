@@ -20,11 +20,15 @@ loop-sender-init c = revealed-none (shape_of c.args.shape) (contents_said c.args
 
 pub returns-in_default : goal.returns-in_default
 returns-in_default c =
-    revealed-not (shape_of c.args.shape) (contents_said c.args.log.now) c.loop-sender.sender c.in_ok-body.body (omega arith) (omega arith) c.in_ok-body.ensures.value (rw c.in_default.is at c.seed_in.ensures)
+    revealed-not (shape_of c.args.shape) (contents_said c.args.log.now) c.loop-sender.sender c.in_ok-body.body (omega arith) (omega arith)
+    c.in_ok-body.ensures.value (rw c.in_default.is at c.seed_in.ensures)
 
 pub loop-sender-preserved : goal.loop-sender-preserved
 loop-sender-preserved c =
-    revealed-next (shape_of c.args.shape) (contents_said c.args.log.now) c.loop-sender.sender c.loop-sender.seeds.items c.push.new.self.items c.in_ok-body.body c.in-Some.seed (omega arith) c.loop-sender.invariant c.in_ok-body.ensures.value (rw c.in-Some.is at c.seed_in.ensures) c.in_ok-push.ensures.items
+    revealed-next (shape_of c.args.shape) (contents_said c.args.log.now) c.loop-sender.sender c.loop-sender.seeds.items c.push.new.self.items
+    c.in_ok-body.body c.in-Some.seed (omega arith) c.loop-sender.invariant c.in_ok-body.ensures.value (rw c.in-Some.is at c.seed_in.ensures)
+    c.in_ok-push.ensures.items
 
 pub returns : goal.returns
-returns c = revealed-all (shape_of c.args.shape) (contents_said c.args.log.now) c.loop-sender.sender c.loop-sender.seeds.items c.of.result (omega arith) c.loop-sender.invariant c.of.ensures
+returns c = revealed-all (shape_of c.args.shape) (contents_said c.args.log.now) c.loop-sender.sender c.loop-sender.seeds.items c.of.result
+    (omega arith) c.loop-sender.invariant c.of.ensures

@@ -10,7 +10,12 @@ use Rattle.judge_core.proofs.listed_log.view_behind.Goals as goal
 
 pub carry-requires-clause-some : goal.carry-requires-clause-some
 carry-requires-clause-some c =
-    omega (arith, ap (λ (posts : List GivenSaid). length posts) c.posts_at.ensures, range-some (shape_of c.args.shape) c.args.log.now c.loop-stage.stage c.args.shape.form c.requires (omega arith))
+    omega (
+      arith,
+      ap (λ (posts : List GivenSaid). length posts) c.posts_at.ensures,
+      range-some (shape_of c.args.shape) c.args.log.now
+          c.loop-stage.stage c.args.shape.form c.requires (omega arith),
+    )
 
 pub carry-requires-clause-short : goal.carry-requires-clause-short
 carry-requires-clause-short c =

@@ -14,4 +14,5 @@ pads_in-requires c =
 pub returns-clause-count : goal.returns-clause-count
 returns-clause-count c =
     let read = ap (λ (s : Shape). content_read s c.args.pads.content.now) (sym c.shape.ensures) ∙ c.in_ok-content.ensures.value in
-    pads-count (case_of c.args.case) c.args.pads c.in_ok-content.content c.pads_in.result c.requires read (rw c.shape.ensures at c.in_ok-content.ensures.grammar) c.pads_in.ensures
+    pads-count (case_of c.args.case) c.args.pads c.in_ok-content.content c.pads_in.result c.requires read
+    (rw c.shape.ensures at c.in_ok-content.ensures.grammar) c.pads_in.ensures
