@@ -1,6 +1,6 @@
 pub mod Reading
 pub mod Printing
-pub mod Commands
+pub mod TwoFiles
 pub mod Promised
 pub mod Written
 pub mod Requests

@@ -14,6 +14,7 @@ use Rattle.dissent.specs.Promise.{IsRosterRun, FilesKept, IsUntouched, Asked, re
 use Rattle.lm_ots.specs.declared.types.OtsType.{OtsType}
 use Rattle.lms_tree.specs.declared.secrets.MadeHeight.{MadeHeight}
 use Rattle.std.proofs.Common.{◌≤◌, arith, lit<}
+use Rattle.dissent.specs.declared.commands.TheConstants.{ROSTER_LIMIT, TOML_LIMIT, TRANSCRIPT_LIMIT, POST_FILE_LIMIT}
 use Rattle.dissent.specs.declared.status.Status.{Status}
 use Rattle.dissent.specs.declared.status.Status.TheVariants.{Done, Usage, Refused, ReadFault, WriteFault, DiskFault, BadRoster, TooLong, OutOfMemory}
 use Rattle.judge_core.specs.declared.judging.Accepted.{Accepted}
@@ -24,7 +25,7 @@ use Rattle.phase_message.specs.declared.content.Content.{Content}
 use Rattle.judge_core.specs.Checks.{printed_judgement_of}
 use Rattle.signed_post.specs.Admission.{IsPostFile}
 use Rattle.dissent.specs.Show.{file_checked, shown_line}
-use Rattle.dissent.proofs.Commands.{outcome_by}
+use Rattle.dissent.proofs.TwoFiles.{outcome_by}
 use Rattle.group_roster.specs.declared.refusal.RosterRefusal.{RosterRefusal}
 use Rattle.group_roster.specs.declared.refusal.RosterRefusal.TheVariants.{Bad, Memory as RosterMemory}
 use Rattle.transcript_form.specs.declared.refusal.Refused.{Refused as JudgeRefusal}
@@ -66,8 +67,8 @@ outcome_cases : (V A : Type 0) (most : ℕ) (line : A → List ℕ) (read_roster
     → ((limit : ℕ) → P (TooLong limit)) → ((at rule : ℕ) → P (BadRoster at rule)) → ((check post at : ℕ) → P (Refused check post at))
     → (status : Status) → outcome_by V A most line read_roster judge_bytes file second ≡ Err status → P status
 outcome_cases V A most line read_roster judge_bytes file second P missing missing' long bad refused status h =
-    elim (bind-err (within 4096 file) _ status h) [
-      | inl e ↦ within_cases 4096 file P missing (long 4096) status e
+    elim (bind-err (within ROSTER_LIMIT file) _ status h) [
+      | inl e ↦ within_cases ROSTER_LIMIT file P missing (long ROSTER_LIMIT) status e
       | inr p ↦ elim (bind-err (or_bad_roster (read_roster p.0)) _ status p.1) [
         | inl e ↦ bad_cases (read_roster p.0) P bad status e
         | inr q ↦ elim (bind-err (within most second) _ status q.1) [
@@ -165,23 +166,23 @@ outcome_refused : (fresh : List ℕ) (told : Option Held) (request : Request) (c
     → ((check post at : ℕ) → P (Refused check post at)) → Stood told (inputs_of request) contents
     → outcome_of fresh request contents ≡ Err status → P status
 outcome_refused fresh told (Judge roster transcript) (file ∷ second ∷ []) status P missing long bad refused (shows, (shows', done)) h =
-    outcome_cases Roster Accepted 134217728 accepted_line roster_read printed_judgement_of file second P
-    (λ none. missing (0, record { name = roster; limit = 4096 }, lit< tt, refl, is_missing told roster file none shows))
-    (λ none. missing (1, record { name = transcript; limit = 134217728 }, lit< tt, refl, is_missing told transcript second none shows')) long bad refused status h
+    outcome_cases Roster Accepted TRANSCRIPT_LIMIT accepted_line roster_read printed_judgement_of file second P
+    (λ none. missing (0, record { name = roster; limit = ROSTER_LIMIT }, lit< tt, refl, is_missing told roster file none shows))
+    (λ none. missing (1, record { name = transcript; limit = TRANSCRIPT_LIMIT }, lit< tt, refl, is_missing told transcript second none shows')) long bad refused status h
 outcome_refused fresh told (Judge roster transcript) [] status P missing long bad refused stood h = absurd stood
 outcome_refused fresh told (Judge roster transcript) (file ∷ []) status P missing long bad refused stood h = absurd stood.1
 outcome_refused fresh told (Judge roster transcript) (file ∷ second ∷ third ∷ more) status P missing long bad refused stood h = absurd stood.1.1
 outcome_refused fresh told (Show roster round post) (file ∷ second ∷ []) status P missing long bad refused (shows, (shows', done)) h =
-    outcome_cases Roster Content 16777216 shown_line roster_read (file_checked round) file second P
-    (λ none. missing (0, record { name = roster; limit = 4096 }, lit< tt, refl, is_missing told roster file none shows))
-    (λ none. missing (1, record { name = post; limit = 16777216 }, lit< tt, refl, is_missing told post second none shows')) long bad refused status h
+    outcome_cases Roster Content POST_FILE_LIMIT shown_line roster_read (file_checked round) file second P
+    (λ none. missing (0, record { name = roster; limit = ROSTER_LIMIT }, lit< tt, refl, is_missing told roster file none shows))
+    (λ none. missing (1, record { name = post; limit = POST_FILE_LIMIT }, lit< tt, refl, is_missing told post second none shows')) long bad refused status h
 outcome_refused fresh told (Show roster round post) [] status P missing long bad refused stood h = absurd stood
 outcome_refused fresh told (Show roster round post) (file ∷ []) status P missing long bad refused stood h = absurd stood.1
 outcome_refused fresh told (Show roster round post) (file ∷ second ∷ third ∷ more) status P missing long bad refused stood h = absurd stood.1.1
 outcome_refused fresh told (MakeRoster toml out) (file ∷ []) status P missing long bad refused (shows, done) h =
-    elim (bind-err (within 65536 file) _ status h) [
-      | inl e ↦ within_cases 65536 file P
-          (λ none. missing (0, record { name = toml; limit = 65536 }, lit< tt, refl, is_missing told toml file none shows)) (long 65536) status e
+    elim (bind-err (within TOML_LIMIT file) _ status h) [
+      | inl e ↦ within_cases TOML_LIMIT file P
+          (λ none. missing (0, record { name = toml; limit = TOML_LIMIT }, lit< tt, refl, is_missing told toml file none shows)) (long TOML_LIMIT) status e
       | inr p ↦ elim (bind-err (or_bad_roster (toml_read p.0)) _ status p.1) [
         | inl e ↦ bad_cases (toml_read p.0) P bad status e
         | inr q ↦ absurd (let e = q.1 in cc)
@@ -345,25 +346,25 @@ usage_answered asked files disk e kept count disk_kept disk_count =
 pub judge_answered : (asked : Asked) (files : Change (Option Held)) (disk : Change DiskTold) (roster transcript : List ℕ)
     (answer : Result (List ℕ) Status) → request_in asked ≡ Some (Judge roster transcript)
     → ((roster_file transcript_file : Option (List ℕ)) × Shows files.before roster roster_file × Shows files.before transcript transcript_file
-    × Yields (Failed files) (judge_outcome (within 4096 roster_file) (within 134217728 transcript_file)) answer)
+    × Yields (Failed files) (judge_outcome (within ROSTER_LIMIT roster_file) (within TRANSCRIPT_LIMIT transcript_file)) answer)
     → OnOutput (FilesConvict files.before roster transcript) answer → files.now ≡ files.before
     → files.faults_before ≤ files.faults_now → disk.now ≡ disk.before → disk.faults_now ≡ disk.faults_before
     → IsAnswered asked files disk answer
 judge_answered asked files disk roster transcript answer e (file, second, shows, shows', y) bears kept count disk_kept disk_count =
     over_files asked files disk (Some (Judge roster transcript)) answer e
-    (file ∷ second ∷ [], (shows, (shows', tt)), widened ReadFault (Failed files) (judge_outcome (within 4096 file) (within 134217728 second)) answer y)
+    (file ∷ second ∷ [], (shows, (shows', tt)), widened ReadFault (Failed files) (judge_outcome (within ROSTER_LIMIT file) (within TRANSCRIPT_LIMIT second)) answer y)
     bears kept (λ _ _ _. kept) count disk_kept disk_count
 
 pub show_answered : (asked : Asked) (files : Change (Option Held)) (disk : Change DiskTold) (roster : List ℕ) (round : ℕ) (post : List ℕ)
     (answer : Result (List ℕ) Status) → request_in asked ≡ Some (Show roster round post)
     → ((roster_file post_file : Option (List ℕ)) × Shows files.before roster roster_file × Shows files.before post post_file
-    × Yields (Failed files) (show_outcome round (within 4096 roster_file) (within 16777216 post_file)) answer)
+    × Yields (Failed files) (show_outcome round (within ROSTER_LIMIT roster_file) (within POST_FILE_LIMIT post_file)) answer)
     → OnOutput (FilesShow files.before roster round post) answer → files.now ≡ files.before
     → files.faults_before ≤ files.faults_now → disk.now ≡ disk.before → disk.faults_now ≡ disk.faults_before
     → IsAnswered asked files disk answer
 show_answered asked files disk roster round post answer e (file, second, shows, shows', y) bears kept count disk_kept disk_count =
     over_files asked files disk (Some (Show roster round post)) answer e
-    (file ∷ second ∷ [], (shows, (shows', tt)), widened ReadFault (Failed files) (show_outcome round (within 4096 file) (within 16777216 second)) answer y)
+    (file ∷ second ∷ [], (shows, (shows', tt)), widened ReadFault (Failed files) (show_outcome round (within ROSTER_LIMIT file) (within POST_FILE_LIMIT second)) answer y)
     bears kept (λ _ _ _. kept) count disk_kept disk_count
 
 pub roster_answered : (asked : Asked) (files : Change (Option Held)) (disk : Change DiskTold) (toml out : List ℕ)

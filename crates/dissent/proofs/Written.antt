@@ -7,13 +7,14 @@ use Rattle.group_roster.specs.declared.refusal.RosterRefusal.{RosterRefusal}
 use Rattle.group_roster.specs.declared.refusal.RosterRefusal.TheVariants.{Bad, Memory as RosterMemory}
 use Rattle.group_roster.specs.Roster.{Roster, IsRosterFile, roster_spelling}
 use Rattle.group_roster.specs.Toml.{toml_read}
+use Rattle.dissent.specs.declared.commands.TheConstants.{TOML_LIMIT}
 use Rattle.dissent.specs.declared.status.Status.{Status}
 use Rattle.dissent.specs.declared.status.Status.TheVariants.{Done, ReadFault, WriteFault, OutOfMemory, BadRoster}
 use Rattle.dissent.specs.Outside.{Held, Shows, HoldsNow, OthersStay}
 use Rattle.dissent.specs.Outcome.{Yields, YieldsBy, TellsFiles, within, roster_outcome, id_line}
 use Rattle.dissent.specs.Refusals.{RefusesRoster, roster_status}
 use Rattle.dissent.specs.Promise.{IsRosterRun, FilesHold, OnOutput}
-use Rattle.dissent.proofs.Commands.{Reads, rose_earlier}
+use Rattle.dissent.proofs.TwoFiles.{Reads, rose_earlier}
 use Rattle.dissent.proofs.Reading.{some_file}
 use Rattle.dissent.proofs.Promised.{roster_status-not_done}
 
@@ -23,11 +24,11 @@ same_others None new name same = tt
 same_others (Some held) new name same =
     let At : Option Held → Type 0 = λ now. OthersStay (Some held) now name in subst At (sym same) (λ other differs. refl)
 
-took : (bytes : List ℕ) → length bytes ≤ 65536 → within 65536 (Some bytes) ≡ Ok bytes
+took : (bytes : List ℕ) → length bytes ≤ TOML_LIMIT → within TOML_LIMIT (Some bytes) ≡ Ok bytes
 took bytes bounded = grind arith
 
 -- the file in TOML could not be read
-pub unread : (files : Change (Option Held)) (toml out : List ℕ) (status : Status) → Reads (Failed files) files.before toml 65536 (Err status)
+pub unread : (files : Change (Option Held)) (toml out : List ℕ) (status : Status) → Reads (Failed files) files.before toml TOML_LIMIT (Err status)
     → status ≢ Done → files.now ≡ files.before → files.faults_before ≤ files.faults_now → IsRosterRun files toml out (Err status)
 unread files toml out status (file, shows, y) other kept count = record {
   answers = (
@@ -61,11 +62,11 @@ no_memory files toml out kept count =
 
 -- the file in TOML stands for no roster
 pub bad_roster : (files : Change (Option Held)) (toml out bytes bytes' : List ℕ) (refusal : RosterRefusal) → Shows files.before toml (Some bytes)
-    → length bytes ≤ 65536 → bytes' ≡ bytes → RefusesRoster (toml_read bytes') refusal → files.now ≡ files.before
+    → length bytes ≤ TOML_LIMIT → bytes' ≡ bytes → RefusesRoster (toml_read bytes') refusal → files.now ≡ files.before
     → files.faults_before ≤ files.faults_now → IsRosterRun files toml out (Err (roster_status refusal))
 bad_roster files toml out bytes bytes' (Bad at rule) shows bounded e refuses kept count =
     let is : toml_read bytes ≡ Err (at, rule) = ap toml_read (sym e) ∙ refuses in
-    let comes : roster_outcome (within 65536 (Some bytes)) ≡ Err (BadRoster at rule) = rw (took bytes bounded, is) refl in record {
+    let comes : roster_outcome (within TOML_LIMIT (Some bytes)) ≡ Err (BadRoster at rule) = rw (took bytes bounded, is) refl in record {
       answers = (Some bytes, shows, inl (sym comes));
       borne_out = λ e. absurd cc;
       others = same_others files.before files.now out kept;
@@ -99,12 +100,12 @@ unwritten files toml out middle faults status same others first second (inr (e, 
 
 -- the roster was written
 pub written : (files : Change (Option Held)) (toml out bytes bytes' spelled text : List ℕ) (middle : Option Held) (faults : ℕ) (roster : Roster)
-    → Shows files.before toml (Some bytes) → length bytes ≤ 65536 → bytes' ≡ bytes → toml_read bytes' ≡ Ok roster → IsRosterFile roster
+    → Shows files.before toml (Some bytes) → length bytes ≤ TOML_LIMIT → bytes' ≡ bytes → toml_read bytes' ≡ Ok roster → IsRosterFile roster
     → middle ≡ files.before → HoldsNow middle files.now out spelled → OthersStay middle files.now out → spelled ≡ roster_spelling roster
     → text ≡ id_line roster → files.faults_before ≤ faults → faults ≤ files.faults_now → IsRosterRun files toml out (Ok text)
 written files toml out bytes bytes' spelled text middle faults roster shows bounded e reads form same holds others spells prints first second =
     let is : toml_read bytes ≡ Ok roster = ap toml_read (sym e) ∙ reads in
-    let comes : roster_outcome (within 65536 (Some bytes)) ≡ Ok text = rw (took bytes bounded, is, prints) refl in
+    let comes : roster_outcome (within TOML_LIMIT (Some bytes)) ≡ Ok text = rw (took bytes bounded, is, prints) refl in
     let At : Option Held → Type 0 = λ before. OthersStay before files.now out in
     let Holding : Option Held → Type 0 = λ before. HoldsNow before files.now out spelled in
     let Spelled : List ℕ → Type 0 = λ b. HoldsNow files.before files.now out b in record {

@@ -3,6 +3,7 @@ use Rattle.std.specs.Prelude.{ℕ, ◌^◌, nat_lt, List, [], ◌∷◌, Bool, t
 use Rattle.std.specs.Str.{all_ascii_digits}
 use Rattle.std.specs.Str.Parse.{digits_value}
 use Rattle.std.specs.declared.alloc.Global.{Global}
+use Rattle.wire_core.specs.Answers.{first_some}
 use Rattle.lm_ots.specs.declared.types.OtsType.{OtsType}
 use Rattle.lm_ots.specs.declared.types.OtsType.TheVariants.{W1, W2, W4, W8}
 use Rattle.lms_tree.specs.declared.secrets.MadeHeight.{MadeHeight}
@@ -46,25 +47,6 @@ number_of word =
     if nat_lt 48 (slice_index word 0) && all_ascii_digits word && nat_lt (digits_value 10 word) (2 ^ 64)
     then Some (digits_value 10 word) else None
 
--- the words of each command that are no values: its name, and then its options
-abbrev pub judge_form : List (List ℕ)
-judge_form = codes "judge" ∷ codes "--roster" ∷ codes "--transcript" ∷ []
-
-abbrev pub show_form : List (List ℕ)
-show_form = codes "show" ∷ codes "--roster" ∷ codes "--round" ∷ codes "--post" ∷ []
-
-abbrev pub keygen_form : List (List ℕ)
-keygen_form = codes "keygen" ∷ codes "--key" ∷ codes "--height" ∷ codes "--width" ∷ []
-
-abbrev pub roster_form : List (List ℕ)
-roster_form = codes "roster" ∷ codes "--toml" ∷ codes "--out" ∷ []
-
--- whether words are those of a form, each at its place
-abbrev pub has_form : List (List ℕ) → List (List ℕ) → Bool
-has_form [] [] = true
-has_form (word ∷ words) (part ∷ parts) = bytes_eq word part && has_form words parts
-has_form words parts = false
-
 -- the height that a word spells: 5 or 10
 abbrev pub height_of : List ℕ → Option MadeHeight
 height_of word = if bytes_eq word (codes "5") then Some H5 else (if bytes_eq word (codes "10") then Some H10 else None)
@@ -76,26 +58,67 @@ width_of word =
     (if bytes_eq word (codes "4") then Some W4 else (if bytes_eq word (codes "8") then Some W8 else None)))
 
 -- what the values of each command ask for
-abbrev pub judge_values : List ℕ → List ℕ → Option Request
-judge_values roster transcript = if is_value roster && is_value transcript then Some (Judge roster transcript) else None
+abbrev pub judge_request : List (List ℕ) → Option Request
+judge_request (roster ∷ transcript ∷ []) = if is_value roster && is_value transcript then Some (Judge roster transcript) else None
+judge_request values = None
 
-abbrev pub show_values : List ℕ → List ℕ → List ℕ → Option Request
-show_values roster round post =
+abbrev pub show_request : List (List ℕ) → Option Request
+show_request (roster ∷ round ∷ post ∷ []) =
     if is_value roster && is_value post then option_map (λ number. Show roster number post) (number_of round) else None
+show_request values = None
 
-abbrev pub keygen_values : List ℕ → List ℕ → List ℕ → Option Request
-keygen_values key height width =
+abbrev pub roster_request : List (List ℕ) → Option Request
+roster_request (toml ∷ out ∷ []) = if is_value toml && is_value out then Some (Roster toml out) else None
+roster_request values = None
+
+abbrev pub keygen_request : List (List ℕ) → Option Request
+keygen_request (key ∷ height ∷ width ∷ []) =
     if is_value key then option_and_then (λ h. option_map (λ w. Keygen key h w) (width_of width)) (height_of height) else None
+keygen_request values = None
 
-abbrev pub roster_values : List ℕ → List ℕ → Option Request
-roster_values toml out = if is_value toml && is_value out then Some (Roster toml out) else None
+-- ---- the table of words
 
--- what the words ask for: they are exactly those of a command's form, each option with its value behind it
+-- the words of a command: its name, its options, and what the values behind these ask for
+pub record Form : Type 0 where
+  pub name : List ℕ
+  pub options : List (List ℕ)
+  pub request : List (List ℕ) → Option Request
+
+abbrev pub judge_form : Form
+judge_form = record { name = codes "judge"; options = codes "--roster" ∷ codes "--transcript" ∷ []; request = judge_request }
+
+abbrev pub show_form : Form
+show_form = record { name = codes "show"; options = codes "--roster" ∷ codes "--round" ∷ codes "--post" ∷ []; request = show_request }
+
+abbrev pub roster_form : Form
+roster_form = record { name = codes "roster"; options = codes "--toml" ∷ codes "--out" ∷ []; request = roster_request }
+
+abbrev pub keygen_form : Form
+keygen_form = record { name = codes "keygen"; options = codes "--key" ∷ codes "--height" ∷ codes "--width" ∷ []; request = keygen_request }
+
+-- the forms of all commands
+abbrev pub forms : List Form
+forms = judge_form ∷ show_form ∷ roster_form ∷ keygen_form ∷ []
+
+-- whether words are these, each at its place
+abbrev pub are_words : List (List ℕ) → List (List ℕ) → Bool
+are_words [] [] = true
+are_words (word ∷ words) (part ∷ parts) = bytes_eq word part && are_words words parts
+are_words words parts = false
+
+-- the values in words that are exactly these options, each with a value behind it
+abbrev pub values_behind : (options words : List (List ℕ)) → Option (List (List ℕ))
+values_behind [] [] = Some []
+values_behind (option ∷ options) (word ∷ value ∷ words) =
+    if bytes_eq word option then option_map (λ values. value ∷ values) (values_behind options words) else None
+values_behind options words = None
+
+-- what words ask for that are of a form
+abbrev pub request_by : List (List ℕ) → Form → Option Request
+request_by [] form = None
+request_by (word ∷ words) form =
+    if bytes_eq word form.name then option_and_then form.request (values_behind form.options words) else None
+
+-- what the words ask for: they are of the form of a command
 abbrev pub requested : List (List ℕ) → Option Request
-requested (command ∷ first_option ∷ first ∷ second_option ∷ second ∷ []) =
-    if has_form (command ∷ first_option ∷ second_option ∷ []) judge_form then judge_values first second else
-    (if has_form (command ∷ first_option ∷ second_option ∷ []) roster_form then roster_values first second else None)
-requested (command ∷ first_option ∷ first ∷ second_option ∷ second ∷ third_option ∷ third ∷ []) =
-    if has_form (command ∷ first_option ∷ second_option ∷ third_option ∷ []) show_form then show_values first second third else
-    (if has_form (command ∷ first_option ∷ second_option ∷ third_option ∷ []) keygen_form then keygen_values first second third else None)
-requested words = None
+requested words = first_some (map (request_by words) forms)

@@ -1,6 +1,7 @@
 -- What each command comes to, as a function of its words and of the bytes of its files. A command has a row in each of
 -- three tables: the files that it reads, what it comes to over them, and the faults that it may end with.
 use Rattle.std.specs.Prelude.{◌≡◌, ◌⊎◌, ⊤, ℕ, List, [], ◌∷◌, map, Any, nat_lt, if◌then◌else◌, length, Option, Some, None, Result, Ok, Err, codes, decimal}
+use Rattle.dissent.specs.declared.commands.TheConstants.{ROSTER_LIMIT, TOML_LIMIT, TRANSCRIPT_LIMIT, POST_FILE_LIMIT}
 use Rattle.dissent.specs.declared.status.Status.{Status}
 use Rattle.dissent.specs.declared.status.Status.TheVariants.{Usage, Refused, ReadFault, WriteFault, DiskFault, BadRoster, TooLong, OutOfMemory}
 use Rattle.hex.specs.Hex.{encode_lower}
@@ -34,10 +35,10 @@ pub record Input : Type 0 where
 -- the files that each command reads, in their order
 abbrev pub inputs_of : Request → List Input
 inputs_of (Judge roster transcript) =
-    (record { name = roster; limit = 4096 }) ∷ (record { name = transcript; limit = 134217728 }) ∷ []
-inputs_of (Show roster round post) = (record { name = roster; limit = 4096 }) ∷ (record { name = post; limit = 16777216 }) ∷ []
+    (record { name = roster; limit = ROSTER_LIMIT }) ∷ (record { name = transcript; limit = TRANSCRIPT_LIMIT }) ∷ []
+inputs_of (Show roster round post) = (record { name = roster; limit = ROSTER_LIMIT }) ∷ (record { name = post; limit = POST_FILE_LIMIT }) ∷ []
 inputs_of (Keygen key height width) = []
-inputs_of (Roster toml out) = (record { name = toml; limit = 65536 }) ∷ []
+inputs_of (Roster toml out) = (record { name = toml; limit = TOML_LIMIT }) ∷ []
 
 -- a file that is read is there, and has at most this many bytes
 abbrev pub within : ℕ → Option (List ℕ) → Result (List ℕ) Status

@@ -2,6 +2,7 @@
 -- before the call and hold now.
 use Rattle.std.specs.Prelude.{◌≡◌, ◌≢◌, ◌≤◌, ◌⊎◌, IsTrue, ℕ, List, take, Option, None, Some, option_map, Result, Ok, Err, IfSome, IfOk, IsSome, IsSomeAnd}
 use Rattle.outside.specs.Changes.{Change, Failed}
+use Rattle.dissent.specs.declared.commands.TheConstants.{TOML_LIMIT}
 use Rattle.dissent.specs.declared.status.Status.{Status}
 use Rattle.dissent.specs.declared.status.Status.TheVariants.{Done, Usage, ReadFault, WriteFault, DiskFault, OutOfMemory}
 use Rattle.dissent.specs.declared.words.Command.TheVariants.{Judge, Show, Keygen, Roster as MakeRoster}
@@ -198,7 +199,7 @@ pub record IsAnswered (asked : Asked) (files : Change (Option Held)) (disk : Cha
 -- what came of the command `roster` with these names
 pub record IsRosterRun (files : Change (Option Held)) (toml out : List ℕ) (answer : Result (List ℕ) Status) : Type 0 where
   pub answers : (toml_file : Option (List ℕ)) × Shows files.before toml toml_file
-      × YieldsBy (TellsFiles (Failed files)) (roster_outcome (within 65536 toml_file)) answer
+      × YieldsBy (TellsFiles (Failed files)) (roster_outcome (within TOML_LIMIT toml_file)) answer
   pub borne_out : OnOutput (FilesHold files toml out) answer
   pub others : OthersStay files.before files.now out
   pub untouched : IsUntouched files (status_of answer)

@@ -1,8 +1,10 @@
 //! A file of the system as the disk of a key file. It tells nothing of the file's bytes, of
 //! which a crash may leave any as far as its contract says, and counts its faults.
 ghost use Rattle.std.specs.Prelude.{◌≤◌, IfOk, None, length};
+ghost use Rattle.std.specs.Io.KnownBytes.{Keeps, ReadConsumes};
+ghost use Rattle.std.specs.Io.Seek.{MovesTo};
 
-use key_store::{Disk, DiskAnswer, DiskRead};
+use key_store::{Disk, DiskAnswer, DiskRead, nothing_is_torn};
 use std::fs::{File, OpenFile, OpenOptions};
 use std::io::{ErrorKind, Read, Seek, SeekFrom, Write};
 use std::os::unix::fs::OpenOptionsExt;
@@ -101,6 +103,8 @@ where
     }
 
     fn write_at(&mut self, at: u32, bytes: &[u8]) -> DiskAnswer {
+        // It tells of no image, so of none that a write tears.
+        nothing_is_torn();
         match write_from(&mut self.file, at, bytes) {
             Ok(()) => DiskAnswer::Done,
             Err(_) => {
@@ -163,6 +167,15 @@ fn not_chosen() -> io::Error {
     io::Error::from(ErrorKind::NotFound)
 }
 
+// Goes to a place.
+fn go_to<F: Seek>(file: &mut F, at: u32) -> io::Result<()>
+    ensures moves { MovesTo (F.stream_position file.old) (F.stream_position file.new) at result }
+    ensures bytes { Keeps (F.stream_bytes file.old) (F.stream_bytes file.new) }
+{
+    file.seek(SeekFrom::Start(u64::from(at)))?;
+    Ok(())
+}
+
 // Reads once from a place on.
 fn read_from<F: Read + Seek>(file: &mut Option<F>, at: u32, into: &mut [u8]) -> io::Result<u32>
     ensures { IfOk result (λ taken. taken ≤ length into.old) }
@@ -170,7 +183,7 @@ fn read_from<F: Read + Seek>(file: &mut Option<F>, at: u32, into: &mut [u8]) -> 
     let Some(file) = file else {
         return Err(not_chosen());
     };
-    file.seek(SeekFrom::Start(u64::from(at)))?;
+    go_to(file, at)?;
     let taken = read_once(file, into)?;
     match u32::try_from(taken) {
         Ok(taken) => Ok(taken),
@@ -180,7 +193,8 @@ fn read_from<F: Read + Seek>(file: &mut Option<F>, at: u32, into: &mut [u8]) -> 
 
 // One read, and again where it was interrupted.
 fn read_once<F: Read>(file: &mut F, into: &mut [u8]) -> io::Result<usize>
-    ensures { IfOk result (λ taken. taken ≤ length into.old) }
+    ensures bounded { IfOk result (λ taken. taken ≤ length into.old) }
+    ensures bytes { ReadConsumes (F.remaining file.old) (F.remaining file.new) result into.new }
 {
     for _ in 0..u64::MAX {
         match file.read(into) {
@@ -196,7 +210,7 @@ fn write_from<F: Write + Seek>(file: &mut Option<F>, at: u32, bytes: &[u8]) -> i
     let Some(file) = file else {
         return Err(not_chosen());
     };
-    file.seek(SeekFrom::Start(u64::from(at)))?;
+    go_to(file, at)?;
     file.write_all(bytes)
 }
 
@@ -213,3 +227,6 @@ fn sync_all<F: OpenFile>(file: &Option<F>) -> io::Result<()> {
     }
     Err(io::Error::from(ErrorKind::Interrupted))
 }
+
+#[cfg(test)]
+mod tests;

@@ -2,6 +2,8 @@
 //! key files, and makes the file of a roster from one in TOML.
 #![tactic(auto)]
 
+mod commands;
+mod delivery;
 #[cfg(test)]
 mod evidence;
 mod host;
@@ -16,12 +18,13 @@ mod stored;
 mod tests;
 mod words;
 
+pub use commands::{POST_FILE_LIMIT, ROSTER_LIMIT, TOML_LIMIT, TRANSCRIPT_LIMIT};
+use delivery::print;
 pub use host::{HostFiles, WriterSink};
 pub use host_disk::{HostDisk, Lock};
 pub use interfaces::{FileRead, FileWrite, Files, Sink, SinkAnswer};
 pub use memory::{MemoryFiles, MemorySink};
-use offline::print;
-pub use offline::{POST_FILE_LIMIT, ROSTER_LIMIT, TOML_LIMIT, TRANSCRIPT_LIMIT, run_offline};
+pub use offline::run_offline;
 use rand::TryRng;
 use rand::rngs::SysRng;
 pub use status::Status;

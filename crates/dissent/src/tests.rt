@@ -1,13 +1,69 @@
 //! Commands over files and sinks in memory, and the adapters over real files.
 
 use super::*;
+use crate::evidence::first_other_line;
 use key_store::{Disk, DiskAnswer, DiskRead, MemoryDisk};
 use std::alloc::Global;
 use std::os::unix::fs::PermissionsExt;
 use std::test::Fail;
 use std::thread::Threads;
 
-pub(crate) fn words_of(alloc: Global, words: &[&str]) -> Result<Vec<String>, AllocError> {
+// One test, since each that runs a command is proved with all that commands do.
+#[test]
+fn commands_end_as_they_ought_to(rt: HostRuntime) -> Result<(), Fail> {
+    let alloc = rt.alloc();
+    assert_eq!(rt; first_other_usage(&rt, alloc)?, None);
+    assert_eq!(rt; first_other_end(&rt, alloc)?, None);
+    assert_eq!(rt; first_other_line(&rt, alloc)?, None);
+    assert!(rt; is_roster_made(&rt, alloc)?);
+    assert!(rt; is_failed_write_told(&rt, alloc)?);
+    assert!(rt; is_real_key_made(&rt, alloc)?);
+    Ok(())
+}
+
+// What `keygen` makes a key of.
+const FRESH: [u8; 32] = [7; 32];
+
+// The number, from 1, of the call that fails of the files, the disk and the sink; 0 where none does. The files' calls
+// count from the first write of a file that is there before the command.
+#[derive(Clone, Copy)]
+pub(crate) struct Failing {
+    files: u64,
+    disk: u64,
+    sink: u64,
+}
+
+pub(crate) const NOTHING_FAILS: Failing = Failing {
+    files: 0,
+    disk: 0,
+    sink: 0,
+};
+
+// How a command ended: the number of its status, and what it printed.
+#[derive(Drop)]
+pub(crate) struct Ended {
+    number: u8,
+    printed: Vec<u8>,
+}
+
+impl Ended {
+    pub(crate) fn is(&self, number: u8, line: &[u8]) -> bool {
+        self.number == number && self.printed.as_slice() == line
+    }
+}
+
+// Puts a file of a name where a command finds it.
+pub(crate) fn put<F: Files>(
+    alloc: Global,
+    files: &mut F,
+    name: &str,
+    bytes: &Vec<u8>,
+) -> Result<(), AllocError> {
+    let _ = files.write(&String::from_str(alloc, name)?, bytes);
+    Ok(())
+}
+
+fn words_of(alloc: Global, words: &[&str]) -> Result<Vec<String>, AllocError> {
     let mut all = Vec::new(alloc);
     for word in words {
         all.push(String::from_str(alloc, word)?)?;
@@ -15,91 +71,67 @@ pub(crate) fn words_of(alloc: Global, words: &[&str]) -> Result<Vec<String>, All
     Ok(all)
 }
 
-// What `keygen` makes a key of.
-pub(crate) const FRESH: [u8; 32] = [7; 32];
-
-const JUDGE: [&str; 5] = ["judge", "--roster", "r", "--transcript", "t"];
-
-const SHOW: [&str; 7] = ["show", "--roster", "r", "--round", "8", "--post", "t"];
-
-// Files of these names and bytes, of which the calls behind their writing fail that the plan names.
-pub(crate) fn files_of(
-    alloc: Global,
-    failing: Vec<u64>,
-    named: &[(&str, &Vec<u8>)],
-) -> Result<MemoryFiles, AllocError> {
-    let mut files = MemoryFiles::new(alloc, failing);
-    for (name, bytes) in named {
-        let _ = files.write(&String::from_str(alloc, name)?, bytes);
-    }
-    Ok(files)
-}
-
-// How a command ends over these files, with what it prints. No write fails, and no call of the disk.
-pub(crate) fn run_words<R: Threads + Sync>(
+// How a command ends over these objects of the outside.
+fn run_over<R: Threads + Sync, F: Files, D: Disk>(
     rt: &R,
     alloc: Global,
     words: &[&str],
-    files: &mut MemoryFiles,
-) -> Result<(Status, MemorySink), AllocError> {
+    files: &mut F,
+    disk: &mut D,
+    failing: Failing,
+) -> Result<Ended, AllocError> {
     let words = words_of(alloc, words)?;
-    let mut disk = MemoryDisk::new(alloc, 8, Vec::new(alloc))?;
-    let mut out = MemorySink::new(alloc, Vec::new(alloc));
-    let status = run_offline(rt, alloc, &words, files, &mut disk, FRESH, &mut out);
-    Ok((status, out))
+    let mut out = MemorySink::new(alloc, vec![in alloc; failing.sink; 1]?);
+    let status = run_offline(rt, alloc, &words, files, disk, FRESH, &mut out);
+    Ok(Ended {
+        number: status.number(),
+        printed: Vec::from_slice(alloc, out.written())?,
+    })
 }
 
-#[test]
-fn other_words_are_usage(rt: HostRuntime) -> Result<(), Fail> {
-    let alloc = rt.alloc();
-    for words in [
-        ["judge", "--roster", "r"].as_slice(),
-        ["judge", "--roster", "", "--transcript", "t"].as_slice(),
-        ["judge", "--roster", "r", "--transcript", "-t"].as_slice(),
-        ["judge", "--transcript", "t", "--roster", "r"].as_slice(),
-        ["show", "--roster", "r", "--round", "0", "--post", "t"].as_slice(),
-        ["show", "--roster", "r", "--round", "08", "--post", "t"].as_slice(),
-        [
-            "show",
-            "--roster",
-            "r",
-            "--round",
-            "18446744073709551616",
-            "--post",
-            "t",
-        ]
-        .as_slice(),
-        ["roster", "--toml", "", "--out", "o"].as_slice(),
-        ["roster", "--out", "o", "--toml", "t"].as_slice(),
-        ["keygen", "--key", "--height", "5", "--width", "8"].as_slice(),
-        ["keygen", "--key", "", "--height", "5", "--width", "8"].as_slice(),
-        ["keygen", "--key", "k", "--height", "6", "--width", "8"].as_slice(),
-        ["keygen", "--key", "k", "--height", "05", "--width", "8"].as_slice(),
-        ["keygen", "--key", "k", "--height", "5", "--width", "3"].as_slice(),
-        ["keygen", "--key", "k", "--width", "8", "--height", "5"].as_slice(),
-    ] {
-        let mut files = files_of(alloc, Vec::new(alloc), &[])?;
-        let (status, out) = run_words(&rt, alloc, words, &mut files)?;
-        assert_eq!(rt; status, Status::Usage);
-        assert_eq!(rt; status.number(), 1);
-        assert_eq!(rt; out.written(), b"usage\n".as_slice());
+// How a command ends over these files, and a disk and a sink in memory.
+pub(crate) fn run_words<R: Threads + Sync, F: Files>(
+    rt: &R,
+    alloc: Global,
+    words: &[&str],
+    files: &mut F,
+    failing: Failing,
+) -> Result<Ended, AllocError> {
+    let mut disk = MemoryDisk::new(alloc, 8, vec![in alloc; failing.disk; 1]?)?;
+    run_over(rt, alloc, words, files, &mut disk, failing)
+}
+
+// What a file holds.
+#[derive(Clone, Copy)]
+enum Content {
+    // A roster of two keys of H5 and W4.
+    RosterOfTwo,
+    // The same, with 1 for the number of its keys.
+    RosterOfOne,
+    // The roster of two in TOML.
+    TomlOfTwo,
+    // A post of round 7 by a member of the roster of two, with no signature.
+    PostOfRound7,
+    // This number of bytes 0.
+    Zeros(usize),
+}
+
+impl Content {
+    fn bytes(self, alloc: Global) -> Result<Vec<u8>, AllocError> {
+        match self {
+            Content::RosterOfTwo => roster_of_two(alloc, 2),
+            Content::RosterOfOne => roster_of_two(alloc, 1),
+            Content::TomlOfTwo => toml_of_two(alloc),
+            Content::PostOfRound7 => post_of_round_7(alloc),
+            Content::Zeros(count) => vec![in alloc; 0; count],
+        }
     }
-    Ok(())
 }
 
-#[test]
-fn a_missing_roster_is_a_read_fault(rt: HostRuntime) -> Result<(), Fail> {
-    let alloc = rt.alloc();
-    let mut files = files_of(alloc, Vec::new(alloc), &[])?;
-    let (status, out) = run_words(&rt, alloc, &JUDGE, &mut files)?;
-    assert_eq!(rt; status.number(), 5);
-    assert_eq!(rt; out.written(), b"read fault\n".as_slice());
-    Ok(())
-}
-
-// A roster of two keys of H5 and W4.
-fn roster_of_two(alloc: Global) -> Result<Vec<u8>, AllocError> {
-    let mut bytes = Vec::from_slice(alloc, b"DSRO\x01\x02")?;
+// A roster of this number of keys, and two of H5 and W4.
+fn roster_of_two(alloc: Global, count: u8) -> Result<Vec<u8>, AllocError> {
+    let mut bytes = Vec::from_slice(alloc, b"DSRO\x01")?;
+    bytes.push(count)?;
     for member in [1, 2] {
         bytes.extend_from_slice(&[0, 0, 0, 5, 0, 0, 0, 3])?;
         bytes.extend_from_slice(&[member; 48])?;
@@ -107,83 +139,6 @@ fn roster_of_two(alloc: Global) -> Result<Vec<u8>, AllocError> {
     Ok(bytes)
 }
 
-// The bytes of a post of round 7 by a member of the roster of two, with no signature.
-fn post_of_round_7(alloc: Global) -> Result<Vec<u8>, Fail> {
-    let roster = match group_roster::decode(alloc, &roster_of_two(alloc)?) {
-        Ok(roster) => roster,
-        Err(_) => return Err(Fail::from(AllocError)),
-    };
-    let mut bytes = Vec::from_slice(alloc, &[0, 0, 0, 76, 1])?;
-    bytes.extend_from_slice(&roster.id())?;
-    bytes.extend_from_slice(&7u64.to_be_bytes())?;
-    bytes.extend_from_slice(&[0, 1])?;
-    bytes.extend_from_slice(&[0; 33])?;
-    Ok(bytes)
-}
-
-#[test]
-fn a_cut_post_and_one_of_another_round_are_not_shown(rt: HostRuntime) -> Result<(), Fail> {
-    let alloc = rt.alloc();
-    let roster = roster_of_two(alloc)?;
-    let cut = vec![in alloc; 0u8; 3]?;
-    let mut files = files_of(alloc, Vec::new(alloc), &[("r", &roster), ("t", &cut)])?;
-    let (status, out) = run_words(&rt, alloc, &SHOW, &mut files)?;
-    assert_eq!(rt; status.number(), 4);
-    assert_eq!(rt; out.written(), b"refused check 1 post 1 at 3\n".as_slice());
-    let other = post_of_round_7(alloc)?;
-    let mut files = files_of(alloc, Vec::new(alloc), &[("r", &roster), ("t", &other)])?;
-    let (status, out) = run_words(&rt, alloc, &SHOW, &mut files)?;
-    assert_eq!(rt; status.number(), 4);
-    assert_eq!(rt; out.written(), b"refused check 4 post 1 at 0\n".as_slice());
-    Ok(())
-}
-
-#[test]
-fn a_failed_read_of_the_transcript_is_a_read_fault(rt: HostRuntime) -> Result<(), Fail> {
-    let alloc = rt.alloc();
-    let roster = roster_of_two(alloc)?;
-    let transcript = vec![in alloc; 0u8; 100]?;
-    let failing = vec![in alloc; 4]?;
-    let mut files = files_of(alloc, failing, &[("r", &roster), ("t", &transcript)])?;
-    let (status, _) = run_words(&rt, alloc, &JUDGE, &mut files)?;
-    assert_eq!(rt; status, Status::ReadFault);
-    Ok(())
-}
-
-#[test]
-fn a_failed_first_write_is_a_write_fault(rt: HostRuntime) -> Result<(), Fail> {
-    let alloc = rt.alloc();
-    let words = words_of(alloc, &JUDGE)?;
-    let mut files = files_of(alloc, Vec::new(alloc), &[])?;
-    let mut out = MemorySink::new(alloc, vec![in alloc; 1]?);
-    let mut disk = MemoryDisk::new(alloc, 8, Vec::new(alloc))?;
-    let status = run_offline(&rt, alloc, &words, &mut files, &mut disk, FRESH, &mut out);
-    assert_eq!(rt; status.number(), 6);
-    assert_eq!(rt; out.written().len(), 0);
-    Ok(())
-}
-
-#[test]
-fn wrong_rosters_have_their_status(rt: HostRuntime) -> Result<(), Fail> {
-    let alloc = rt.alloc();
-    let long = vec![in alloc; 0u8; 4097]?;
-    let mut of_one = roster_of_two(alloc)?;
-    if let Some(members) = of_one.get_mut(5) {
-        *members = 1;
-    }
-    for (roster, number, line) in [
-        (&long, 13, b"too long limit 4096\n".as_slice()),
-        (&of_one, 11, b"bad roster at 5 rule 3\n".as_slice()),
-    ] {
-        let mut files = files_of(alloc, Vec::new(alloc), &[("r", roster)])?;
-        let (status, out) = run_words(&rt, alloc, &JUDGE, &mut files)?;
-        assert_eq!(rt; status.number(), number);
-        assert_eq!(rt; out.written(), line);
-    }
-    Ok(())
-}
-
-// The roster of two in TOML.
 fn toml_of_two(alloc: Global) -> Result<Vec<u8>, AllocError> {
     let mut text = Vec::from_slice(alloc, b"version = 1\n")?;
     for digit in [b'1', b'2'] {
@@ -196,50 +151,232 @@ fn toml_of_two(alloc: Global) -> Result<Vec<u8>, AllocError> {
     Ok(text)
 }
 
+fn post_of_round_7(alloc: Global) -> Result<Vec<u8>, AllocError> {
+    let Ok(roster) = group_roster::decode(alloc, &roster_of_two(alloc, 2)?) else {
+        return Err(AllocError);
+    };
+    let mut bytes = Vec::from_slice(alloc, &[0, 0, 0, 76, 1])?;
+    bytes.extend_from_slice(&roster.id())?;
+    bytes.extend_from_slice(&7u64.to_be_bytes())?;
+    bytes.extend_from_slice(&[0, 1])?;
+    bytes.extend_from_slice(&[0; 33])?;
+    Ok(bytes)
+}
+
+// Files of these names.
+fn files_of(
+    alloc: Global,
+    failing: Failing,
+    named: &[(&str, Content)],
+) -> Result<MemoryFiles, AllocError> {
+    let mut files = MemoryFiles::new(alloc, vec![in alloc; failing.files; 1]?);
+    for (name, content) in named {
+        put(alloc, &mut files, name, &content.bytes(alloc)?)?;
+    }
+    Ok(files)
+}
+
+// A command over named files, and the number and the line that it ends with.
+#[derive(Clone, Copy)]
+struct Case {
+    words: &'static [&'static str],
+    named: &'static [(&'static str, Content)],
+    failing: Failing,
+    number: u8,
+    line: &'static [u8],
+}
+
+// Whether a command ends as its case says.
+fn ends<R: Threads + Sync>(rt: &R, alloc: Global, case: &Case) -> Result<bool, AllocError> {
+    let mut files = files_of(alloc, case.failing, case.named)?;
+    let ended = run_words(rt, alloc, case.words, &mut files, case.failing)?;
+    Ok(ended.is(case.number, case.line))
+}
+
+const JUDGE: [&str; 5] = ["judge", "--roster", "r", "--transcript", "t"];
+
+const SHOW: [&str; 7] = ["show", "--roster", "r", "--round", "8", "--post", "t"];
+
 const ROSTER: [&str; 5] = ["roster", "--toml", "t", "--out", "o"];
 
-// The id is the SHA-256 of "DSNT1", the byte 2, the length 118 in four bytes, and the roster, by another program.
-#[test]
-fn a_roster_is_made_from_toml(rt: HostRuntime) -> Result<(), Fail> {
-    let alloc = rt.alloc();
-    let toml = toml_of_two(alloc)?;
-    let mut files = files_of(alloc, Vec::new(alloc), &[("t", &toml)])?;
-    let (status, out) = run_words(&rt, alloc, &ROSTER, &mut files)?;
-    assert_eq!(rt; status, Status::Done);
-    assert_eq!(rt;
-        out.written(),
-        b"17c2500c1e21f6290949ca9ccf3e0206ae311e24b1aa59f31de8dc793543b9ec\n".as_slice()
-    );
-    let name = String::from_str(alloc, "o")?;
-    let roster = roster_of_two(alloc)?;
-    assert_eq!(rt; roster.len(), 118);
-    assert!(rt; matches!(files.read(&name, 118), FileRead::Bytes(read) if read.items() == &roster));
-    Ok(())
+const KEYGEN: [&str; 7] = ["keygen", "--key", "k", "--height", "5", "--width", "8"];
+
+// Words that are not those of a command.
+const OTHER_WORDS: [&[&str]; 15] = [
+    &["judge", "--roster", "r"],
+    &["judge", "--roster", "", "--transcript", "t"],
+    &["judge", "--roster", "r", "--transcript", "-t"],
+    &["judge", "--transcript", "t", "--roster", "r"],
+    &["show", "--roster", "r", "--round", "0", "--post", "t"],
+    &["show", "--roster", "r", "--round", "08", "--post", "t"],
+    &[
+        "show",
+        "--roster",
+        "r",
+        "--round",
+        "18446744073709551616",
+        "--post",
+        "t",
+    ],
+    &["roster", "--toml", "", "--out", "o"],
+    &["roster", "--out", "o", "--toml", "t"],
+    &["keygen", "--key", "--height", "5", "--width", "8"],
+    &["keygen", "--key", "", "--height", "5", "--width", "8"],
+    &["keygen", "--key", "k", "--height", "6", "--width", "8"],
+    &["keygen", "--key", "k", "--height", "05", "--width", "8"],
+    &["keygen", "--key", "k", "--height", "5", "--width", "3"],
+    &["keygen", "--key", "k", "--width", "8", "--height", "5"],
+];
+
+// The first of these words that is not answered by `usage`.
+fn first_other_usage<R: Threads + Sync>(
+    rt: &R,
+    alloc: Global,
+) -> Result<Option<usize>, AllocError> {
+    for (place, words) in OTHER_WORDS.iter().enumerate() {
+        let mut files = files_of(alloc, NOTHING_FAILS, &[])?;
+        let ended = run_words(rt, alloc, words, &mut files, NOTHING_FAILS)?;
+        if !ended.is(1, b"usage\n") {
+            return Ok(Some(place));
+        }
+    }
+    Ok(None)
 }
 
-#[test]
-fn toml_without_a_version_is_a_bad_roster(rt: HostRuntime) -> Result<(), Fail> {
-    let alloc = rt.alloc();
-    let empty = Vec::new(alloc);
-    let mut files = files_of(alloc, Vec::new(alloc), &[("t", &empty)])?;
-    let (status, out) = run_words(&rt, alloc, &ROSTER, &mut files)?;
-    assert_eq!(rt; status.number(), 11);
-    assert_eq!(rt; out.written(), b"bad roster at 0 rule 11\n".as_slice());
-    Ok(())
+// Missing, failing and wrong files, each with its status and its line.
+const CASES: [Case; 9] = [
+    Case {
+        words: &JUDGE,
+        named: &[],
+        failing: NOTHING_FAILS,
+        number: 5,
+        line: b"read fault\n",
+    },
+    // The transcript can't be read.
+    Case {
+        words: &JUDGE,
+        named: &[("r", Content::RosterOfTwo), ("t", Content::Zeros(100))],
+        failing: Failing {
+            files: 4,
+            disk: 0,
+            sink: 0,
+        },
+        number: 5,
+        line: b"read fault\n",
+    },
+    Case {
+        words: &JUDGE,
+        named: &[],
+        failing: Failing {
+            files: 0,
+            disk: 0,
+            sink: 1,
+        },
+        number: 6,
+        line: b"",
+    },
+    Case {
+        words: &JUDGE,
+        named: &[("r", Content::Zeros(4097))],
+        failing: NOTHING_FAILS,
+        number: 13,
+        line: b"too long limit 4096\n",
+    },
+    Case {
+        words: &JUDGE,
+        named: &[("r", Content::RosterOfOne)],
+        failing: NOTHING_FAILS,
+        number: 11,
+        line: b"bad roster at 5 rule 3\n",
+    },
+    Case {
+        words: &SHOW,
+        named: &[("r", Content::RosterOfTwo), ("t", Content::Zeros(3))],
+        failing: NOTHING_FAILS,
+        number: 4,
+        line: b"refused check 1 post 1 at 3\n",
+    },
+    Case {
+        words: &SHOW,
+        named: &[("r", Content::RosterOfTwo), ("t", Content::PostOfRound7)],
+        failing: NOTHING_FAILS,
+        number: 4,
+        line: b"refused check 4 post 1 at 0\n",
+    },
+    // A text without a version.
+    Case {
+        words: &ROSTER,
+        named: &[("t", Content::Zeros(0))],
+        failing: NOTHING_FAILS,
+        number: 11,
+        line: b"bad roster at 0 rule 11\n",
+    },
+    Case {
+        words: &KEYGEN,
+        named: &[],
+        failing: Failing {
+            files: 0,
+            disk: 1,
+            sink: 0,
+        },
+        number: 8,
+        line: b"disk fault\n",
+    },
+];
+
+// The first of these cases that ends otherwise.
+fn first_other_end<R: Threads + Sync>(rt: &R, alloc: Global) -> Result<Option<usize>, AllocError> {
+    for (place, case) in CASES.iter().enumerate() {
+        if !ends(rt, alloc, case)? {
+            return Ok(Some(place));
+        }
+    }
+    Ok(None)
 }
 
-#[test]
-fn a_failed_write_of_a_roster_is_a_write_fault(rt: HostRuntime) -> Result<(), Fail> {
-    let alloc = rt.alloc();
-    let toml = toml_of_two(alloc)?;
-    let failing = vec![in alloc; 3]?;
-    let mut files = files_of(alloc, failing, &[("t", &toml)])?;
-    let (status, out) = run_words(&rt, alloc, &ROSTER, &mut files)?;
-    assert_eq!(rt; status.number(), 6);
-    assert_eq!(rt; out.written().len(), 0);
-    let name = String::from_str(alloc, "o")?;
-    assert!(rt; matches!(files.read(&name, 118), FileRead::Failed));
-    Ok(())
+// What a read of a file of at most 128 bytes gives.
+fn read_of<F: Files>(alloc: Global, files: &mut F, name: &str) -> Result<FileRead, AllocError> {
+    Ok(files.read(&String::from_str(alloc, name)?, 128))
+}
+
+// How `roster` ends over the roster of two in TOML, and what the file that it names holds then.
+fn roster_made<R: Threads + Sync>(
+    rt: &R,
+    alloc: Global,
+    failing: Failing,
+) -> Result<(Ended, FileRead), AllocError> {
+    let mut files = files_of(alloc, failing, &[("t", Content::TomlOfTwo)])?;
+    let ended = run_words(rt, alloc, &ROSTER, &mut files, failing)?;
+    let read = read_of(alloc, &mut files, "o")?;
+    Ok((ended, read))
+}
+
+// Whether the roster of two is made of its TOML. The id is the SHA-256 of "DSNT1", the byte 2, the length 118 in four
+// bytes, and the roster, by another program.
+fn is_roster_made<R: Threads + Sync>(rt: &R, alloc: Global) -> Result<bool, AllocError> {
+    let roster = roster_of_two(alloc, 2)?;
+    let (ended, read) = roster_made(rt, alloc, NOTHING_FAILS)?;
+    let id = b"17c2500c1e21f6290949ca9ccf3e0206ae311e24b1aa59f31de8dc793543b9ec\n";
+    Ok(roster.len() == 118 && ended.is(0, id) && holds(&read, &roster))
+}
+
+// Whether a read gave these bytes.
+fn holds(read: &FileRead, bytes: &Vec<u8>) -> bool {
+    match read {
+        FileRead::Bytes(read) => read.items() == bytes,
+        _ => false,
+    }
+}
+
+// Whether a failed write of the roster is a write fault that leaves no file.
+fn is_failed_write_told<R: Threads + Sync>(rt: &R, alloc: Global) -> Result<bool, AllocError> {
+    let failing = Failing {
+        files: 3,
+        disk: 0,
+        sink: 0,
+    };
+    let (ended, read) = roster_made(rt, alloc, failing)?;
+    Ok(ended.is(6, b"") && matches!(read, FileRead::Failed))
 }
 
 #[test]
@@ -256,47 +393,55 @@ fn real_files_are_written_and_read(rt: HostRuntime) -> Result<(), Fail> {
     Ok(())
 }
 
-const KEYGEN: [&str; 7] = ["keygen", "--key", "k", "--height", "5", "--width", "8"];
+const REAL_NAME: &str = "dissent-keygen-test";
 
-#[test]
-fn a_failed_disk_is_a_disk_fault(rt: HostRuntime) -> Result<(), Fail> {
-    let alloc = rt.alloc();
-    let words = words_of(alloc, &KEYGEN)?;
-    let mut files = MemoryFiles::new(alloc, Vec::new(alloc));
-    let mut out = MemorySink::new(alloc, Vec::new(alloc));
-    let mut disk = MemoryDisk::new(alloc, 8, vec![in alloc; 1]?)?;
-    let status = run_offline(&rt, alloc, &words, &mut files, &mut disk, FRESH, &mut out);
-    assert_eq!(rt; status.number(), 8);
-    assert_eq!(rt; out.written(), b"disk fault\n".as_slice());
-    Ok(())
+const REAL_KEYGEN: [&str; 7] = [
+    "keygen",
+    "--key",
+    "dissent-keygen-test",
+    "--height",
+    "5",
+    "--width",
+    "8",
+];
+
+// Whether a read gave 128 bytes, with a gate of 1 before the first slot.
+fn is_key_file(read: &FileRead) -> bool {
+    match read {
+        FileRead::Bytes(file) => file.items().len() == 128 && file.items().get(64) == Some(&1),
+        _ => false,
+    }
 }
 
-#[test]
-fn a_real_key_file_is_made(rt: HostRuntime) -> Result<(), Fail> {
-    let alloc = rt.alloc();
-    let mut words = words_of(alloc, &KEYGEN)?;
-    let name = String::from_str(alloc, "dissent-keygen-test")?;
-    if let Some(word) = words.get_mut(2) {
-        *word = name.clone()?;
-    }
-    let _ = std::fs::remove_file(&rt, name.as_str());
-    let mut files = HostFiles::new(&rt, alloc);
-    let mut out = MemorySink::new(alloc, Vec::new(alloc));
-    let mut disk = HostDisk::new(&rt);
-    let made = run_offline(&rt, alloc, &words, &mut files, &mut disk, FRESH, &mut out);
-    assert_eq!(rt; made, Status::Done);
-    assert_eq!(rt;
-        out.written(),
-        b"0000000500000004c38970f99daec961dcb56caff82ff0504de3b0aa54fe7804110429bd2ef14f4d37f7eb3c5340ecd941ae59bc02404f5c\n".as_slice()
-    );
-    assert!(rt;
-        matches!(files.read(&name, 128), FileRead::Bytes(file)
-        if file.items().len() == 128 && file.items().get(64) == Some(&1))
-    );
-    let again = run_offline(&rt, alloc, &words, &mut files, &mut disk, FRESH, &mut out);
-    assert_eq!(rt; again, Status::DiskFault);
-    std::fs::remove_file(&rt, name.as_str())?;
-    Ok(())
+// Whether a real key file is made, and not a second time.
+fn is_real_key_made<R: Runtime + Threads + Sync>(rt: &R, alloc: Global) -> io::Result<bool>
+where
+    R::File: Lock,
+{
+    let _ = std::fs::remove_file(rt, REAL_NAME);
+    let mut files = HostFiles::new(rt, alloc);
+    let mut disk = HostDisk::new(rt);
+    let made = run_over(
+        rt,
+        alloc,
+        &REAL_KEYGEN,
+        &mut files,
+        &mut disk,
+        NOTHING_FAILS,
+    )?;
+    let key =
+        b"0000000500000004c38970f99daec961dcb56caff82ff0504de3b0aa54fe7804110429bd2ef14f4d37f7eb3c5340ecd941ae59bc02404f5c\n";
+    let read = read_of(alloc, &mut files, REAL_NAME)?;
+    let again = run_over(
+        rt,
+        alloc,
+        &REAL_KEYGEN,
+        &mut files,
+        &mut disk,
+        NOTHING_FAILS,
+    )?;
+    std::fs::remove_file(rt, REAL_NAME)?;
+    Ok(made.is(0, key) && is_key_file(&read) && again.is(8, b"disk fault\n"))
 }
 
 #[test]

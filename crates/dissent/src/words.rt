@@ -1,6 +1,6 @@
 //! The words of a command line.
 ghost use Rattle.std.specs.Prelude.{◌≡◌, None, Some, MatchOption, IsTrue, ◌↔◌, ◌∷◌, [], length, option_map, string_bytes};
-ghost use Rattle.dissent.specs.Command.{requested, makes_key, request_of, texts, is_value, number_of, height_of, width_of, has_form, judge_form, show_form, keygen_form, roster_form, judge_values, show_values, keygen_values, roster_values};
+ghost use Rattle.dissent.specs.Command.{requested, makes_key, request_of, request_by, are_words, texts, is_value, number_of, height_of, width_of, judge_form, show_form, keygen_form, roster_form};
 
 use lms_tree::{MadeHeight, OtsType};
 
@@ -33,19 +33,17 @@ pub enum Command<N> {
 
 /// The command that the words name, where they are exactly those of a command, in order: `judge --roster FILE
 /// --transcript FILE`, `show --roster FILE --round R --post FILE`, `roster --toml FILE --out FILE` or `keygen --key FILE
-/// --height H --width W`. No FILE
-/// is empty or begins with `-`, R is a number from 1 to 2^64 - 1 in decimal digits, of which the first is not 0, H is
-/// `5` or `10`, and W is `1`, `2`, `4` or `8`.
-#[tactic(auto, using(crate::proofs::Requests::other_count))]
+/// --height H --width W`. No FILE is empty or begins with `-`, R is a number from 1 to 2^64 - 1 in decimal digits, of
+/// which the first is not 0, H is `5` or `10`, and W is `1`, `2`, `4` or `8`.
 pub fn read_words(words: &Vec<String>) -> Option<Command<&String>>
     ensures { MatchOption result (requested (texts words.now.items) ≡ None)
         (λ command. requested (texts words.now.items) ≡ Some (request_of command (λ name. string_bytes name.now))) }
 {
-    match words.len() {
-        5 => five_words(words),
-        7 => seven_words(words),
-        _ => None,
-    }
+    let words = words.as_slice();
+    judge_words(words)
+        .or(show_words(words))
+        .or(roster_words(words))
+        .or(keygen_words(words))
 }
 
 /// Whether the words ask for a key file.
@@ -55,84 +53,47 @@ pub fn is_keygen(words: &Vec<String>) -> bool
     matches!(read_words(words), Some(Command::Keygen { .. }))
 }
 
-// The same for five words, which `judge` and `roster` have.
-fn five_words(words: &Vec<String>) -> Option<Command<&String>>
-    requires { length words.now.items ≡ 5 }
-    ensures { MatchOption result (requested (texts words.now.items) ≡ None)
-        (λ command. requested (texts words.now.items) ≡ Some (request_of command (λ name. string_bytes name.now))) }
-{
-    let [command, first_option, first, second_option, second] = words.as_slice() else {
-        return None;
-    };
-    if is_judge_form(command, first_option, second_option) {
-        judge_words(first, second)
-    } else if is_roster_form(command, first_option, second_option) {
-        roster_words(first, second)
-    } else {
-        None
-    }
-}
-
-// The same for seven words, which `show` and `keygen` have.
-fn seven_words(words: &Vec<String>) -> Option<Command<&String>>
-    requires { length words.now.items ≡ 7 }
-    ensures { MatchOption result (requested (texts words.now.items) ≡ None)
-        (λ command. requested (texts words.now.items) ≡ Some (request_of command (λ name. string_bytes name.now))) }
-{
-    let [
-        command,
-        first_option,
-        first,
-        second_option,
-        second,
-        third_option,
-        third,
-    ] = words.as_slice()
-    else {
-        return None;
-    };
-    if is_show_form(command, first_option, second_option, third_option) {
-        show_words(first, second, third)
-    } else if is_keygen_form(command, first_option, second_option, third_option) {
-        keygen_words(first, second, third)
-    } else {
-        None
-    }
-}
-
-// The command `judge` of these values.
-fn judge_words<'a>(roster: &'a String, transcript: &'a String) -> Option<Command<&'a String>>
+// The command `judge`, where the words are of its form.
+#[tactic(auto, using(crate::proofs::Requests::texts_other, crate::proofs::Requests::two_values))]
+fn judge_words(words: &[String]) -> Option<Command<&String>>
     ensures { option_map (λ command. request_of command (λ name. string_bytes name.now)) result
-        ≡ judge_values (string_bytes roster.now) (string_bytes transcript.now) }
+        ≡ request_by (texts words.now) judge_form }
 {
-    if is_plain(roster) && is_plain(transcript) {
+    let [name, first_option, roster, second_option, transcript] = words else {
+        return None;
+    };
+    if is_judge_form(name, first_option, second_option)
+        && is_plain(roster)
+        && is_plain(transcript)
+    {
         Some(Command::Judge { roster, transcript })
     } else {
         None
     }
 }
 
-// The command `roster` of these values.
-fn roster_words<'a>(toml: &'a String, out: &'a String) -> Option<Command<&'a String>>
+// The command `show`, where the words are of its form.
+#[tactic(auto, using(crate::proofs::Requests::texts_other, crate::proofs::Requests::three_values))]
+fn show_words(words: &[String]) -> Option<Command<&String>>
     ensures { option_map (λ command. request_of command (λ name. string_bytes name.now)) result
-        ≡ roster_values (string_bytes toml.now) (string_bytes out.now) }
+        ≡ request_by (texts words.now) show_form }
 {
-    if is_plain(toml) && is_plain(out) {
-        Some(Command::Roster { toml, out })
-    } else {
-        None
-    }
-}
-
-// The command `show` of these values.
-fn show_words<'a>(
-    roster: &'a String,
-    round: &String,
-    post: &'a String,
-) -> Option<Command<&'a String>>
-    ensures { option_map (λ command. request_of command (λ name. string_bytes name.now)) result ≡ show_values (string_bytes roster.now) (string_bytes round.now) (string_bytes post.now) }
-{
-    if is_plain(roster) && is_plain(post) {
+    let [
+        name,
+        first_option,
+        roster,
+        second_option,
+        round,
+        third_option,
+        post,
+    ] = words
+    else {
+        return None;
+    };
+    if is_show_form(name, first_option, second_option, third_option)
+        && is_plain(roster)
+        && is_plain(post)
+    {
         let round = read_number(round)?;
         Some(Command::Show {
             roster,
@@ -144,11 +105,41 @@ fn show_words<'a>(
     }
 }
 
-// The command `keygen` of these values.
-fn keygen_words<'a>(key: &'a String, height: &String, width: &String) -> Option<Command<&'a String>>
-    ensures { option_map (λ command. request_of command (λ name. string_bytes name.now)) result ≡ keygen_values (string_bytes key.now) (string_bytes height.now) (string_bytes width.now) }
+// The command `roster`, where the words are of its form.
+#[tactic(auto, using(crate::proofs::Requests::texts_other, crate::proofs::Requests::two_values))]
+fn roster_words(words: &[String]) -> Option<Command<&String>>
+    ensures { option_map (λ command. request_of command (λ name. string_bytes name.now)) result
+        ≡ request_by (texts words.now) roster_form }
 {
-    if is_plain(key) {
+    let [name, first_option, toml, second_option, out] = words else {
+        return None;
+    };
+    if is_roster_form(name, first_option, second_option) && is_plain(toml) && is_plain(out) {
+        Some(Command::Roster { toml, out })
+    } else {
+        None
+    }
+}
+
+// The command `keygen`, where the words are of its form.
+#[tactic(auto, using(crate::proofs::Requests::texts_other, crate::proofs::Requests::three_values))]
+fn keygen_words(words: &[String]) -> Option<Command<&String>>
+    ensures { option_map (λ command. request_of command (λ name. string_bytes name.now)) result
+        ≡ request_by (texts words.now) keygen_form }
+{
+    let [
+        name,
+        first_option,
+        key,
+        second_option,
+        height,
+        third_option,
+        width,
+    ] = words
+    else {
+        return None;
+    };
+    if is_keygen_form(name, first_option, second_option, third_option) && is_plain(key) {
         let height = read_height(height)?;
         let width = read_width(width)?;
         Some(Command::Keygen { key, height, width })
@@ -159,8 +150,8 @@ fn keygen_words<'a>(key: &'a String, height: &String, width: &String) -> Option<
 
 // Whether the words that are no values are those of `judge`.
 fn is_judge_form(command: &String, first_option: &String, second_option: &String) -> bool
-    ensures { result ≡ has_form
-        (string_bytes command.now ∷ string_bytes first_option.now ∷ string_bytes second_option.now ∷ []) judge_form }
+    ensures { result ≡ are_words
+        (string_bytes command.now ∷ string_bytes first_option.now ∷ string_bytes second_option.now ∷ []) (judge_form.name ∷ judge_form.options) }
 {
     command.as_str() == "judge"
         && first_option.as_str() == "--roster"
@@ -169,8 +160,8 @@ fn is_judge_form(command: &String, first_option: &String, second_option: &String
 
 // Whether the words that are no values are those of `roster`.
 fn is_roster_form(command: &String, first_option: &String, second_option: &String) -> bool
-    ensures { result ≡ has_form
-        (string_bytes command.now ∷ string_bytes first_option.now ∷ string_bytes second_option.now ∷ []) roster_form }
+    ensures { result ≡ are_words
+        (string_bytes command.now ∷ string_bytes first_option.now ∷ string_bytes second_option.now ∷ []) (roster_form.name ∷ roster_form.options) }
 {
     command.as_str() == "roster"
         && first_option.as_str() == "--toml"
@@ -184,8 +175,8 @@ fn is_show_form(
     second_option: &String,
     third_option: &String,
 ) -> bool
-    ensures { result ≡ has_form (string_bytes command.now ∷ string_bytes first_option.now
-        ∷ string_bytes second_option.now ∷ string_bytes third_option.now ∷ []) show_form }
+    ensures { result ≡ are_words (string_bytes command.now ∷ string_bytes first_option.now
+        ∷ string_bytes second_option.now ∷ string_bytes third_option.now ∷ []) (show_form.name ∷ show_form.options) }
 {
     command.as_str() == "show"
         && first_option.as_str() == "--roster"
@@ -200,8 +191,8 @@ fn is_keygen_form(
     second_option: &String,
     third_option: &String,
 ) -> bool
-    ensures { result ≡ has_form (string_bytes command.now ∷ string_bytes first_option.now
-        ∷ string_bytes second_option.now ∷ string_bytes third_option.now ∷ []) keygen_form }
+    ensures { result ≡ are_words (string_bytes command.now ∷ string_bytes first_option.now
+        ∷ string_bytes second_option.now ∷ string_bytes third_option.now ∷ []) (keygen_form.name ∷ keygen_form.options) }
 {
     command.as_str() == "keygen"
         && first_option.as_str() == "--key"

@@ -1,15 +1,17 @@
 -- Lists and pads that were said, and what a list opens to.
 use Rattle.std.proofs.Common.{◌≡◌, ℕ, zero, suc, ◌+◌, ◌<◌, ◌≤◌, List, [], ◌∷◌, length, map, All, Option, Some, None, inl, inr, refl, ap, sym, ◌∙◌, subst, arith}
 use Rattle.std.specs.Prelude.{IfSome, IsSome, option_and_then, replicate}
-use Rattle.std.specs.List.{AllByRecursion}
+use Rattle.std.specs.List.{AllByRecursion, enumerate_from}
 use Rattle.std.proofs.lemmas.List.{length-map}
-use Rattle.std.proofs.lemmas.List.FromFn.{length-map-range_with_len}
+use Rattle.std.proofs.lemmas.List.FromFn.{length-enumerate_from, length-map-range_with_len}
 use Rattle.phase_message.specs.declared.content.Body.{Body}
 use Rattle.phase_message.specs.Shape.{Shape}
 use Rattle.phase_message.proofs.Table.{keys_is, pad_is}
 use Rattle.bulk_descriptor.specs.declared.slot_state.SlotState.{SlotState}
 use Rattle.bulk_descriptor.specs.Descriptor.{Description, descriptor_read}
-use Rattle.bulk_descriptor.specs.SlotState.{AreSlots, slot_states}
+use Rattle.bulk_descriptor.specs.SlotState.{AreSlots, pads_for, slot_state, slot_states}
+use Rattle.accusation.specs.Item.{NamesWithin}
+use Rattle.accusation.proofs.AccusationLemmas.{states_name_members}
 use Rattle.shuffle_core.specs.Shuffle.{opened_item, opened_list}
 use Rattle.stage_log.specs.Log.{before}
 use Rattle.stage_log.specs.Table.{IsLog, Log}
@@ -112,3 +114,19 @@ are-slots n members found opened table same is opened_count table_count rows has
       pads = λ k d lt. rows k d lt ∙ sym count;
       hashes = subst (λ (m : ℕ). All (λ (slot : Option Description). IfSome slot (λ (d : Description). length d.pad_hashes ≡ m)) found) (same ∙ sym count) hashes;
     }
+
+-- there is one for each slot, and they name members alone
+pub states-count : (members : ℕ) (found : List (Option Description)) (opened : List (Option (List ℕ))) (table : List (List (List ℕ))) (states : List SlotState) (n : ℕ)
+    → found ≡ map (option_and_then (descriptor_read n)) opened → length opened ≡ members → states ≡ slot_states found table → length states ≡ members
+states-count members found opened table states n is opened_count are =
+    ap (λ (t : List SlotState). length t) are
+    ∙ length-map (enumerate_from 0 found) (λ (p : ℕ × Option Description). slot_state p.1 (pads_for table p.0))
+    ∙ length-enumerate_from 0 found
+    ∙ ap (λ (t : List (Option Description)). length t) is
+    ∙ length-map opened (option_and_then (descriptor_read n)) ∙ opened_count
+
+pub states-name : (members : ℕ) (found : List (Option Description)) (table : List (List (List ℕ))) (states : List SlotState) → length table ≡ members → states ≡ slot_states found table
+    → All (NamesWithin members) states
+states-name members found table states count are =
+    subst (λ (t : List SlotState). All (NamesWithin members) t) (sym are)
+    (subst (λ (m : ℕ). All (NamesWithin m) (slot_states found table)) count (states_name_members found table))

@@ -73,14 +73,15 @@ pub struct BulkSecrets {
 }
 
 impl BulkSecrets {
-    ghost use Rattle.std.specs.Prelude.{◌≡◌, IfOk};
+    ghost use Rattle.std.specs.Prelude.{◌≡◌, IfOk, length};
     ghost use Rattle.round_spec.specs.Say.{Configuration, shape_in};
     ghost use Rattle.honest_say.specs.Own.{AreBulkSecrets};
 
     /// The secrets of a round of so many members, from the member's 32 fresh bytes.
     pub fn derive(alloc: Global, fresh: &[u8; 32], round: u64, members: u8) -> Mem<BulkSecrets>
-        ensures { IfOk result (λ secrets. (c : Configuration) → c.fresh ≡ fresh.now → c.round ≡ round →
+        ensures own { IfOk result (λ secrets. (c : Configuration) → c.fresh ≡ fresh.now → c.round ≡ round →
             (shape_in c).members ≡ members → AreBulkSecrets c secrets) }
+        ensures count { IfOk result (λ secrets. length secrets.pad_seeds ≡ members) }
     {
         let seeds = pad_seeds(alloc, fresh, round, members)?;
         let key_seed = derived(fresh, round, 3, 0);

@@ -4,7 +4,7 @@ use Rattle.phase_message.specs.Shape.{Shape}
 use Rattle.bulk_descriptor.specs.Descriptor.{Description}
 use Rattle.bulk_descriptor.specs.Fields.{description_of}
 use Rattle.shuffle_blame.specs.Asked.{past_of}
-use Rattle.honest_say.proofs.OpeningLemmas.{are-slots, descriptors-are, pads-count, states-are}
+use Rattle.honest_say.proofs.OpeningLemmas.{are-slots, descriptors-are, pads-count, states-are, states-count, states-name}
 use Rattle.honest_say.proofs.opening.slots_said.Goals as goal
 
 pub recover-requires : goal.recover-requires
@@ -34,4 +34,6 @@ returns c =
       pads = c.in_ok-pads.ensures.value;
       states = c.of-2.ensures ∙ states-are log.shape past found c.in_ok-pads.pads.members c.in_ok-states.states.items are_found c.in_ok-pads.ensures.value c.in_ok-states.ensures;
       fit = rw c.of.ensures fit;
+      count = states-count log.shape.members found opened.items c.in_ok-pads.pads.members c.of-2.result c.shape.result.members c.in_ok-descriptors.ensures.value opened_count (c.of-2.ensures ∙ c.in_ok-states.ensures);
+      names = states-name log.shape.members found c.in_ok-pads.pads.members c.of-2.result table_count (c.of-2.ensures ∙ c.in_ok-states.ensures);
     }

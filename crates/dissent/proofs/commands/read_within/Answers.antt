@@ -1,6 +1,6 @@
 use Rattle.std.proofs.Common.{refl}
 use Rattle.dissent.proofs.Reading.{too_long, failed, no_memory}
-use Rattle.dissent.proofs.offline.read_within.Goals as goal
+use Rattle.dissent.proofs.commands.read_within.Goals as goal
 
 pub returns-in-TooLong-clause-answer : goal.returns-in-TooLong-clause-answer
 returns-in-TooLong-clause-answer g c = too_long _ _ _ _ (c.in-TooLong.ensures.too_long refl)

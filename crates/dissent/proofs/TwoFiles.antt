@@ -1,6 +1,7 @@
 -- How the answers of the steps of `judge` and of `show` go together, whatever reads the roster, looks at the second
 -- file and tells of it.
 use Rattle.std.proofs.Common.{◌≡◌, inl, inr, refl, sym, ◌∙◌, ap, ℕ, ◌≤◌, List, Option, Result, Ok, Err, subst, arith}
+use Rattle.dissent.specs.declared.commands.TheConstants.{ROSTER_LIMIT}
 use Rattle.dissent.specs.declared.status.Status.{Status}
 use Rattle.dissent.specs.declared.status.Status.TheVariants.{OutOfMemory}
 use Rattle.transcript_form.specs.Refusals.{Failure}
@@ -23,7 +24,7 @@ Reads fault told name limit answer = (file : Option (List ℕ)) × Shows told na
 abbrev pub outcome_by : (V A : Type 0) → ℕ → (A → List ℕ) → (List ℕ → Result V (ℕ × ℕ)) → (V → List ℕ → Result A Failure)
     → Option (List ℕ) → Option (List ℕ) → Result (List ℕ) Status
 outcome_by V A limit line read_roster judge_bytes roster_file second_file =
-    within 4096 roster_file >>= λ bytes.
+    within ROSTER_LIMIT roster_file >>= λ bytes.
     or_bad_roster (read_roster bytes) >>= λ roster.
     within limit second_file >>= λ read.
     or_refused line (judge_bytes roster read)
@@ -60,7 +61,7 @@ module _ (V A : Type 0) (limit : ℕ) (line : A → List ℕ) (read_roster : Lis
 
   -- the roster file could not be read
   pub roster_unread : (fault : Type 0) (told : Option Held) (roster transcript : List ℕ) (status : Status)
-      → Reads fault told roster 4096 (Err status) → Judges fault told roster transcript (Err status)
+      → Reads fault told roster ROSTER_LIMIT (Err status) → Judges fault told roster transcript (Err status)
   roster_unread fault told roster transcript status (file, shows, inl is) =
       let second = some_file told transcript in
       let e : outcome_by V A limit line read_roster judge_bytes file second.0 ≡ Err status = rw (sym is) in
@@ -69,29 +70,29 @@ module _ (V A : Type 0) (limit : ℕ) (line : A → List ℕ) (read_roster : Lis
       let second = some_file told transcript in (file, second.0, shows, second.1, inr others)
 
   -- after the roster file was read
-  at_roster : (file second : Option (List ℕ)) (bytes : List ℕ) → within 4096 file ≡ Ok bytes
+  at_roster : (file second : Option (List ℕ)) (bytes : List ℕ) → within ROSTER_LIMIT file ≡ Ok bytes
       → outcome_by V A limit line read_roster judge_bytes file second ≡ (or_bad_roster (read_roster bytes) >>= λ value.
       within limit second >>= λ read. or_refused line (judge_bytes value read))
   at_roster file second bytes is = rw is
 
   -- after the roster was decoded
-  at_transcript : (file second : Option (List ℕ)) (bytes : List ℕ) (value : V) → within 4096 file ≡ Ok bytes
+  at_transcript : (file second : Option (List ℕ)) (bytes : List ℕ) (value : V) → within ROSTER_LIMIT file ≡ Ok bytes
       → read_roster bytes ≡ Ok value
       → outcome_by V A limit line read_roster judge_bytes file second ≡ (within limit second >>= λ read. or_refused line (judge_bytes value read))
   at_transcript file second bytes value is decoded = at_roster file second bytes is ∙ (rw decoded)
 
   -- after the transcript was read
-  at_judge : (file second : Option (List ℕ)) (bytes read : List ℕ) (value : V) → within 4096 file ≡ Ok bytes
+  at_judge : (file second : Option (List ℕ)) (bytes read : List ℕ) (value : V) → within ROSTER_LIMIT file ≡ Ok bytes
       → read_roster bytes ≡ Ok value → within limit second ≡ Ok read
       → outcome_by V A limit line read_roster judge_bytes file second ≡ or_refused line (judge_bytes value read)
   at_judge file second bytes read value is decoded is' = at_transcript file second bytes value is decoded ∙ (rw is')
 
   -- the roster file is outside the grammar
   pub roster_refused : (fault fault' : Type 0) (told : Option Held) (roster transcript bytes bytes' : List ℕ) (refusal : RosterRefusal)
-      → bytes' ≡ bytes → Reads fault' told roster 4096 (Ok bytes) → RefusesRoster (read_roster bytes') refusal
+      → bytes' ≡ bytes → Reads fault' told roster ROSTER_LIMIT (Ok bytes) → RefusesRoster (read_roster bytes') refusal
       → Judges fault told roster transcript (Err (roster_status refusal))
   roster_refused fault fault' told roster transcript bytes bytes' (Bad at rule) e reads refuses =
-      let first = has_file fault' told roster 4096 bytes reads in
+      let first = has_file fault' told roster ROSTER_LIMIT bytes reads in
       let second = some_file told transcript in
       let refuses' : read_roster bytes ≡ Err (at, rule) = ap read_roster (sym e) ∙ refuses in
       let is : outcome_by V A limit line read_roster judge_bytes first.file second.0 ≡ Err (roster_status (Bad at rule)) =
@@ -102,10 +103,10 @@ module _ (V A : Type 0) (limit : ℕ) (line : A → List ℕ) (read_roster : Lis
   -- the transcript could not be read
   pub transcript_unread : (fault fault' fault'' : Type 0) (told told' : Option Held) (roster transcript bytes bytes' : List ℕ)
       (value : V) (status : Status) → (fault'' → fault) → told' ≡ told → bytes' ≡ bytes
-      → Reads fault' told roster 4096 (Ok bytes) → read_roster bytes' ≡ Ok value → Reads fault'' told' transcript limit (Err status)
+      → Reads fault' told roster ROSTER_LIMIT (Ok bytes) → read_roster bytes' ≡ Ok value → Reads fault'' told' transcript limit (Err status)
       → Judges fault told roster transcript (Err status)
   transcript_unread fault fault' fault'' told told' roster transcript bytes bytes' value status more same e reads decoded (second, shows, yields) =
-      let first = has_file fault' told roster 4096 bytes reads in
+      let first = has_file fault' told roster ROSTER_LIMIT bytes reads in
       let shows' : Shows told transcript second = rw same at shows in
       let decoded' : read_roster bytes ≡ Ok value = ap read_roster (sym e) ∙ decoded in (
         first.file,
@@ -122,11 +123,11 @@ module _ (V A : Type 0) (limit : ℕ) (line : A → List ℕ) (read_roster : Lis
   -- the judge refuses the transcript
   pub judge_refused : (fault fault' fault'' : Type 0) (told told' : Option Held) (roster transcript bytes bytes' read read' : List ℕ)
       (value : V) (refusal : Refused) → told' ≡ told → bytes' ≡ bytes → read' ≡ read
-      → Reads fault' told roster 4096 (Ok bytes) → read_roster bytes' ≡ Ok value → Reads fault'' told' transcript limit (Ok read)
+      → Reads fault' told roster ROSTER_LIMIT (Ok bytes) → read_roster bytes' ≡ Ok value → Reads fault'' told' transcript limit (Ok read)
       → RefusesTranscript (judge_bytes value read') refusal
       → Judges fault told roster transcript (Err (judge_status refusal))
   judge_refused fault fault' fault'' told told' roster transcript bytes bytes' read read' value (Check check post at) same e e' reads decoded reads' refuses =
-      let first = has_file fault' told roster 4096 bytes reads in
+      let first = has_file fault' told roster ROSTER_LIMIT bytes reads in
       let second = has_file fault'' told' transcript limit read reads' in
       let At : Option Held → Type 0 = λ t. Shows t transcript second.file in
       let shows' : Shows told transcript second.file = subst At same second.shows in
@@ -141,11 +142,11 @@ module _ (V A : Type 0) (limit : ℕ) (line : A → List ℕ) (read_roster : Lis
   -- the judge accepts the transcript
   pub judge_accepted : (fault fault' fault'' : Type 0) (told told' : Option Held) (roster transcript bytes bytes' read read' : List ℕ)
       (value : V) (accepted : A) (text : List ℕ) → told' ≡ told → bytes' ≡ bytes → read' ≡ read
-      → Reads fault' told roster 4096 (Ok bytes) → read_roster bytes' ≡ Ok value → Reads fault'' told' transcript limit (Ok read)
+      → Reads fault' told roster ROSTER_LIMIT (Ok bytes) → read_roster bytes' ≡ Ok value → Reads fault'' told' transcript limit (Ok read)
       → judge_bytes value read' ≡ Ok accepted → text ≡ line accepted
       → Judges fault told roster transcript (Ok text)
   judge_accepted fault fault' fault'' told told' roster transcript bytes bytes' read read' value accepted text same e e' reads decoded reads' accepts prints =
-      let first = has_file fault' told roster 4096 bytes reads in
+      let first = has_file fault' told roster ROSTER_LIMIT bytes reads in
       let second = has_file fault'' told' transcript limit read reads' in
       let At : Option Held → Type 0 = λ t. Shows t transcript second.file in
       let shows' : Shows told transcript second.file = subst At same second.shows in

@@ -1,7 +1,7 @@
 use Rattle.std.proofs.lemmas.Result.{err_from_is_err_and}
 use Rattle.group_roster.specs.Given.{roster_of}
 use Rattle.dissent.proofs.Written.{unread, bad_roster, no_memory, unwritten, written}
-use Rattle.dissent.proofs.offline.run_roster.Goals as goal
+use Rattle.dissent.proofs.commands.run_roster.Goals as goal
 
 pub returns-in_err-bytes : goal.returns-in_err-bytes
 returns-in_err-bytes g c =

@@ -1,5 +1,5 @@
 use Rattle.dissent.proofs.Printing.{broken_at_once}
-use Rattle.dissent.proofs.offline.print.Goals as goal
+use Rattle.dissent.proofs.delivery.print.Goals as goal
 
 pub returns : goal.returns
 returns g c = record {
