@@ -33,7 +33,8 @@ answer_of failure = value_unless failure (tt {0})
 abbrev culprit_in : Case → Said → List Said → Option FailedCheck
 culprit_in case first others = culprit_failure case.accused (culprit_of (inquiry_in case first (first ∷ others)))
 
-three-parts : (case : Case) (first : Said) (others : List Said) (u v : Option FailedCheck) → unjustified_from case 1 (first ∷ others) ≡ u → unlike_from case (past_in case first) 2 others ≡ v
+three-parts : (case : Case) (first : Said) (others : List Said) (u v : Option FailedCheck) → unjustified_from case 1 (first ∷ others) ≡ u
+    → unlike_from case (past_in case first) 2 others ≡ v
     → replay_answer case (first ∷ others) ≡ answer_of (first_some (u ∷ v ∷ culprit_in case first others ∷ []))
 three-parts case first others u v e f =
     ap (λ (x : Option FailedCheck). answer_of (first_some (x ∷ unlike_from case (past_in case first) 2 others ∷ culprit_in case first others ∷ []))) e
@@ -43,7 +44,8 @@ behind-first : (case : Case) (first : Said) (others : List Said) → is_justifie
 behind-first case first others good = cond-true (is_justified_in case first) (unjustified_from case 2 others) (Some (NotJustified 1)) good
 
 -- where the first is not justified
-pub first-unjustified : (case : Case) (first : Said) (others : List Said) (failed : Option FailedCheck) → ShowsNothing case 1 first failed → IsFault failed (replay_answer case (first ∷ others))
+pub first-unjustified : (case : Case) (first : Said) (others : List Said) (failed : Option FailedCheck) → ShowsNothing case 1 first failed
+    → IsFault failed (replay_answer case (first ∷ others))
 first-unjustified case first others None nothing = tt
 first-unjustified case first others (Some failed) nothing =
     three-parts case first others (Some (NotJustified 1)) (unlike_from case (past_in case first) 2 others)
@@ -54,19 +56,23 @@ first-unjustified case first others (Some failed) nothing =
     err f = Err f
 
 -- where another is not justified
-pub other-unjustified : (case : Case) (first : Said) (others : List Said) (failed : Option FailedCheck) → is_justified_in case first ≡ true → IsUnjustified case others failed → IsFault failed (replay_answer case (first ∷ others))
+pub other-unjustified : (case : Case) (first : Said) (others : List Said) (failed : Option FailedCheck) → is_justified_in case first ≡ true
+    → IsUnjustified case others failed → IsFault failed (replay_answer case (first ∷ others))
 other-unjustified case first others None good unjustified = tt
 other-unjustified case first others (Some failed) good unjustified =
     three-parts case first others (Some failed) (unlike_from case (past_in case first) 2 others) (behind-first case first others good ∙ unjustified) refl
 
 -- where all are justified, and two logs differ
-pub logs-differ : (case : Case) (first : Said) (others : List Said) (failed : FailedCheck) → is_justified_in case first ≡ true → unjustified_from case 2 others ≡ None → Some failed ≡ unlike_from case (past_in case first) 2 others
+pub logs-differ : (case : Case) (first : Said) (others : List Said) (failed : FailedCheck) → is_justified_in case first ≡ true
+    → unjustified_from case 2 others ≡ None → Some failed ≡ unlike_from case (past_in case first) 2 others
     → replay_answer case (first ∷ others) ≡ Err failed
 logs-differ case first others failed good none unlike = three-parts case first others None (Some failed) (behind-first case first others good ∙ none) (sym unlike)
 
 -- where none do, the replay decides
-pub replay-decides : (case : Case) (first : Said) (others : List Said) (fault : Option Fault) (failure : Option FailedCheck) → is_justified_in case first ≡ true → unjustified_from case 2 others ≡ None → None ≡ unlike_from case (past_in case first) 2 others
-    → fault ≡ culprit_of (inquiry_in case first (first ∷ others)) → failure ≡ culprit_failure case.accused fault → replay_answer case (first ∷ others) ≡ value_unless failure (tt {0})
+pub replay-decides : (case : Case) (first : Said) (others : List Said) (fault : Option Fault) (failure : Option FailedCheck) → is_justified_in case first ≡ true
+    → unjustified_from case 2 others ≡ None → None ≡ unlike_from case (past_in case first) 2 others
+    → fault ≡ culprit_of (inquiry_in case first (first ∷ others)) → failure ≡ culprit_failure case.accused fault
+    → replay_answer case (first ∷ others) ≡ value_unless failure (tt {0})
 replay-decides case first others fault failure good none alike blames is =
     three-parts case first others None None (behind-first case first others good ∙ none) (sym alike)
     ∙ ap answer_of (last (culprit_in case first others) ∙ sym (is ∙ ap (culprit_failure case.accused) blames))
@@ -80,7 +86,8 @@ replay-decides case first others fault failure good none alike blames is =
 abbrev asked : Shape → List (List ℕ) → ℕ → ℕ → List Shown → Inquiry
 asked shape past stage round shown = record { shape = shape; past = past; stage = stage; round = round; shown = shown }
 
-pub inquiry-is : (case : Case) (first : Said) (others : List Said) (shows : Shows) (told : List Shown) (s : IsShown case first shows) → told ≡ parts_shown case (kind_of_stage (shape_in case) first.header.stage) (first ∷ others)
+pub inquiry-is : (case : Case) (first : Said) (others : List Said) (shows : Shows) (told : List Shown) (s : IsShown case first shows)
+    → told ≡ parts_shown case (kind_of_stage (shape_in case) first.header.stage) (first ∷ others)
     → inquiry_of shows.log shows.stage case.round told ≡ inquiry_in case first (first ∷ others)
 inquiry-is case first others shows told s e =
     let shape : shows.log.shape ≡ shape_in case = ap (λ (l : Log). l.shape) s.keeps.keeps in
@@ -103,7 +110,8 @@ parts-long case (Some (AtGo shuffle)) said long = tt
 parts-long case (Some AtPad) said long = tt
 parts-long case (Some AtCheck) said long = tt
 
-pub all-shown : (case : Case) (first : Said) (others : List Said) (shows : Shows) (told : List Shown) → IsShown case first shows → told ≡ parts_shown case (kind_of_stage (shape_in case) first.header.stage) (first ∷ others)
+pub all-shown : (case : Case) (first : Said) (others : List Said) (shows : Shows) (told : List Shown) → IsShown case first shows
+    → told ≡ parts_shown case (kind_of_stage (shape_in case) first.header.stage) (first ∷ others)
     → length (first ∷ others) ≡ (shape_in case).members → AreShown shows.log.shape (kind_of_stage shows.log.shape shows.stage) told
 all-shown case first others shows told s e long =
     let shape : shows.log.shape ≡ shape_in case = ap (λ (l : Log). l.shape) s.keeps.keeps in
@@ -113,7 +121,8 @@ all-shown case first others shows told s e long =
     (parts-long case (kind_of_stage (shape_in case) first.header.stage) (first ∷ others) long)))
 
 -- the stage closes votes, and all before it is kept
-pub shown-closing : (case : Case) (first : Said) (shows : Shows) → IsClosingPost case first → IsShown case first shows → IsSome (option_and_then vote_of (kind_of_stage shows.log.shape shows.stage))
+pub shown-closing : (case : Case) (first : Said) (shows : Shows) → IsClosingPost case first → IsShown case first shows
+    → IsSome (option_and_then vote_of (kind_of_stage shows.log.shape shows.stage))
 shown-closing case first shows post s =
     subst (λ (x : Shape). IsSome (option_and_then vote_of (kind_of_stage x shows.stage))) (sym (ap (λ (l : Log). l.shape) s.keeps.keeps))
     (subst (λ (stage : ℕ). IsSome (option_and_then vote_of (kind_of_stage (shape_in case) stage))) (sym s.stage) post.closing)

@@ -28,7 +28,8 @@ pub record ComparesTo (case : Case) (past : List (List ℕ)) (kind : Option Stag
   pub parts : told ++ parts_shown case kind (drop place others) ≡ parts_shown case kind (first ∷ others)
 
 -- the parts of one more
-parts-next : (case : Case) (kind : Option StageKind) (said : Said) (others : List Said) → parts_shown case kind (said ∷ others) ≡ parts_shown case kind (said ∷ []) ++ parts_shown case kind others
+parts-next : (case : Case) (kind : Option StageKind) (said : Said) (others : List Said)
+    → parts_shown case kind (said ∷ others) ≡ parts_shown case kind (said ∷ []) ++ parts_shown case kind others
 parts-next case None said others = refl
 parts-next case (Some (AtFinal shuffle)) said others = refl
 parts-next case (Some AtConfirm) said others = refl
@@ -54,7 +55,8 @@ first-of_none : (o : Option FailedCheck) → o ≡ first_some (None ∷ o ∷ []
 first-of_none None = refl
 first-of_none (Some failed) = refl
 
-pub compares-none : (case : Case) (past : List (List ℕ)) (kind : Option StageKind) (first : Said) (others : List Said) (told : List Shown) → told ≡ parts_shown case kind (first ∷ []) → ComparesTo case past kind first others 0 None told
+pub compares-none : (case : Case) (past : List (List ℕ)) (kind : Option StageKind) (first : Said) (others : List Said) (told : List Shown)
+    → told ≡ parts_shown case kind (first ∷ []) → ComparesTo case past kind first others 0 None told
 compares-none case past kind first others told e = record {
   justified = refl;
   differs = first-of_none (unlike_from case past 2 others);
@@ -69,7 +71,8 @@ left-at others place said lt is =
 
 -- one that is not justified ends it
 pub compares-fails : (case : Case) (past : List (List ℕ)) (kind : Option StageKind) (first : Said) (others : List Said) (place : ℕ) (difference : Option FailedCheck) (told : List Shown) (said : Said)
-    → ComparesTo case past kind first others place difference told → place < length others → get_or others place said ≡ said → is_justified_in case said ≡ false → unjustified_from case 2 others ≡ Some (NotJustified (place + 2))
+    → ComparesTo case past kind first others place difference told → place < length others → get_or others place said ≡ said → is_justified_in case said ≡ false
+    → unjustified_from case 2 others ≡ Some (NotJustified (place + 2))
 compares-fails case past kind first others place difference told said so lt is bad =
     so.justified ∙ ap (unjustified_from case (place + 2)) (left-at others place said lt is)
     ∙ cond-false (is_justified_in case said) (unjustified_from case (place + 2 + 1) (drop (place + 1) others)) (Some (NotJustified (place + 2))) bad
@@ -83,7 +86,8 @@ either-first (Some a) one rest = refl
 -- one that is justified goes on
 pub compares-next : (case : Case) (past : List (List ℕ)) (kind : Option StageKind) (first : Said) (others : List Said) (place : ℕ) (difference now : Option FailedCheck) (told more part : List Shown) (said : Said)
     → ComparesTo case past kind first others place difference told → place < length others → get_or others place said ≡ said → is_justified_in case said ≡ true
-    → now ≡ option_or difference (unlike_log case past (place + 2) said) → part ≡ parts_shown case kind (said ∷ []) → more ≡ told ++ part → ComparesTo case past kind first others (place + 1) now more
+    → now ≡ option_or difference (unlike_log case past (place + 2) said) → part ≡ parts_shown case kind (said ∷ []) → more ≡ told ++ part
+    → ComparesTo case past kind first others (place + 1) now more
 compares-next case past kind first others place difference now told more part said so lt is good differs shows tells =
     let left = left-at others place said lt is in
     let next : place + 2 + 1 ≡ place + 1 + 2 = omega arith in
@@ -130,7 +134,8 @@ pub fails-at : (case : Case) (past : List (List ℕ)) (kind : Option StageKind) 
 fails-at case past kind first others place d difference told None so lt nothing = tt
 fails-at case past kind first others place d difference told (Some failed) so lt nothing =
     let at = given-at others place d lt in
-    compares-fails case past kind first (map said_of others) place difference told (said_of (get_or others place d)) so at.0 at.1 nothing.1 ∙ ap (λ (f : FailedCheck). some f) (sym nothing.0)
+    compares-fails case past kind first (map said_of others) place difference told (said_of (get_or others place d)) so at.0 at.1 nothing.1 ∙ ap
+    (λ (f : FailedCheck). some f) (sym nothing.0)
   where
     some : FailedCheck → Option FailedCheck
     some f = Some f
@@ -144,7 +149,8 @@ FindsUnlike number log other unlike = (stage : ℕ) (past others : List (List �
 pub goes-at : (case : Case) (first : Said) (own : Shows) (others : List GivenSaid) (place : ℕ) (d : GivenSaid) (difference now unlike : Option FailedCheck) (told more : List Shown) (shows : Shows)
     → IsShown case first own → AreObjections case own.stage others
     → ComparesTo case (past_in case first) (kind_of_stage (shape_in case) first.header.stage) first (map said_of others) place difference told → place < length others
-    → IsShown case (said_of (get_or others place d)) shows → FindsUnlike (place + 2) own.log shows.log unlike → now ≡ option_or difference unlike → more ≡ told ++ option_to_list shows.shown
+    → IsShown case (said_of (get_or others place d)) shows → FindsUnlike (place + 2) own.log shows.log unlike → now ≡ option_or difference unlike
+    → more ≡ told ++ option_to_list shows.shown
     → ComparesTo case (past_in case first) (kind_of_stage (shape_in case) first.header.stage) first (map said_of others) (place + 1) now more
 goes-at case first own others place d difference now unlike told more shows s objects so lt shown finds is tells =
     let one : GivenSaid = get_or others place d in
@@ -156,5 +162,6 @@ goes-at case first own others place d difference now unlike told more shows s ob
     (subst (λ (x : Shape). KeepsPast x first.header.stage (past_in case (said_of one)) shows.log) (sym shape) other) in
     let at = given-at others place d lt in
     let part = shown.told ∙ ap (λ (n : ℕ). parts_shown case (kind_of_stage (shape_in case) n) (said_of one ∷ [])) stage in
-    compares-next case (past_in case first) (kind_of_stage (shape_in case) first.header.stage) first (map said_of others) place difference now told more (option_to_list shows.shown) (said_of one)
+    compares-next case (past_in case first) (kind_of_stage (shape_in case) first.header.stage) first (map said_of others) place difference now told more
+    (option_to_list shows.shown) (said_of one)
     so at.0 at.1 shown.justified (is ∙ ap (option_or difference) found) part tells

@@ -220,10 +220,12 @@ one-found roster t only is posts fits one =
       header = one.a.header;
       says = heard.0;
       sender = eqb-true _ _ (asked-found case Malformed None 1 one.a.header is heard.1);
-      outside = is_outside shape one.a.content (not-true (is_ok (content_read shape one.a.content)) (fault_unless-holds (not (is_ok (content_read shape one.a.content))) WellFormed passes));
+      outside = is_outside shape one.a.content
+          (not-true (is_ok (content_read shape one.a.content)) (fault_unless-holds (not (is_ok (content_read shape one.a.content))) WellFormed passes));
     }
 
-one-again : (roster : Roster) (t : Transcript) → t.claim ≡ Malformed → AllByRecursion IsBytes t.posts → SaysMalformed roster t → conviction_of (case_of_transcript roster t) t.posts ≡ Ok tt
+one-again : (roster : Roster) (t : Transcript) → t.claim ≡ Malformed → AllByRecursion IsBytes t.posts → SaysMalformed roster t
+    → conviction_of (case_of_transcript roster t) t.posts ≡ Ok tt
 one-again roster t is fits m =
     let case = case_of_transcript roster t in
     let shape = shape_of_roster roster in
@@ -240,7 +242,8 @@ one-again roster t is fits m =
 
 -- ---- BadLog
 
-log-found : (roster : Roster) (t : Transcript) (only : List ℕ) → t.claim ≡ BadLog → t.posts ≡ only ∷ [] → IsBytes only → OneHeard (case_of_transcript roster t) only → ShowsBadLog roster t
+log-found : (roster : Roster) (t : Transcript) (only : List ℕ) → t.claim ≡ BadLog → t.posts ≡ only ∷ [] → IsBytes only
+    → OneHeard (case_of_transcript roster t) only → ShowsBadLog roster t
 log-found roster t only is posts fits one =
     let case = case_of_transcript roster t in
     let shape = shape_of_roster roster in
@@ -253,7 +256,8 @@ log-found roster t only is posts fits one =
       content = taken.content;
       file = taken.file;
       sender = ap (λ (h : Header). h.sender) taken.header_is ∙ eqb-true _ _ parts.0;
-      closing = subst (λ (h : Header). IsSome (option_and_then vote_of (kind_of_stage shape h.stage))) (sym taken.header_is) (is-closing (kind_of_stage shape one.a.header.stage) parts.1);
+      closing = subst (λ (h : Header). IsSome (option_and_then vote_of (kind_of_stage shape h.stage))) (sym taken.header_is)
+          (is-closing (kind_of_stage shape one.a.header.stage) parts.1);
       unjustified = sym (ap (is_read_justified roster t.round) taken.reads) ∙ wrong;
     }
 
@@ -279,12 +283,14 @@ members-some roster t form =
     let parts = and_parts (nat_le 1 t.accused) (nat_le t.accused n) form.accused in
     omega (arith, leb-true 1 t.accused parts.0, leb-true t.accused n parts.1)
 
-convicts-found : (roster : Roster) (t : Transcript) (claim : Claim) → IsTranscript (shape_of_roster roster) t → t.claim ≡ claim → length t.posts ≡ claim_posts (shape_of_roster roster) claim → AllByRecursion IsBytes t.posts
+convicts-found : (roster : Roster) (t : Transcript) (claim : Claim) → IsTranscript (shape_of_roster roster) t → t.claim ≡ claim
+    → length t.posts ≡ claim_posts (shape_of_roster roster) claim → AllByRecursion IsBytes t.posts
     → conviction_of (case_of_transcript roster t) t.posts ≡ Ok tt → Convicts roster t claim
 convicts-found roster t Equivocation form is count fits e =
     let two = two_listed t.posts count in
     let bytes : IsBytes two.0 × IsBytes two.1 = two_bytes two.0 two.1 (subst (λ (x : List (List ℕ)). AllByRecursion IsBytes x) two.2 fits) in
-    two-found roster t two.0 two.1 is two.2 bytes.0 bytes.1 (both_heard (case_of_transcript roster t) two.0 two.1 (sym (ap (conviction_of (case_of_transcript roster t)) two.2) ∙ e))
+    two-found roster t two.0 two.1 is two.2 bytes.0 bytes.1
+    (both_heard (case_of_transcript roster t) two.0 two.1 (sym (ap (conviction_of (case_of_transcript roster t)) two.2) ∙ e))
   where
     two_bytes : (a b : List ℕ) → AllByRecursion IsBytes (a ∷ b ∷ []) → IsBytes a × IsBytes b
     two_bytes a b fits = (fits.0, fits.1.0)
@@ -298,7 +304,8 @@ convicts-found roster t Malformed form is count fits e =
 convicts-found roster t WrongSeed form is count fits e =
     let two = two_listed t.posts count in
     let bytes : IsBytes two.0 × IsBytes two.1 = two_bytes two.0 two.1 (subst (λ (x : List (List ℕ)). AllByRecursion IsBytes x) two.2 fits) in
-    seed-found roster t two.0 two.1 is two.2 bytes.0 bytes.1 (both_heard (case_of_transcript roster t) two.0 two.1 (sym (ap (conviction_of (case_of_transcript roster t)) two.2) ∙ e))
+    seed-found roster t two.0 two.1 is two.2 bytes.0 bytes.1
+    (both_heard (case_of_transcript roster t) two.0 two.1 (sym (ap (conviction_of (case_of_transcript roster t)) two.2) ∙ e))
   where
     two_bytes : (a b : List ℕ) → AllByRecursion IsBytes (a ∷ b ∷ []) → IsBytes a × IsBytes b
     two_bytes a b fits = (fits.0, fits.1.0)
@@ -312,7 +319,8 @@ convicts-found roster t BadLog form is count fits e =
 convicts-found roster t Replay form is count fits e = (let some = members-some roster t form in replay-found roster t is count (omega (arith, some, count)) fits e)
 convicts-found roster t Pad form is count fits e = pad-found roster t is count fits e
 
-convicts-again : (roster : Roster) (t : Transcript) (claim : Claim) → IsTranscript (shape_of_roster roster) t → t.claim ≡ claim → AllByRecursion IsBytes t.posts → Convicts roster t claim → conviction_of (case_of_transcript roster t) t.posts ≡ Ok tt
+convicts-again : (roster : Roster) (t : Transcript) (claim : Claim) → IsTranscript (shape_of_roster roster) t → t.claim ≡ claim → AllByRecursion IsBytes t.posts
+    → Convicts roster t claim → conviction_of (case_of_transcript roster t) t.posts ≡ Ok tt
 convicts-again roster t Equivocation form is fits convicts = two-again roster t is convicts
 convicts-again roster t Malformed form is fits convicts = one-again roster t is fits convicts
 convicts-again roster t WrongSeed form is fits convicts = seed-again roster t is convicts
@@ -345,7 +353,8 @@ judges : (roster : Roster) (bytes : List ℕ) (t : Transcript) → transcript_re
 unfolding judgement_of
 judges roster bytes t e1 e2 = rw (e1, e2) refl
 
-pub judgement-again : (roster : Roster) (bytes : List ℕ) (accused : ℕ) (claim : Claim) → IsRosterForm roster → IsBytes bytes → Accepts roster bytes accused claim → judgement_of roster bytes ≡ Ok (record { accused = accused; claim = claim })
+pub judgement-again : (roster : Roster) (bytes : List ℕ) (accused : ℕ) (claim : Claim) → IsRosterForm roster → IsBytes bytes
+    → Accepts roster bytes accused claim → judgement_of roster bytes ≡ Ok (record { accused = accused; claim = claim })
 judgement-again roster bytes accused claim form fits accepts =
     let t = accepts.transcript in
     let shape = shape_of_roster roster in
@@ -365,6 +374,8 @@ accepts_exactly roster bytes accused claim form fits =
 
 -- what convicts is answered, but for memory
 pub answered-only : (roster : Roster) (bytes : List ℕ) (result : Result Accepted Refused) (accused : ℕ) (claim : Claim) → IsRosterForm roster → IsBytes bytes
-    → Gives failure_of_refusal (λ a. a) result (printed_judgement_of roster bytes) → Accepts roster bytes accused claim → Gives failure_of_refusal (λ a. a) result (Ok (record { accused = accused; claim = claim }))
+    → Gives failure_of_refusal (λ a. a) result (printed_judgement_of roster bytes) → Accepts roster bytes accused claim
+    → Gives failure_of_refusal (λ a. a) result (Ok (record { accused = accused; claim = claim }))
 answered-only roster bytes result accused claim form fits gives accepts =
-    subst (λ (r : Result Accepted FailedCheck). Gives failure_of_refusal (λ a. a) result (fault_as failure_of_check r)) (judgement-again roster bytes accused claim form fits accepts) gives
+    subst (λ (r : Result Accepted FailedCheck). Gives failure_of_refusal (λ a. a) result (fault_as failure_of_check r))
+    (judgement-again roster bytes accused claim form fits accepts) gives

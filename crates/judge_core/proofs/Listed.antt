@@ -43,7 +43,8 @@ says-found roster round bytes x fits e =
     let says : Says roster round bytes a.0.content b.0 = record { signature = a.0.signature; spelled = frame.1; admitted = admit-found roster round a.0 b.0 frame.0 (framed-bytes bytes a.0 fits (fault_as_ok (λ at. Frame at) (frame_of bytes) a.0 a.1)) b.1 } in
     subst (λ (x : Header × List ℕ). Says roster round bytes x.1 x.0) same says
 
-says-again : (roster : Roster) (round : ℕ) (bytes content : List ℕ) (header : Header) → Says roster round bytes content header → admission_of_bytes roster round bytes ≡ Ok (header, content)
+says-again : (roster : Roster) (round : ℕ) (bytes content : List ℕ) (header : Header) → Says roster round bytes content header
+    → admission_of_bytes roster round bytes ≡ Ok (header, content)
 says-again roster round bytes content header says =
     let post : Post = record { content = content; signature = says.signature } in
     let frame : frame_of bytes ≡ Ok post = ap frame_of says.spelled ∙ framed-again post says.admitted.frame in
@@ -67,7 +68,8 @@ heard-found case first number bytes x fits e =
     subst (λ (x : Said). Says case.roster case.round bytes x.content x.header × (is_asked case first number x.header ≡ true)) asked.1
     (says, not-false (is_asked case first number a.0.0) asked.0)
 
-pub heard-again : (case : Case) (first : Option Header) (number : ℕ) (bytes content : List ℕ) (header : Header) → Says case.roster case.round bytes content header → is_asked case first number header ≡ true
+pub heard-again : (case : Case) (first : Option Header) (number : ℕ) (bytes content : List ℕ) (header : Header)
+    → Says case.roster case.round bytes content header → is_asked case first number header ≡ true
     → heard_of case first number bytes ≡ Ok (record { header = header; content = content })
 unfolding heard_of
 heard-again case first number bytes content header says asked = rw (says-again case.roster case.round bytes content header says, asked) refl
@@ -76,10 +78,12 @@ heard-again case first number bytes content header says asked = rw (says-again c
 abbrev asks : Claim → Case → Option Header → ℕ → Header → Bool
 asks claim case first number header = is_slot_asked claim case (kind_of_stage (shape_of_roster case.roster) header.stage) first number header
 
-pub asked-found : (case : Case) (claim : Claim) (first : Option Header) (number : ℕ) (header : Header) → case.claim ≡ claim → is_asked case first number header ≡ true → asks claim case first number header ≡ true
+pub asked-found : (case : Case) (claim : Claim) (first : Option Header) (number : ℕ) (header : Header) → case.claim ≡ claim
+    → is_asked case first number header ≡ true → asks claim case first number header ≡ true
 asked-found case claim first number header is asked = subst (λ (c : Claim). asks c case first number header ≡ true) is asked
 
-pub asked-again : (case : Case) (claim : Claim) (first : Option Header) (number : ℕ) (header : Header) → case.claim ≡ claim → asks claim case first number header ≡ true → is_asked case first number header ≡ true
+pub asked-again : (case : Case) (claim : Claim) (first : Option Header) (number : ℕ) (header : Header) → case.claim ≡ claim
+    → asks claim case first number header ≡ true → is_asked case first number header ≡ true
 asked-again case claim first number header is asked = subst (λ (c : Claim). asks c case first number header ≡ true) (sym is) asked
 
 pub plain-claim : (claim c : Claim) → claim ≡ c → is_of_bodies c ≡ false → is_of_bodies claim ≡ false
@@ -99,7 +103,8 @@ pub record TakenPost (case : Case) (first : Option Header) (number : ℕ) (bytes
 abbrev header_ok : Header → Result Header Short
 header_ok header = Ok header
 
-pub taken-found : (case : Case) (first : Option Header) (number : ℕ) (bytes : List ℕ) (x : Said) → is_of_bodies case.claim ≡ true → IsBytes bytes → taken_of case first number bytes ≡ Ok x → TakenPost case first number bytes x
+pub taken-found : (case : Case) (first : Option Header) (number : ℕ) (bytes : List ℕ) (x : Said) → is_of_bodies case.claim ≡ true → IsBytes bytes
+    → taken_of case first number bytes ≡ Ok x → TakenPost case first number bytes x
 unfolding content_of
 taken-found case first number bytes x bodies fits e =
     let heard = heard-found case first number bytes x fits (taken-heard case first number bytes x e) in

@@ -79,7 +79,8 @@ all-object case (post ∷ posts) said is e =
     (omega (arith, rest.0), (a.0.header.stage, All-cons (IsObjection case a.0.header.stage) a.0 others.0 here rest.1))
 
 -- the same of what the code holds
-pub objections : (case : Case) (posts : List (List ℕ)) (given : List GivenSaid) → case.claim ≡ Replay → hearing_of case None 1 posts ≡ Ok (map said_of given) → All (λ (one : GivenSaid). length one.content.now < 2 ^ 32) given
+pub objections : (case : Case) (posts : List (List ℕ)) (given : List GivenSaid) → case.claim ≡ Replay → hearing_of case None 1 posts ≡ Ok (map said_of given)
+    → All (λ (one : GivenSaid). length one.content.now < 2 ^ 32) given
     → (length given ≡ length posts) × AreOfOneStage case given
 objections case posts given is e short =
     let all = all-object case posts (map said_of given) is e in
@@ -99,7 +100,8 @@ pub record IsFirst (case : Case) (stage : ℕ) (first : GivenSaid) (others : Lis
   pub at : first.header.stage ≡ stage
   pub others_object : AreObjections case stage others
 
-pub first-object : (case : Case) (stage : ℕ) (all : List GivenSaid) (first : GivenSaid) (others : List GivenSaid) → all ≡ first ∷ others → AreObjections case stage all → IsFirst case stage first others
+pub first-object : (case : Case) (stage : ℕ) (all : List GivenSaid) (first : GivenSaid) (others : List GivenSaid) → all ≡ first ∷ others
+    → AreObjections case stage all → IsFirst case stage first others
 first-object case stage all first others split each =
     let these : AreObjections case stage (first ∷ others) = subst (AreObjections case stage) split each in
     let head = All-head (λ (one : GivenSaid). IsObjection case stage (said_of one) × (length one.content.now < 2 ^ 32)) first others these in
@@ -126,6 +128,7 @@ unheard case posts None fault = tt
 unheard case posts (Some failed) fault = rw fault refl
 
 -- and where they are
-pub heard : (case : Case) (posts : List (List ℕ)) (said : List Said) → case.claim ≡ Replay → hearing_of case None 1 posts ≡ Ok said → conviction_of case posts ≡ replay_answer case said
+pub heard : (case : Case) (posts : List (List ℕ)) (said : List Said) → case.claim ≡ Replay → hearing_of case None 1 posts ≡ Ok said
+    → conviction_of case posts ≡ replay_answer case said
 unfolding conviction_of
 heard case posts said is e = rw e (ap (λ (claim : Claim). value_unless (own_failure claim case said) (tt {0})) is)

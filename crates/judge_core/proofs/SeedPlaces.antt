@@ -63,7 +63,8 @@ keys-content case bytes said is e =
     }
 
 -- the second reveals a seed
-pub reveals-seed : (case : Case) (first : Header) (bytes : List ℕ) (said : Said) → case.claim ≡ WrongSeed → taken_of case (Some first) 2 bytes ≡ Ok said → RevealsSeed (shape_in case) said.content
+pub reveals-seed : (case : Case) (first : Header) (bytes : List ℕ) (said : Said) → case.claim ≡ WrongSeed → taken_of case (Some first) 2 bytes ≡ Ok said
+    → RevealsSeed (shape_in case) said.content
 unfolding content_of
 reveals-seed case first bytes said is e =
     let looked = taken-read case (Some first) 2 bytes said (ap is_of_bodies is) e in

@@ -55,7 +55,8 @@ pub read-dissents : (read : Result Content Offence) (content : Content) → read
 read-dissents read content e dissents = subst Dissents e dissents
 
 -- the log that it embeds keeps its past
-pub keeps-past : (roster : Roster) (round : ℕ) (content : Content) (log : Log) → KeepsEmbedded roster round content log → Spans (shape_of_roster roster) content → is_assent content.body ≡ false
+pub keeps-past : (roster : Roster) (round : ℕ) (content : Content) (log : Log) → KeepsEmbedded roster round content log → Spans (shape_of_roster roster) content
+    → is_assent content.body ≡ false
     → KeepsPast (shape_of_roster roster) content.header.stage (contents_found (posts_in_content roster round content)) log
 keeps-past roster round content log k span objects =
     let shape : Shape = shape_of_roster roster in
@@ -77,7 +78,8 @@ abbrev part_in : StageKind → Shown → List Shown
 part_in (AtFinal shuffle) shown = shown ∷ []
 part_in kind shown = []
 
-part-of_body : (shape : Shape) (stage : ℕ) (kind : StageKind) (body : Body) → IsClosingBody shape stage kind body → is_dissent body ≡ true → option_to_list (shown_by body) ≡ part_in kind (shown_in body)
+part-of_body : (shape : Shape) (stage : ℕ) (kind : StageKind) (body : Body) → IsClosingBody shape stage kind body → is_dissent body ≡ true
+    → option_to_list (shown_by body) ≡ part_in kind (shown_in body)
 part-of_body shape stage (AtFinal shuffle) (Dispute posts seed opening) is e = refl
 part-of_body shape stage (AtFinal shuffle) (Differ posts) is e = absurd is
 part-of_body shape stage (AtFinal shuffle) (Keys keys) is e = absurd cc
@@ -118,7 +120,8 @@ part-shown case AtPad said = refl
 part-shown case AtCheck said = refl
 
 -- a post that dissents shows what its body shows, if it shows anything
-pub part-told : (case : Case) (said : Said) (content : Content) → read_of case said ≡ Ok content → content.header.stage ≡ said.header.stage → IsSome (option_and_then vote_of (kind_of_stage (shape_in case) said.header.stage)) → is_dissent content.body ≡ true
+pub part-told : (case : Case) (said : Said) (content : Content) → read_of case said ≡ Ok content → content.header.stage ≡ said.header.stage
+    → IsSome (option_and_then vote_of (kind_of_stage (shape_in case) said.header.stage)) → is_dissent content.body ≡ true
     → option_to_list (shown_by content.body) ≡ parts_shown case (kind_of_stage (shape_in case) said.header.stage) (said ∷ [])
 part-told case said content read at closing dissents =
     let shape : Shape = shape_in case in
@@ -147,7 +150,8 @@ closing-content case said content post read =
     subst (λ (h : Header). IsSome (option_and_then vote_of (kind_of_stage (shape_in case) h.stage))) (read-header case said content post.header read) post.closing
 
 -- where a log justifies what a post that dissents says, it shows this log
-pub shown-is : (case : Case) (stage : ℕ) (said : Said) (content : Content) (log : Log) (shown : Option Shown) → IsObjection case stage said → read_of case said ≡ Ok content → OfGrammar (shape_in case) content
+pub shown-is : (case : Case) (stage : ℕ) (said : Said) (content : Content) (log : Log) (shown : Option Shown) → IsObjection case stage said
+    → read_of case said ≡ Ok content → OfGrammar (shape_in case) content
     → KeepsEmbedded case.roster case.round content log → true ≡ is_content_justified case.roster case.round content → shown ≡ shown_by content.body
     → IsShown case said (record { stage = said.header.stage; log = log; shown = shown })
 shown-is case stage said content log shown o read grammar keeps justified told =

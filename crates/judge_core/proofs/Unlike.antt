@@ -66,7 +66,8 @@ kept-at : (shape : Shape) (stage : ℕ) (past : List (List ℕ)) (log : Log) (k 
 kept-at shape stage past log k slot there lt =
     kept-in shape stage past log k slot there ∙ kept-front k.posts (replicate (slot_count shape - (0 + length k.posts)) none_post) (slot_number shape slot.stage slot.sender) lt
 
-past-at : (shape : Shape) (stage : ℕ) (past : List (List ℕ)) (log : Log) (k : KeepsPast shape stage past log) (n : ℕ) → n < length k.posts → slice_index_or past n [] ≡ (get_or k.posts n nothing).content
+past-at : (shape : Shape) (stage : ℕ) (past : List (List ℕ)) (log : Log) (k : KeepsPast shape stage past log) (n : ℕ) → n < length k.posts
+    → slice_index_or past n [] ≡ (get_or k.posts n nothing).content
 past-at shape stage past log k n lt = ap (λ (c : List (List ℕ)). slice_index_or c n []) (sym k.contents) ∙ content-at k.posts n lt
 
 past-long : (shape : Shape) (stage : ℕ) (past : List (List ℕ)) (log : Log) → KeepsPast shape stage past log → length past ≡ slots_before shape stage
@@ -123,12 +124,14 @@ record NumberOf (shape : Shape) (past others : List (List ℕ)) (slot : Slot) : 
 post-is : (a b : Post) → some_post a ≡ some_post b → a ≡ b
 post-is a b e = cc
 
-kept-within : (shape : Shape) (stage : ℕ) (past : List (List ℕ)) (log : Log) (k : KeepsPast shape stage past log) (slot : Slot) (post : Post) → is_slot shape slot.stage slot.sender ≡ true
+kept-within : (shape : Shape) (stage : ℕ) (past : List (List ℕ)) (log : Log) (k : KeepsPast shape stage past log) (slot : Slot) (post : Post)
+    → is_slot shape slot.stage slot.sender ≡ true
     → kept_in log slot ≡ Some post → (slot_number shape slot.stage slot.sender < length k.posts) × (post ≡ get_or k.posts (slot_number shape slot.stage slot.sender) nothing)
 kept-within shape stage past log k slot post there kept =
     elim (cases_lt (slot_number shape slot.stage slot.sender) (length k.posts)) [
       | inl lt ↦ (lt, post-is post (get_or k.posts (slot_number shape slot.stage slot.sender) nothing) (sym kept ∙ kept-at shape stage past log k slot there lt))
-      | inr le ↦ absurd (never post (sym (kept-in shape stage past log k slot there ∙ kept-behind k.posts (slot_count shape - (0 + length k.posts)) (slot_number shape slot.stage slot.sender) le) ∙ kept))
+      | inr le ↦ absurd (never post
+          (sym (kept-in shape stage past log k slot there ∙ kept-behind k.posts (slot_count shape - (0 + length k.posts)) (slot_number shape slot.stage slot.sender) le) ∙ kept))
     ]
   where
     never : (post : Post) → none_post ≡ some_post post → ⊥
@@ -153,7 +156,8 @@ number-of shape stage past others log other k k' slot differ =
 -- ---- the least
 
 -- a slot that comes before another, or is it, has no greater number
-number-first : (shape : Shape) (a b : Slot) → is_slot shape a.stage a.sender ≡ true → is_slot shape b.stage b.sender ≡ true → (a.stage < b.stage) ⊎ ((a.stage ≡ b.stage) × (a.sender ≤ b.sender))
+number-first : (shape : Shape) (a b : Slot) → is_slot shape a.stage a.sender ≡ true → is_slot shape b.stage b.sender ≡ true
+    → (a.stage < b.stage) ⊎ ((a.stage ≡ b.stage) × (a.sender ≤ b.sender))
     → slot_number shape a.stage a.sender ≤ slot_number shape b.stage b.sender
 number-first shape a b here there (inl later) = omega (arith, slot_number-later shape a.stage b.stage a.sender b.sender here there later)
 number-first shape a b here there (inr same) =
@@ -181,8 +185,10 @@ unlike-is shape stage past others log other k k' None none =
     ]
 unlike-is shape stage past others log other k k' (Some slot) first =
     let own = number-of shape stage past others log other k k' slot first.differ in
-    sym (first_below-some (λ place. fault_unless (is_same past others place) place) (length past) (slot_number shape slot.stage slot.sender) (slot_number shape slot.stage slot.sender)
-    own.within (λ place lt. earlier own place lt) (fault_unless-false (is_same past others (slot_number shape slot.stage slot.sender)) (slot_number shape slot.stage slot.sender) own.unlike))
+    sym (first_below-some (λ place. fault_unless (is_same past others place) place) (length past) (slot_number shape slot.stage slot.sender)
+    (slot_number shape slot.stage slot.sender)
+    own.within (λ place lt. earlier own place lt)
+    (fault_unless-false (is_same past others (slot_number shape slot.stage slot.sender)) (slot_number shape slot.stage slot.sender) own.unlike))
   where
     earlier : NumberOf shape past others slot → (place : ℕ) → place < slot_number shape slot.stage slot.sender → fault_unless (is_same past others place) place ≡ None
     earlier own place lt = elim (cases_Bool (is_same past others place)) [
