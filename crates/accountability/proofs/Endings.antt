@@ -50,7 +50,7 @@ none-ends c delivered e =
 
 -- ---- what a string shows
 
-and-then-parts : {A B : Type 0} (f : A → Option B) (o : Option A) (y : B) → option_and_then f o ≡ Some y → (x : A) × (o ≡ Some x) × (f x ≡ Some y)
+pub and-then-parts : {A B : Type 0} (f : A → Option B) (o : Option A) (y : B) → option_and_then f o ≡ Some y → (x : A) × (o ≡ Some x) × (f x ≡ Some y)
 and-then-parts f None y e = absurd (none-some y e)
 and-then-parts f (Some x) y e = (x, refl, e)
 

@@ -31,7 +31,7 @@ use Rattle.accountability.proofs.Kept.{whole-end}
 
 -- ---- a verdict on what a run kept
 
-convicts-not : (t : Transcript) (verdict : Verdict) → verdict ≡ Goes ⊎ verdict ≡ Done → Convicts t ≡ verdict → ⊥
+pub convicts-not : (t : Transcript) (verdict : Verdict) → verdict ≡ Goes ⊎ verdict ≡ Done → Convicts t ≡ verdict → ⊥
 convicts-not t verdict (inl goes) e = (let both = e ∙ goes in cc)
 convicts-not t verdict (inr done) e = (let both = e ∙ done in cc)
 
@@ -53,7 +53,7 @@ verdict_accepted run stage posts t end e =
 
 -- ---- the end of deliveries
 
-transcript-of : (x y : Transcript) → Blamed x ≡ Blamed y → x ≡ y
+pub transcript-of : (x y : Transcript) → Blamed x ≡ Blamed y → x ≡ y
 transcript-of x y e = cc
 
 not-closing : (v : ClosedStage) → is_closing (shape_at v) v.stage ≡ false → verdict_of v ≡ Goes

@@ -47,14 +47,18 @@ header-same a b r e e' = let both = sym e ∙ e' in cc
 
 -- ---- post files
 
--- what checks says its content
-pub file-says : (c : Configuration) (slot : Slot) (post : Post) (is : ChecksIn c slot post)
-    → Says c.roster c.round (post_spelling post) post.content is.content.header
-file-says c slot post is =
+-- what checks is admitted with the header of its content
+pub checks-header : (c : Configuration) (slot : Slot) (post : Post) (is : ChecksIn c slot post) → Admitted c.roster c.round post is.content.header
+checks-header c slot post is =
     let admitted = checks-admitted c slot post is in
     let parts = checks-parts c.roster c.round post is.content is.checks in
     let same = header-same admitted.0 is.content.header (header_of post.content) admitted.1.reads (content-header (shape_of_roster c.roster) post.content is.content parts.2) in
-    record { signature = post.signature; spelled = refl; admitted = subst (Admitted c.roster c.round post) same admitted.1 }
+    subst (Admitted c.roster c.round post) same admitted.1
+
+-- so it says its content
+pub file-says : (c : Configuration) (slot : Slot) (post : Post) (is : ChecksIn c slot post)
+    → Says c.roster c.round (post_spelling post) post.content is.content.header
+file-says c slot post is = record { signature = post.signature; spelled = refl; admitted = checks-header c slot post is }
 
 -- and is a post file
 pub file-of : (c : Configuration) (slot : Slot) (post : Post) (is : ChecksIn c slot post) → IsPostFile c.roster c.round (post_spelling post) is.content
@@ -156,7 +160,7 @@ kept-end run stage member posts end is =
     let kind = closing-kind (shape_in run.config) stage end.closing in
     kept-in run (stage + 1) stage member posts (end-past run stage posts end) (kind.all_close member is.least is.most) (omega arith)
 
-member-there : (n member : ℕ) → 1 ≤ member → member ≤ n → is_member n member ≡ true
+pub member-there : (n member : ℕ) → 1 ≤ member → member ≤ n → is_member n member ≡ true
 member-there n member least most = search rules
 
 pub member-is : (run : Run) (stage member : ℕ) (posts : List Post) → IsMemberOf (closing_of run.config posts stage) member
@@ -187,7 +191,10 @@ transcript-same x y e = cc
 
 -- a transcript with its own claim is accepted where it is what the claim asks
 pub accept : (roster : Roster) (t : Transcript) → IsTranscript (shape_of_roster roster) t → Shows roster t t.claim → IsAccepted roster t
-accept roster t form shows = record { transcript = t; form = form; spelled = refl; accused_is = refl; claim_is = refl; convicts = shows }
+accept roster t form shows = record {
+  form = form;
+  accepts = record { transcript = t; form = form; spelled = refl; accused_is = refl; claim_is = refl; convicts = shows };
+}
 
 -- ---- what a kept content is
 

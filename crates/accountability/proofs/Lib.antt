@@ -9,3 +9,10 @@ pub mod Votes
 pub mod Pads
 pub mod PadEvidence
 pub mod Evidence
+pub mod EvidenceBytes
+pub mod Traces
+pub mod Faulty
+pub mod Rows
+pub mod Ciphertexts
+pub mod Messages
+pub mod SameList

@@ -21,7 +21,7 @@ use Rattle.phase_message.specs.declared.header.Header.{Header}
 use Rattle.round_spec.specs.Result.{Heard, heard_of, heard_of_post, heard_with}
 use Rattle.phase_message.specs.Kinds.{IsBodyAt}
 use Rattle.wire_core.specs.Bytes.{IsBytes}
-use Rattle.accountability.proofs.Endings.{IsContradiction, IsMalformed, fault-cases}
+use Rattle.accountability.proofs.Endings.{IsContradiction, IsMalformed, fault-cases, and-then-parts}
 use Rattle.phase_message.specs.declared.offence.Offence.{Offence}
 use Rattle.round_spec.specs.Honesty.{OthersCheck}
 use Rattle.group_roster.specs.Roster.{Roster}
@@ -171,10 +171,6 @@ wrong_seed_accepted run stage posts t end is =
     is.wrong))
 
 -- ---- what a delivered string shows
-
-and-then-parts : {A B : Type 0} (f : A → Option B) (o : Option A) (y : B) → option_and_then f o ≡ Some y → (x : A) × (o ≡ Some x) × (f x ≡ Some y)
-and-then-parts f None y e = absurd (none-some y e)
-and-then-parts f (Some x) y e = (x, refl, e)
 
 some-is : {A : Type 0} (a b : A) → (let some : A → Option A = λ z. Some z in some a ≡ some b) → a ≡ b
 some-is a b e = cc

@@ -124,7 +124,7 @@ pub record RightPads (run : Run) (posts : List Post) (member : ℕ) : Type 0 whe
 member-there : (n member : ℕ) → 1 ≤ member → member ≤ n → is_member n member ≡ true
 member-there n member least most = search rules
 
-pads-speak : (shape : Shape) (member : ℕ) → 1 ≤ member → member ≤ shape.members → is_slot shape (pad_stage shape) member ≡ true
+pub pads-speak : (shape : Shape) (member : ℕ) → 1 ≤ member → member ≤ shape.members → is_slot shape (pad_stage shape) member ≡ true
 pads-speak shape member least most =
     ap (λ (o : Option StageKind). speaks shape o member) (pad_is shape (pad_stage shape) refl) ∙ member-there shape.members member least most
 
@@ -222,7 +222,7 @@ table-by shape accused pads least most =
     ∙ cond-true (accused == accused) pads [] (eq-eqb accused accused refl)
 
 -- who is named is a member
-named-member : (shape : Shape) (past : List (List ℕ)) (a : Accusation) → is_held shape past a ≡ true → (1 ≤ a.member) × (a.member ≤ shape.members)
+pub named-member : (shape : Shape) (past : List (List ℕ)) (a : Accusation) → is_held shape past a ≡ true → (1 ≤ a.member) × (a.member ≤ shape.members)
 named-member shape past a e =
     let holds = (holds_exactly a (descriptors_opened shape past) (pads_sent shape past) (keys_said shape past bulk_place)).0 (is-refused shape past a e) in
     let count : length (keys_said shape past bulk_place) ≡ shape.members = length-map-range_with_len (key_said shape past bulk_place) 1 shape.members in

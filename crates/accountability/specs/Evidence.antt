@@ -2,10 +2,10 @@
 use Rattle.std.specs.Prelude.{◌≡◌, ℕ, ◌+◌, List, All, IsTrue, Some}
 use Rattle.wire_core.specs.Bytes.{IsBytes}
 use Rattle.phase_message.specs.declared.post.Post.{Post}
-use Rattle.group_roster.specs.Roster.{Roster}
+use Rattle.group_roster.specs.Roster.{Roster, shape_of_roster}
 use Rattle.stage_log.specs.Log.{before}
 use Rattle.transcript_form.specs.declared.transcript.Transcript.{Transcript}
-use Rattle.transcript_form.specs.Transcript.{transcript_spelling}
+use Rattle.transcript_form.specs.Transcript.{IsTranscript, transcript_spelling}
 use Rattle.round_spec.specs.Cases.{IsBadLog, IsBadPad, IsEquivocation, IsReplay, IsWrongSeed}
 use Rattle.round_spec.specs.Course.{Others, closing_of}
 use Rattle.round_spec.specs.Honesty.{OthersCheck}
@@ -15,9 +15,10 @@ use Rattle.round_spec.specs.Say.{Configuration, shape_in}
 use Rattle.round_spec.specs.Verdict.{ClosedStage, Convicts, Verdict, is_closing, verdict_of}
 use Rattle.conviction.specs.Accepts.{Accepts}
 
--- the bytes of a transcript convict the member that it accuses, by its claim
-abbrev pub IsAccepted : Roster → Transcript → Type 0
-IsAccepted roster t = Accepts roster (transcript_spelling t) t.accused t.claim
+-- a transcript has a spelling, and its bytes convict the member that it accuses, by its claim
+pub record IsAccepted (roster : Roster) (t : Transcript) : Type 0 where
+  pub form : IsTranscript (shape_of_roster roster) t
+  pub accepts : Accepts roster (transcript_spelling t) t.accused t.claim
 
 -- ---- by a closing stage
 
@@ -49,3 +50,8 @@ FaultAccepted = (c : Configuration) (firsts : Others) (bytes : List ℕ) (t : Tr
 abbrev pub EvidenceAccepted : Type 0
 EvidenceAccepted = (c : Configuration) (delivered : List (List ℕ)) (t : Transcript) → IsConfiguration c → All IsBytes delivered →
     result_of c delivered ≡ Blamed t → IsAccepted c.roster t
+
+-- and it is bytes
+abbrev pub EvidenceIsBytes : Type 0
+EvidenceIsBytes = (c : Configuration) (delivered : List (List ℕ)) (t : Transcript) → IsConfiguration c → All IsBytes delivered →
+    result_of c delivered ≡ Blamed t → IsBytes (transcript_spelling t)

@@ -1,2 +1,6 @@
 pub mod Naming
 pub mod Evidence
+pub mod Faulty
+pub mod Agreed
+pub mod Messages
+pub mod SameList

@@ -1,7 +1,11 @@
 //! Laws of how a round ends. Nobody calls these functions: the contract of each states a law.
 
-ghost use Rattle.accountability.specs.Evidence.{AcceptedFor, EvidenceAccepted, FaultAccepted, VerdictAccepted};
+ghost use Rattle.accountability.specs.Agreed.{PlaceOpens, PlacesDiffer, SamePast};
+ghost use Rattle.accountability.specs.Evidence.{AcceptedFor, EvidenceAccepted, EvidenceIsBytes, FaultAccepted, VerdictAccepted};
+ghost use Rattle.accountability.specs.Faulty.{AccusedFaulty};
+ghost use Rattle.accountability.specs.Messages.{DoneHasMessages};
 ghost use Rattle.accountability.specs.Naming.{OpenNames};
+ghost use Rattle.accountability.specs.SameList.{SameList};
 ghost use Rattle.round_spec.specs.Cases.{IsBadLog, IsBadPad, IsEquivocation, IsReplay, IsWrongSeed};
 
 /// An open round names exactly the members whose post for its stage was not delivered, and it names somebody.
@@ -48,4 +52,36 @@ pub fn bad_pad_accepted()
 pub fn evidence_accepted()
     ensures verdict { VerdictAccepted }
     ensures whole { EvidenceAccepted }
+    ensures bytes { EvidenceIsBytes }
+{}
+
+/// Whoever is accused by the member of an honest run has no run in the round, where no signature was forged in what was
+/// delivered, and no two strings of the runs and of the transcript have one hash.
+pub fn accused_faulty()
+    ensures { AccusedFaulty }
+{}
+
+/// Where all members agree at the end of a closing stage, each honest run of the round kept before the votes what the
+/// member kept there.
+pub fn same_past()
+    ensures { SamePast }
+{}
+
+/// Where all members agree behind shuffle A, each honest run of the round stands at a place of its last list, which opens
+/// to its own descriptor; and two members stand at two places.
+pub fn places_open()
+    ensures opens { PlaceOpens }
+    ensures differ { PlacesDiffer }
+{}
+
+/// The slots of a member that is done hold the message of each honest run of the round, exactly, and those of two members
+/// at two places; where no signature was forged in what was delivered, and no two strings of the runs have one hash.
+pub fn done_has_messages()
+    ensures { DoneHasMessages }
+{}
+
+/// Two members of a round that are done have the same list of slots, whoever is faulty; where no signature was forged in
+/// what was delivered to one of them, and no two strings of the runs have one hash.
+pub fn same_list()
+    ensures { SameList }
 {}
