@@ -1,0 +1,16 @@
+pub mod Named
+pub mod Orders
+pub mod Bounds
+pub mod Places
+pub mod Kept
+pub mod Moves
+pub mod Turns
+pub mod Resting
+pub mod Hearing
+pub mod Agreeing
+pub mod Idle
+pub mod Growing
+pub mod Bits
+pub mod Ends
+pub mod Says
+pub mod PlainLaws
