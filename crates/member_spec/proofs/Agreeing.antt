@@ -21,15 +21,14 @@ use Rattle.round_spec.proofs.Courses.{cases_Some, course-grows, course-next, cou
 use Rattle.round_spec.proofs.Reached.{behind-at, next-parts}
 use Rattle.round_spec.proofs.Deliveries.{ending-none, first-posts-grow, least-ending-grows}
 use Rattle.member_spec.specs.declared.mood.Mood.{Mood}
-use Rattle.member_spec.specs.Actor.{Actor, asked_again, heard_by, keeping, moved_on, stored, unless_faulty}
-use Rattle.member_spec.specs.Plain.{SaysGrammar}
+use Rattle.member_spec.specs.Actor.{Actor, actor_behind_repeat, actor_behind_delivery, actor_with_heard, actor_behind_steps, actor_behind_heard, actor_behind_fault}
 use Rattle.member_spec.specs.Replies.{IsPlain, Replies}
 use Rattle.member_spec.proofs.Hearing.{IsOfOther, closed-ending, contradiction-cases, contradiction-empty, contradiction-full, contradiction-same, fault-inside, fault-of, fault-outside, firsts-same, given-elsewhere, given-here, given-nothing, heard-other, last-of, none-open, open-ending}
 use Rattle.member_spec.proofs.Kept.{log_with, place_with}
 use Rattle.member_spec.proofs.Moves.{keeps-log}
 use Rattle.member_spec.proofs.Places.{kept-place}
-use Rattle.member_spec.proofs.Resting.{moved-rests, rests-log, rests-made, rests-stand}
-use Rattle.member_spec.proofs.Turns.{Follows, Rests, mood_when}
+use Rattle.member_spec.proofs.Resting.{steps-rest, rests-log, rests-made, rests-stand}
+use Rattle.member_spec.proofs.Steps.{Follows, Rests, SaysGrammar, mood_when}
 
 -- nothing has ended, and the member rests
 pub record IsOpenAfter (c : Configuration) (delivered : List (List ℕ)) (a : Actor) : Type 0 where
@@ -132,30 +131,30 @@ kept-first c others a slot rests speaks other =
     ∙ cond-false (slot.sender == c.number) _ (others slot) other
 
 open-heard : (replies : Replies) (c : Configuration) (a : Actor) (bytes : List ℕ) (o : Option Verdict) → is_open a.ending ≡ true → fault_shown c (kept_in a.log) bytes ≡ o
-    → heard_by replies c a bytes ≡ unless_faulty replies c a bytes o
-unfolding heard_by
-open-heard replies c a bytes o still e = cond-true (is_open a.ending) (unless_faulty replies c a bytes (fault_shown c (kept_in a.log) bytes)) a still ∙ ap (unless_faulty replies c a bytes) e
+    → actor_behind_delivery replies c a bytes ≡ actor_behind_fault replies c a bytes o
+unfolding actor_behind_delivery
+open-heard replies c a bytes o still e = cond-true (is_open a.ending) (actor_behind_fault replies c a bytes (fault_shown c (kept_in a.log) bytes)) a still ∙ ap (actor_behind_fault replies c a bytes) e
 
 rests-open : (c : Configuration) (delivered : List (List ℕ)) (a : Actor) → IsOpenAfter c delivered a → is_open a.ending ≡ true
 rests-open c delivered a is =
     ap is_open (is.rests.follows.ending ∙ ap (λ (s : Stand). s.verdict) (rests-stand c (first_posts c delivered) a is.rests)) ∙ none-open c delivered is.none
 
 -- nothing is heard
-hears-nothing : (replies : Replies) (c : Configuration) (delivered : List (List ℕ)) (bytes : List ℕ) (a : Actor) → IsOpenAfter c delivered a → heard_of c bytes ≡ None → Agrees c (with_last delivered bytes) (heard_by replies c a bytes)
+hears-nothing : (replies : Replies) (c : Configuration) (delivered : List (List ℕ)) (bytes : List ℕ) (a : Actor) → IsOpenAfter c delivered a → heard_of c bytes ≡ None → Agrees c (with_last delivered bytes) (actor_behind_delivery replies c a bytes)
 unfolding post_given
 hears-nothing replies c delivered bytes a is nothing =
     subst (Agrees c (with_last delivered bytes)) (sym step) (idle-agrees c delivered bytes a is
     (firsts-same c delivered bytes (λ slot none. ap (option_and_then _) nothing)) (fault-of c (first_posts c (with_last delivered bytes)) bytes None nothing))
   where
-    step : heard_by replies c a bytes ≡ a
-    step = open-heard replies c a bytes None (rests-open c delivered a is) (fault-of c (kept_in a.log) bytes None nothing) ∙ ap (stored replies c a) nothing
+    step : actor_behind_delivery replies c a bytes ≡ a
+    step = open-heard replies c a bytes None (rests-open c delivered a is) (fault-of c (kept_in a.log) bytes None nothing) ∙ ap (actor_behind_heard replies c a) nothing
 
 -- a body outside the grammar is heard
 hears-outside : (replies : Replies) (c : Configuration) (delivered : List (List ℕ)) (bytes : List ℕ) (a : Actor) (heard : Heard) → IsOpenAfter c delivered a → heard_of c bytes ≡ Some heard → is_ok heard.content ≡ false
-    → Agrees c (with_last delivered bytes) (heard_by replies c a bytes)
+    → Agrees c (with_last delivered bytes) (actor_behind_delivery replies c a bytes)
 hears-outside replies c delivered bytes a heard is e outside =
     let fault = fault-outside c (kept_in a.log) bytes heard outside in
-    let step : heard_by replies c a bytes ≡ record a { ending = fault.0 } =
+    let step : actor_behind_delivery replies c a bytes ≡ record a { ending = fault.0 } =
     open-heard replies c a bytes (Some fault.0) (rests-open c delivered a is) (fault-of c (kept_in a.log) bytes (Some heard) e ∙ fault.2 (kept_in a.log)) in
     subst (Agrees c (with_last delivered bytes)) (sym step) (fault-agrees c delivered bytes a fault.0 is
     (firsts-same c delivered bytes (λ slot none. given-nothing c slot bytes heard e outside))
@@ -169,9 +168,9 @@ full-same c delivered bytes heard kept e first =
 
 -- a post is heard for a slot that has one
 hears-full : (replies : Replies) (c : Configuration) (delivered : List (List ℕ)) (bytes : List ℕ) (a : Actor) (heard : Heard) (kept : Post) → IsOpenAfter c delivered a → IsOfOther c heard
-    → heard_of c bytes ≡ Some heard → is_ok heard.content ≡ true → first_posts c delivered (slot_named heard.header) ≡ Some kept → Agrees c (with_last delivered bytes) (heard_by replies c a bytes)
+    → heard_of c bytes ≡ Some heard → is_ok heard.content ≡ true → first_posts c delivered (slot_named heard.header) ≡ Some kept → Agrees c (with_last delivered bytes) (actor_behind_delivery replies c a bytes)
 hears-full replies c delivered bytes a heard kept is other e reads first = elim (contradiction-cases c bytes heard kept) [
-  | inl same ↦ subst (Agrees c (with_last delivered bytes)) (sym (step None same.1 ∙ ap (stored replies c a) e ∙ cond-true (is_some (kept_in a.log (slot_named heard.header))) a _ (ap is_some there)))
+  | inl same ↦ subst (Agrees c (with_last delivered bytes)) (sym (step None same.1 ∙ ap (actor_behind_heard replies c a) e ∙ cond-true (is_some (kept_in a.log (slot_named heard.header))) a _ (ap is_some there)))
       (idle-agrees c delivered bytes a is posts (shown (first_posts c (with_last delivered bytes)) here ∙ same.1))
   | inr fault ↦ subst (Agrees c (with_last delivered bytes)) (sym (step (Some fault.0) fault.2))
       (fault-agrees c delivered bytes a fault.0 is posts (shown (first_posts c (with_last delivered bytes)) here ∙ fault.2) fault.1)
@@ -189,13 +188,13 @@ hears-full replies c delivered bytes a heard kept is other e reads first = elim 
     shown : (firsts : Others) → firsts (slot_named heard.header) ≡ Some kept → fault_shown c firsts bytes ≡ contradiction_with c bytes heard kept
     shown firsts has = fault-of c firsts bytes (Some heard) e ∙ fault-inside c firsts bytes heard reads ∙ contradiction-full c firsts bytes heard kept has
 
-    step : (o : Option Verdict) → contradiction_with c bytes heard kept ≡ o → heard_by replies c a bytes ≡ unless_faulty replies c a bytes o
+    step : (o : Option Verdict) → contradiction_with c bytes heard kept ≡ o → actor_behind_delivery replies c a bytes ≡ actor_behind_fault replies c a bytes o
     step o shows = open-heard replies c a bytes o (rests-open c delivered a is) (shown (kept_in a.log) there ∙ shows)
 
 -- a plain member has put nothing off
-plainly-asked : (replies : Replies) (c : Configuration) (a : Actor) (mood : Mood) (now : Bool) → mood ≡ mood_when now → asked_again replies c a mood ≡ a
-plainly-asked replies c a mood true e = ap (asked_again replies c a) e
-plainly-asked replies c a mood false e = ap (asked_again replies c a) e
+repeat-plain : (replies : Replies) (c : Configuration) (a : Actor) (mood : Mood) (now : Bool) → mood ≡ mood_when now → actor_behind_repeat replies c a mood ≡ a
+repeat-plain replies c a mood true e = ap (actor_behind_repeat replies c a) e
+repeat-plain replies c a mood false e = ap (actor_behind_repeat replies c a) e
 
 course-zero : (c : Configuration) (others : Others) (stand : Stand) → course_from c others 0 stand ≡ stand
 unfolding course_from
@@ -214,9 +213,9 @@ at-most c others (suc stages) stand = elim (cases_Some (next_stand c others stan
 ]
 
 -- with the new post it is where it was, in the course with that post
-keeping-follows : (c : Configuration) (others more : Others) (a : Actor) (heard : Heard) → Rests c others a → IsOfOther c heard → IsContained others more → more (slot_named heard.header) ≡ Some heard.post
-    → ((slot : Slot) → slot ≢ slot_named heard.header → others slot ≡ more slot) → (stages : ℕ) × ((now : Bool) × Follows c more now stages (keeping a heard))
-keeping-follows c others more a heard rests other contained here same =
+heard-follows : (c : Configuration) (others more : Others) (a : Actor) (heard : Heard) → Rests c others a → IsOfOther c heard → IsContained others more → more (slot_named heard.header) ≡ Some heard.post
+    → ((slot : Slot) → slot ≢ slot_named heard.header → others slot ≡ more slot) → (stages : ℕ) × ((now : Bool) × Follows c more now stages (actor_with_heard a heard))
+heard-follows c others more a heard rests other contained here same =
     let f = rests.follows in
     let through = course-grows c others more rests.stages first_stand contained in
     let at : a.stand ≡ course_from c more through.count first_stand =
@@ -239,10 +238,10 @@ keeping-follows c others more a heard rests other contained here same =
 -- a post is heard for an empty slot
 hears-new : (replies : Replies) (c : Configuration) (delivered : List (List ℕ)) (bytes : List ℕ) (a : Actor) (heard : Heard) → IsPlain replies → SaysGrammar c (first_posts c (with_last delivered bytes))
     → IsOpenAfter c delivered a → IsOfOther c heard → heard_of c bytes ≡ Some heard → is_ok heard.content ≡ true → first_posts c delivered (slot_named heard.header) ≡ None
-    → Agrees c (with_last delivered bytes) (heard_by replies c a bytes)
+    → Agrees c (with_last delivered bytes) (actor_behind_delivery replies c a bytes)
 hears-new replies c delivered bytes a heard plain grammar is other e reads empty =
-    subst (Agrees c (with_last delivered bytes)) (sym step) (rests-agrees c delivered bytes (moved_on replies c (keeping a heard)) is.none sound
-    (moved-rests replies c more follows.1.0 follows.0 (keeping a heard) plain grammar follows.1.1))
+    subst (Agrees c (with_last delivered bytes)) (sym step) (rests-agrees c delivered bytes (actor_behind_steps replies c (actor_with_heard a heard)) is.none sound
+    (steps-rest replies c more follows.1.0 follows.0 (actor_with_heard a heard) plain grammar follows.1.1))
   where
     slot : Slot
     slot = slot_named heard.header
@@ -260,8 +259,8 @@ hears-new replies c delivered bytes a heard plain grammar is other e reads empty
         by_first (Some post) is = is ∙ sym ((first-posts-grow c delivered bytes other).stays post is)
         by_first None is = is ∙ sym ((first-posts-grow c delivered bytes other).comes is ∙ given-elsewhere c other bytes heard e apart)
 
-    follows : (stages : ℕ) × ((now : Bool) × Follows c more now stages (keeping a heard))
-    follows = keeping-follows c (first_posts c delivered) more a heard is.rests other (λ s post at. (first-posts-grow c delivered bytes s).stays post at) here same
+    follows : (stages : ℕ) × ((now : Bool) × Follows c more now stages (actor_with_heard a heard))
+    follows = heard-follows c (first_posts c delivered) more a heard is.rests other (λ s post at. (first-posts-grow c delivered bytes s).stays post at) here same
 
     nothing : kept_in a.log slot ≡ None
     nothing = kept-first c (first_posts c delivered) a slot is.rests other.speaks other.other ∙ empty
@@ -272,20 +271,20 @@ hears-new replies c delivered bytes a heard plain grammar is other e reads empty
     quiet : fault_shown c (kept_in a.log) bytes ≡ None
     quiet = fault-of c (kept_in a.log) bytes (Some heard) e ∙ fault-inside c (kept_in a.log) bytes heard reads ∙ contradiction-empty c (kept_in a.log) bytes heard nothing
 
-    step : heard_by replies c a bytes ≡ moved_on replies c (keeping a heard)
+    step : actor_behind_delivery replies c a bytes ≡ actor_behind_steps replies c (actor_with_heard a heard)
     step =
-        open-heard replies c a bytes None (rests-open c delivered a is) quiet ∙ ap (stored replies c a) e
-        ∙ cond-false (is_some (kept_in a.log slot)) a (moved_on replies c (asked_again replies c (keeping a heard) a.mood)) (ap is_some nothing)
-        ∙ ap (moved_on replies c) (plainly-asked replies c (keeping a heard) a.mood is.rests.now is.rests.follows.mood)
+        open-heard replies c a bytes None (rests-open c delivered a is) quiet ∙ ap (actor_behind_heard replies c a) e
+        ∙ cond-false (is_some (kept_in a.log slot)) a (actor_behind_steps replies c (actor_behind_repeat replies c (actor_with_heard a heard) a.mood)) (ap is_some nothing)
+        ∙ ap (actor_behind_steps replies c) (repeat-plain replies c (actor_with_heard a heard) a.mood is.rests.now is.rests.follows.mood)
 
 -- ---- after the end
 
 -- nothing happens any more
-ended-agrees : (replies : Replies) (c : Configuration) (delivered : List (List ℕ)) (bytes : List ℕ) (a : Actor) → IsEndedAfter c delivered a → Agrees c (with_last delivered bytes) (heard_by replies c a bytes)
-unfolding Agrees heard_by
+ended-agrees : (replies : Replies) (c : Configuration) (delivered : List (List ℕ)) (bytes : List ℕ) (a : Actor) → IsEndedAfter c delivered a → Agrees c (with_last delivered bytes) (actor_behind_delivery replies c a bytes)
+unfolding Agrees actor_behind_delivery
 ended-agrees replies c delivered bytes a is =
     let within = is.within in
-    subst (Agrees c (with_last delivered bytes)) (sym (cond-false (is_open a.ending) (unless_faulty replies c a bytes (fault_shown c (kept_in a.log) bytes)) a (ap is_open is.has.ending ∙ is.has.closed)))
+    subst (Agrees c (with_last delivered bytes)) (sym (cond-false (is_open a.ending) (actor_behind_fault replies c a bytes (fault_shown c (kept_in a.log) bytes)) a (ap is_open is.has.ending ∙ is.has.closed)))
     (inr (record {
       ending = is.ending;
       least = (least-ending-grows c delivered bytes).stays is.ending is.least;
@@ -296,7 +295,7 @@ ended-agrees replies c delivered bytes a is =
 -- ---- every delivery
 
 pub delivery-keeps : (replies : Replies) (c : Configuration) (delivered : List (List ℕ)) (bytes : List ℕ) (a : Actor) → IsPlain replies → IsBytes bytes → SaysGrammar c (first_posts c (with_last delivered bytes))
-    → Agrees c delivered a → Agrees c (with_last delivered bytes) (heard_by replies c a bytes)
+    → Agrees c delivered a → Agrees c (with_last delivered bytes) (actor_behind_delivery replies c a bytes)
 unfolding Agrees
 delivery-keeps replies c delivered bytes a plain are grammar (inr is) = ended-agrees replies c delivered bytes a is
 delivery-keeps replies c delivered bytes a plain are grammar (inl is) = elim (cases_Some (heard_of c bytes)) [

@@ -17,7 +17,7 @@ use Rattle.member_spec.specs.declared.conduct.Speech.{Speech}
 use Rattle.member_spec.specs.declared.conduct.Speech.TheVariants.{Say, Wait, Silent}
 use Rattle.member_spec.specs.declared.mood.Mood.{Mood}
 use Rattle.member_spec.specs.declared.mood.Mood.TheVariants.{Unasked, PutOff, Spoken, Mute}
-use Rattle.member_spec.specs.Actor.{Actor, actor_after, actor_at_start, answered, asked, asked_again, content_due, heard_by, is_due, keeping, moved_on, speech_about, stage_posts, stored, turned, turned_with, unless_faulty, with_post}
+use Rattle.member_spec.specs.Actor.{Actor, actor_after, actor_at_start, actor_behind_answer, actor_behind_question, actor_behind_repeat, content_to_say, actor_behind_delivery, is_due, actor_with_heard, actor_behind_steps, speech_about, stage_posts, actor_behind_heard, actor_behind_step, actor_behind_step_with, actor_behind_fault, actor_behind_post}
 use Rattle.member_spec.specs.Growing.{GoesOnTo, PostsGrow}
 use Rattle.member_spec.specs.Replies.{Replies}
 
@@ -38,55 +38,55 @@ either : (a x y : Actor) (b : Bool) → Grows a x → Grows a y → Grows a (if 
 either a x y true first second = first
 either a x y false first second = second
 
-post-grows : (c : Configuration) (a : Actor) (post : Post) → Grows a (with_post c a post)
+post-grows : (c : Configuration) (a : Actor) (post : Post) → Grows a (actor_behind_post c a post)
 unfolding Grows
 post-grows c a post = elim (cases_Bool (is_ok (content_read (shape_in c) post.content))) [
   | inl reads ↦ (post ∷ [], ap (λ (x : Actor). x.made) (cond-true (is_ok (content_read (shape_in c) post.content)) _ _ reads))
   | inr outside ↦ (post ∷ [], ap (λ (x : Actor). x.made) (cond-false (is_ok (content_read (shape_in c) post.content)) _ _ outside))
 ]
 
-answered-grows : (c : Configuration) (a : Actor) (speech : Speech) → Grows a (answered c a speech)
-answered-grows c a (Say bytes) = post-grows c a (signed_at c a.stand.at bytes)
-answered-grows c a (Wait bytes) = same a _ refl
-answered-grows c a Silent = same a _ refl
+answer-grows : (c : Configuration) (a : Actor) (speech : Speech) → Grows a (actor_behind_answer c a speech)
+answer-grows c a (Say bytes) = post-grows c a (signed_at c a.stand.at bytes)
+answer-grows c a (Wait bytes) = same a _ refl
+answer-grows c a Silent = same a _ refl
 
-with-grows : (replies : Replies) (c : Configuration) (a : Actor) (o : Option (List Post)) → Grows a (turned_with replies c a o)
+with-grows : (replies : Replies) (c : Configuration) (a : Actor) (o : Option (List Post)) → Grows a (actor_behind_step_with replies c a o)
 with-grows replies c a (Some posts) = same a _ refl
-with-grows replies c a None = either a (asked replies c a (content_due replies c a.stand)) a (is_due c a.stand a.mood) (answered-grows c a (speech_about replies c a (content_due replies c a.stand))) (same a a refl)
+with-grows replies c a None = either a (actor_behind_question replies c a (content_to_say replies c a.stand)) a (is_due c a.stand a.mood) (answer-grows c a (speech_about replies c a (content_to_say replies c a.stand))) (same a a refl)
 
-turned-grows : (replies : Replies) (c : Configuration) (a : Actor) → Grows a (turned replies c a)
-unfolding turned
-turned-grows replies c a = either a (turned_with replies c a (stage_posts c a)) a (is_open a.ending) (with-grows replies c a (stage_posts c a)) (same a a refl)
+step-grows : (replies : Replies) (c : Configuration) (a : Actor) → Grows a (actor_behind_step replies c a)
+unfolding actor_behind_step
+step-grows replies c a = either a (actor_behind_step_with replies c a (stage_posts c a)) a (is_open a.ending) (with-grows replies c a (stage_posts c a)) (same a a refl)
 
-moved-grows : (replies : Replies) (c : Configuration) (n : ℕ) (a : Actor) → Grows a (iterate (turned replies c) n a)
-moved-grows replies c zero a = same a a refl
-moved-grows replies c (suc n) a = further a (turned replies c a) (iterate (turned replies c) n (turned replies c a)) (turned-grows replies c a) (moved-grows replies c n (turned replies c a))
+steps-grow : (replies : Replies) (c : Configuration) (n : ℕ) (a : Actor) → Grows a (iterate (actor_behind_step replies c) n a)
+steps-grow replies c zero a = same a a refl
+steps-grow replies c (suc n) a = further a (actor_behind_step replies c a) (iterate (actor_behind_step replies c) n (actor_behind_step replies c a)) (step-grows replies c a) (steps-grow replies c n (actor_behind_step replies c a))
 
-again-grows : (replies : Replies) (c : Configuration) (a : Actor) (mood : Mood) → Grows a (asked_again replies c a mood)
-again-grows replies c a (PutOff bytes) = answered-grows c a (speech_about replies c a bytes)
-again-grows replies c a Unasked = same a a refl
-again-grows replies c a Spoken = same a a refl
-again-grows replies c a Mute = same a a refl
+repeat-grows : (replies : Replies) (c : Configuration) (a : Actor) (mood : Mood) → Grows a (actor_behind_repeat replies c a mood)
+repeat-grows replies c a (PutOff bytes) = answer-grows c a (speech_about replies c a bytes)
+repeat-grows replies c a Unasked = same a a refl
+repeat-grows replies c a Spoken = same a a refl
+repeat-grows replies c a Mute = same a a refl
 
-stored-grows : (replies : Replies) (c : Configuration) (a : Actor) (o : Option Heard) → Grows a (stored replies c a o)
-stored-grows replies c a None = same a a refl
-stored-grows replies c a (Some heard) =
-    let kept : Actor = keeping a heard in
-    let again : Actor = asked_again replies c kept a.mood in
-    either a a (moved_on replies c again) (is_some (kept_in a.log (slot_named heard.header))) (same a a refl)
-    (further a kept (moved_on replies c again) (same a kept refl)
-    (further kept again (moved_on replies c again) (again-grows replies c kept a.mood) (moved-grows replies c (2 * stage_count (shape_in c)) again)))
+heard-post-grows : (replies : Replies) (c : Configuration) (a : Actor) (o : Option Heard) → Grows a (actor_behind_heard replies c a o)
+heard-post-grows replies c a None = same a a refl
+heard-post-grows replies c a (Some heard) =
+    let kept : Actor = actor_with_heard a heard in
+    let again : Actor = actor_behind_repeat replies c kept a.mood in
+    either a a (actor_behind_steps replies c again) (is_some (kept_in a.log (slot_named heard.header))) (same a a refl)
+    (further a kept (actor_behind_steps replies c again) (same a kept refl)
+    (further kept again (actor_behind_steps replies c again) (repeat-grows replies c kept a.mood) (steps-grow replies c (2 * stage_count (shape_in c)) again)))
 
-faulty-grows : (replies : Replies) (c : Configuration) (a : Actor) (bytes : List ℕ) (o : Option Verdict) → Grows a (unless_faulty replies c a bytes o)
-faulty-grows replies c a bytes (Some verdict) = same a _ refl
-faulty-grows replies c a bytes None = stored-grows replies c a (heard_of c bytes)
+fault-grows : (replies : Replies) (c : Configuration) (a : Actor) (bytes : List ℕ) (o : Option Verdict) → Grows a (actor_behind_fault replies c a bytes o)
+fault-grows replies c a bytes (Some verdict) = same a _ refl
+fault-grows replies c a bytes None = heard-post-grows replies c a (heard_of c bytes)
 
-heard-grows : (replies : Replies) (c : Configuration) (a : Actor) (bytes : List ℕ) → Grows a (heard_by replies c a bytes)
-unfolding heard_by
-heard-grows replies c a bytes = either a (unless_faulty replies c a bytes (fault_shown c (kept_in a.log) bytes)) a (is_open a.ending) (faulty-grows replies c a bytes (fault_shown c (kept_in a.log) bytes)) (same a a refl)
+delivery-grows : (replies : Replies) (c : Configuration) (a : Actor) (bytes : List ℕ) → Grows a (actor_behind_delivery replies c a bytes)
+unfolding actor_behind_delivery
+delivery-grows replies c a bytes = either a (actor_behind_fault replies c a bytes (fault_shown c (kept_in a.log) bytes)) a (is_open a.ending) (fault-grows replies c a bytes (fault_shown c (kept_in a.log) bytes)) (same a a refl)
 
 pub posts_grow : PostsGrow
 unfolding actor_after Grows
 posts_grow replies c delivered bytes =
-    subst (λ (b : Actor). GoesOnTo (fold (heard_by replies c) (actor_at_start replies c) delivered).made b.made) (sym (fold-append (heard_by replies c) (actor_at_start replies c) delivered (bytes ∷ [])))
-    (heard-grows replies c (fold (heard_by replies c) (actor_at_start replies c) delivered) bytes)
+    subst (λ (b : Actor). GoesOnTo (fold (actor_behind_delivery replies c) (actor_at_start replies c) delivered).made b.made) (sym (fold-append (actor_behind_delivery replies c) (actor_at_start replies c) delivered (bytes ∷ [])))
+    (delivery-grows replies c (fold (actor_behind_delivery replies c) (actor_at_start replies c) delivered) bytes)

@@ -30,7 +30,7 @@ use Rattle.member_spec.specs.declared.mood.Mood.{Mood}
 use Rattle.member_spec.specs.declared.mood.Mood.TheVariants.{Unasked, PutOff, Spoken, Mute}
 use Rattle.member_spec.specs.declared.taken.Taken.{Taken}
 use Rattle.member_spec.specs.declared.taken.Taken.TheVariants.{Own, Same}
-use Rattle.member_spec.specs.Actor.{Actor, actor_after, actor_at_start, answered, asked, asked_again, content_due, first_actor, heard_by, is_due, keeping, moved_on, speech_about, stage_posts, stored, turned, turned_with, unless_faulty, with_post}
+use Rattle.member_spec.specs.Actor.{Actor, actor_after, actor_at_start, actor_behind_answer, actor_behind_question, actor_behind_repeat, content_to_say, first_actor, actor_behind_delivery, is_due, actor_with_heard, actor_behind_steps, speech_about, stage_posts, actor_behind_heard, actor_behind_step, actor_behind_step_with, actor_behind_fault, actor_behind_post}
 use Rattle.member_spec.specs.Replies.{Replies}
 use Rattle.member_spec.specs.Taking.{IdleLeavesAll, LeavesAll, answer_by_end, answer_to, idle_answer, is_content}
 use Rattle.member_spec.proofs.Hearing.{contradiction-full, contradiction-same, fault-inside, fault-of, fault-outside}
@@ -91,44 +91,44 @@ empty-read c slot post e = elim (cases_Bool (is_slot (shape_in c) slot.stage slo
       (sym (cond-true (is_slot (shape_in c) slot.stage slot.sender) (option_flatten (slice_get (replicate (slot_count (shape_in c)) None) (slot_number (shape_in c) slot.stage slot.sender))) None speaks) ∙ e)))
 ]
 
-post-read : (c : Configuration) (a : Actor) (post : Post) → KeepsRead c a.log → KeepsRead c (with_post c a post).log
+post-read : (c : Configuration) (a : Actor) (post : Post) → KeepsRead c a.log → KeepsRead c (actor_behind_post c a post).log
 post-read c a post keeps = by_read (cases_Bool (is_ok (content_read (shape_in c) post.content)))
   where
-    by_read : (is_ok (content_read (shape_in c) post.content) ≡ true) ⊎ (is_ok (content_read (shape_in c) post.content) ≡ false) → KeepsRead c (with_post c a post).log
+    by_read : (is_ok (content_read (shape_in c) post.content) ≡ true) ⊎ (is_ok (content_read (shape_in c) post.content) ≡ false) → KeepsRead c (actor_behind_post c a post).log
     by_read (inl reads) = subst (KeepsRead c) (sym (ap (λ (x : Actor). x.log) (cond-true (is_ok (content_read (shape_in c) post.content)) _ _ reads)))
         (filled-read c a.log (record { stage = a.stand.at; sender = c.number }) post reads keeps)
     by_read (inr outside) = subst (KeepsRead c) (sym (ap (λ (x : Actor). x.log) (cond-false (is_ok (content_read (shape_in c) post.content)) _ _ outside))) keeps
 
-answered-read : (c : Configuration) (a : Actor) (speech : Speech) → KeepsRead c a.log → KeepsRead c (answered c a speech).log
-answered-read c a (Say bytes) keeps = post-read c a (signed_at c a.stand.at bytes) keeps
-answered-read c a (Wait bytes) keeps = keeps
-answered-read c a Silent keeps = keeps
+answer-read : (c : Configuration) (a : Actor) (speech : Speech) → KeepsRead c a.log → KeepsRead c (actor_behind_answer c a speech).log
+answer-read c a (Say bytes) keeps = post-read c a (signed_at c a.stand.at bytes) keeps
+answer-read c a (Wait bytes) keeps = keeps
+answer-read c a Silent keeps = keeps
 
-turned-read : (replies : Replies) (c : Configuration) (a : Actor) → KeepsRead c a.log → KeepsRead c (turned replies c a).log
-unfolding turned
-turned-read replies c a keeps = by_open (cases_Bool (is_open a.ending))
+step-read : (replies : Replies) (c : Configuration) (a : Actor) → KeepsRead c a.log → KeepsRead c (actor_behind_step replies c a).log
+unfolding actor_behind_step
+step-read replies c a keeps = by_open (cases_Bool (is_open a.ending))
   where
-    by_due : (is_due c a.stand a.mood ≡ true) ⊎ (is_due c a.stand a.mood ≡ false) → KeepsRead c (turned_with replies c a None).log
-    by_due (inl due) = subst (KeepsRead c) (sym (ap (λ (x : Actor). x.log) (cond-true (is_due c a.stand a.mood) (asked replies c a (content_due replies c a.stand)) a due))) (answered-read c a (speech_about replies c a (content_due replies c a.stand)) keeps)
-    by_due (inr not_due) = subst (KeepsRead c) (sym (ap (λ (x : Actor). x.log) (cond-false (is_due c a.stand a.mood) (asked replies c a (content_due replies c a.stand)) a not_due))) keeps
+    by_due : (is_due c a.stand a.mood ≡ true) ⊎ (is_due c a.stand a.mood ≡ false) → KeepsRead c (actor_behind_step_with replies c a None).log
+    by_due (inl due) = subst (KeepsRead c) (sym (ap (λ (x : Actor). x.log) (cond-true (is_due c a.stand a.mood) (actor_behind_question replies c a (content_to_say replies c a.stand)) a due))) (answer-read c a (speech_about replies c a (content_to_say replies c a.stand)) keeps)
+    by_due (inr not_due) = subst (KeepsRead c) (sym (ap (λ (x : Actor). x.log) (cond-false (is_due c a.stand a.mood) (actor_behind_question replies c a (content_to_say replies c a.stand)) a not_due))) keeps
 
-    by_posts : (o : Option (List Post)) → KeepsRead c (turned_with replies c a o).log
+    by_posts : (o : Option (List Post)) → KeepsRead c (actor_behind_step_with replies c a o).log
     by_posts (Some posts) = keeps
     by_posts None = by_due (cases_Bool (is_due c a.stand a.mood))
 
-    by_open : (is_open a.ending ≡ true) ⊎ (is_open a.ending ≡ false) → KeepsRead c (if is_open a.ending then turned_with replies c a (stage_posts c a) else a).log
-    by_open (inl still) = subst (KeepsRead c) (sym (ap (λ (x : Actor). x.log) (cond-true (is_open a.ending) (turned_with replies c a (stage_posts c a)) a still))) (by_posts (stage_posts c a))
-    by_open (inr ended) = subst (KeepsRead c) (sym (ap (λ (x : Actor). x.log) (cond-false (is_open a.ending) (turned_with replies c a (stage_posts c a)) a ended))) keeps
+    by_open : (is_open a.ending ≡ true) ⊎ (is_open a.ending ≡ false) → KeepsRead c (if is_open a.ending then actor_behind_step_with replies c a (stage_posts c a) else a).log
+    by_open (inl still) = subst (KeepsRead c) (sym (ap (λ (x : Actor). x.log) (cond-true (is_open a.ending) (actor_behind_step_with replies c a (stage_posts c a)) a still))) (by_posts (stage_posts c a))
+    by_open (inr ended) = subst (KeepsRead c) (sym (ap (λ (x : Actor). x.log) (cond-false (is_open a.ending) (actor_behind_step_with replies c a (stage_posts c a)) a ended))) keeps
 
-moved-read : (replies : Replies) (c : Configuration) (n : ℕ) (a : Actor) → KeepsRead c a.log → KeepsRead c (iterate (turned replies c) n a).log
-moved-read replies c zero a keeps = keeps
-moved-read replies c (suc n) a keeps = moved-read replies c n (turned replies c a) (turned-read replies c a keeps)
+steps-read : (replies : Replies) (c : Configuration) (n : ℕ) (a : Actor) → KeepsRead c a.log → KeepsRead c (iterate (actor_behind_step replies c) n a).log
+steps-read replies c zero a keeps = keeps
+steps-read replies c (suc n) a keeps = steps-read replies c n (actor_behind_step replies c a) (step-read replies c a keeps)
 
-again-read : (replies : Replies) (c : Configuration) (a : Actor) (mood : Mood) → KeepsRead c a.log → KeepsRead c (asked_again replies c a mood).log
-again-read replies c a (PutOff bytes) keeps = answered-read c a (speech_about replies c a bytes) keeps
-again-read replies c a Unasked keeps = keeps
-again-read replies c a Spoken keeps = keeps
-again-read replies c a Mute keeps = keeps
+repeat-read : (replies : Replies) (c : Configuration) (a : Actor) (mood : Mood) → KeepsRead c a.log → KeepsRead c (actor_behind_repeat replies c a mood).log
+repeat-read replies c a (PutOff bytes) keeps = answer-read c a (speech_about replies c a bytes) keeps
+repeat-read replies c a Unasked keeps = keeps
+repeat-read replies c a Spoken keeps = keeps
+repeat-read replies c a Mute keeps = keeps
 
 -- ---- what is heard
 
@@ -169,24 +169,24 @@ admitting c bytes = by_frame (frame_of bytes) refl
 
 -- ---- one delivery
 
-open-step : (replies : Replies) (c : Configuration) (a : Actor) (bytes : List ℕ) (o : Option Verdict) → is_open a.ending ≡ true → fault_shown c (kept_in a.log) bytes ≡ o → heard_by replies c a bytes ≡ unless_faulty replies c a bytes o
-unfolding heard_by
-open-step replies c a bytes o still e = cond-true (is_open a.ending) (unless_faulty replies c a bytes (fault_shown c (kept_in a.log) bytes)) a still ∙ ap (unless_faulty replies c a bytes) e
+open-delivery : (replies : Replies) (c : Configuration) (a : Actor) (bytes : List ℕ) (o : Option Verdict) → is_open a.ending ≡ true → fault_shown c (kept_in a.log) bytes ≡ o → actor_behind_delivery replies c a bytes ≡ actor_behind_fault replies c a bytes o
+unfolding actor_behind_delivery
+open-delivery replies c a bytes o still e = cond-true (is_open a.ending) (actor_behind_fault replies c a bytes (fault_shown c (kept_in a.log) bytes)) a still ∙ ap (actor_behind_fault replies c a bytes) e
 
-ended-step : (replies : Replies) (c : Configuration) (a : Actor) (bytes : List ℕ) → is_open a.ending ≡ false → heard_by replies c a bytes ≡ a
-unfolding heard_by
-ended-step replies c a bytes ended = cond-false (is_open a.ending) (unless_faulty replies c a bytes (fault_shown c (kept_in a.log) bytes)) a ended
+ended-delivery : (replies : Replies) (c : Configuration) (a : Actor) (bytes : List ℕ) → is_open a.ending ≡ false → actor_behind_delivery replies c a bytes ≡ a
+unfolding actor_behind_delivery
+ended-delivery replies c a bytes ended = cond-false (is_open a.ending) (actor_behind_fault replies c a bytes (fault_shown c (kept_in a.log) bytes)) a ended
 
 -- of what nothing is heard changes nothing
-nothing-step : (replies : Replies) (c : Configuration) (a : Actor) (bytes : List ℕ) → is_open a.ending ≡ true → heard_of c bytes ≡ None → heard_by replies c a bytes ≡ a
-nothing-step replies c a bytes still nothing = open-step replies c a bytes None still (fault-of c (kept_in a.log) bytes None nothing) ∙ ap (stored replies c a) nothing
+nothing-delivered : (replies : Replies) (c : Configuration) (a : Actor) (bytes : List ℕ) → is_open a.ending ≡ true → heard_of c bytes ≡ None → actor_behind_delivery replies c a bytes ≡ a
+nothing-delivered replies c a bytes still nothing = open-delivery replies c a bytes None still (fault-of c (kept_in a.log) bytes None nothing) ∙ ap (actor_behind_heard replies c a) nothing
 
 -- nor does a content that is kept
-same-step : (replies : Replies) (c : Configuration) (a : Actor) (bytes : List ℕ) (heard : Heard) (kept : Post) → is_open a.ending ≡ true → heard_of c bytes ≡ Some heard → is_ok heard.content ≡ true
-    → kept_in a.log (slot_named heard.header) ≡ Some kept → kept.content ≡ heard.post.content → heard_by replies c a bytes ≡ a
-same-step replies c a bytes heard kept still e reads there same =
-    open-step replies c a bytes None still (fault-of c (kept_in a.log) bytes (Some heard) e ∙ fault-inside c (kept_in a.log) bytes heard reads ∙ contradiction-full c (kept_in a.log) bytes heard kept there ∙ contradiction-same c bytes heard kept same)
-    ∙ ap (stored replies c a) e ∙ cond-true (is_some (kept_in a.log (slot_named heard.header))) a _ (ap is_some there)
+same-delivered : (replies : Replies) (c : Configuration) (a : Actor) (bytes : List ℕ) (heard : Heard) (kept : Post) → is_open a.ending ≡ true → heard_of c bytes ≡ Some heard → is_ok heard.content ≡ true
+    → kept_in a.log (slot_named heard.header) ≡ Some kept → kept.content ≡ heard.post.content → actor_behind_delivery replies c a bytes ≡ a
+same-delivered replies c a bytes heard kept still e reads there same =
+    open-delivery replies c a bytes None still (fault-of c (kept_in a.log) bytes (Some heard) e ∙ fault-inside c (kept_in a.log) bytes heard reads ∙ contradiction-full c (kept_in a.log) bytes heard kept there ∙ contradiction-same c bytes heard kept same)
+    ∙ ap (actor_behind_heard replies c a) e ∙ cond-true (is_some (kept_in a.log (slot_named heard.header))) a _ (ap is_some there)
 
 -- where the answer is by the round's end, something may have changed
 not-idle : (verdict : Verdict) → LeavesAll (answer_by_end verdict) → ⊥
@@ -195,40 +195,40 @@ not-idle Done leaves = leaves
 not-idle Goes leaves = leaves
 
 answer-open : (replies : Replies) (c : Configuration) (a : Actor) (bytes : List ℕ) → is_open a.ending ≡ true
-    → answer_to replies c a bytes ≡ unwrap_or (idle_answer c a.log (admission_of_bytes c.roster c.round bytes)) (answer_by_end (heard_by replies c a bytes).ending)
+    → answer_to replies c a bytes ≡ unwrap_or (idle_answer c a.log (admission_of_bytes c.roster c.round bytes)) (answer_by_end (actor_behind_delivery replies c a bytes).ending)
 unfolding answer_to
 answer-open replies c a bytes still = cond-true (is_open a.ending) _ _ still
 
 -- an answer that tells of no change is right
-idle-step : (replies : Replies) (c : Configuration) (a : Actor) (bytes : List ℕ) → KeepsRead c a.log → LeavesAll (answer_to replies c a bytes) → heard_by replies c a bytes ≡ a
+idle-delivery : (replies : Replies) (c : Configuration) (a : Actor) (bytes : List ℕ) → KeepsRead c a.log → LeavesAll (answer_to replies c a bytes) → actor_behind_delivery replies c a bytes ≡ a
 unfolding KeepsRead
-idle-step replies c a bytes keeps leaves = elim (cases_Bool (is_open a.ending)) [
-  | inr ended ↦ ended-step replies c a bytes ended
+idle-delivery replies c a bytes keeps leaves = elim (cases_Bool (is_open a.ending)) [
+  | inr ended ↦ ended-delivery replies c a bytes ended
   | inl still ↦ by_admission still (admitting c bytes)
 ]
   where
     by_kept : is_open a.ending ≡ true → (post : Post) (header : Header) → admission_of_bytes c.roster c.round bytes ≡ Ok (header, post.content) → (header.sender == c.number) ≡ false
         → heard_of c bytes ≡ Some (record { header = header; post = post; content = content_read (shape_in c) post.content })
-        → (is_content post.content (kept_in a.log (slot_named header)) ≡ true) ⊎ (is_content post.content (kept_in a.log (slot_named header)) ≡ false) → heard_by replies c a bytes ≡ a
+        → (is_content post.content (kept_in a.log (slot_named header)) ≡ true) ⊎ (is_content post.content (kept_in a.log (slot_named header)) ≡ false) → actor_behind_delivery replies c a bytes ≡ a
     by_kept still post header admits other e (inl same) = by_post (kept_in a.log (slot_named header)) refl same
       where
-        by_post : (o : Option Post) → kept_in a.log (slot_named header) ≡ o → is_content post.content o ≡ true → heard_by replies c a bytes ≡ a
+        by_post : (o : Option Post) → kept_in a.log (slot_named header) ≡ o → is_content post.content o ≡ true → actor_behind_delivery replies c a bytes ≡ a
         by_post None there same = absurd cc
         by_post (Some kept) there same =
             let equal : kept.content ≡ post.content = (bytes_eq-Decides kept.content post.content).0 same in
-            same-step replies c a bytes (record { header = header; post = post; content = content_read (shape_in c) post.content }) kept still e
+            same-delivered replies c a bytes (record { header = header; post = post; content = content_read (shape_in c) post.content }) kept still e
             (sym (ap (λ (b : List ℕ). is_ok (content_read (shape_in c) b)) equal) ∙ keeps (slot_named header) kept there) there equal
-    by_kept still post header admits other e (inr new) = absurd (not-idle (heard_by replies c a bytes).ending (subst LeavesAll told leaves))
+    by_kept still post header admits other e (inr new) = absurd (not-idle (actor_behind_delivery replies c a bytes).ending (subst LeavesAll told leaves))
       where
         none : idle_answer c a.log (Ok (header, post.content)) ≡ None
         none = cond-false (header.sender == c.number) (Some Own) (if is_content post.content (kept_in a.log (slot_named header)) then Some Same else None) other ∙ cond-false (is_content post.content (kept_in a.log (slot_named header))) (Some Same) None new
 
-        told : answer_to replies c a bytes ≡ answer_by_end (heard_by replies c a bytes).ending
-        told = answer-open replies c a bytes still ∙ ap (λ (o : Option Taken). unwrap_or o (answer_by_end (heard_by replies c a bytes).ending)) (ap (idle_answer c a.log) admits ∙ none)
+        told : answer_to replies c a bytes ≡ answer_by_end (actor_behind_delivery replies c a bytes).ending
+        told = answer-open replies c a bytes still ∙ ap (λ (o : Option Taken). unwrap_or o (answer_by_end (actor_behind_delivery replies c a bytes).ending)) (ap (idle_answer c a.log) admits ∙ none)
 
-    by_admission : is_open a.ending ≡ true → Admitting c bytes → heard_by replies c a bytes ≡ a
-    by_admission still (Refuses refusal admits nothing) = nothing-step replies c a bytes still nothing
-    by_admission still (IsOwn said admits own nothing) = nothing-step replies c a bytes still nothing
+    by_admission : is_open a.ending ≡ true → Admitting c bytes → actor_behind_delivery replies c a bytes ≡ a
+    by_admission still (Refuses refusal admits nothing) = nothing-delivered replies c a bytes still nothing
+    by_admission still (IsOwn said admits own nothing) = nothing-delivered replies c a bytes still nothing
     by_admission still (Hears post header admits other e) = by_kept still post header admits other e (cases_Bool (is_content post.content (kept_in a.log (slot_named header))))
 
 -- ---- all deliveries
@@ -244,40 +244,40 @@ new-read c log bytes post header e sound = elim (cases_Bool (is_ok (content_read
       absurd (none-some fault.0 (sym sound ∙ fault-of c (kept_in log) bytes (Some heard) e ∙ fault.2 (kept_in log)))
 ]
 
-heard-read : (replies : Replies) (c : Configuration) (a : Actor) (bytes : List ℕ) → KeepsRead c a.log → KeepsRead c (heard_by replies c a bytes).log
-heard-read replies c a bytes keeps = elim (cases_Bool (is_open a.ending)) [
-  | inr ended ↦ subst (λ (x : Actor). KeepsRead c x.log) (sym (ended-step replies c a bytes ended)) keeps
+delivery-read : (replies : Replies) (c : Configuration) (a : Actor) (bytes : List ℕ) → KeepsRead c a.log → KeepsRead c (actor_behind_delivery replies c a bytes).log
+delivery-read replies c a bytes keeps = elim (cases_Bool (is_open a.ending)) [
+  | inr ended ↦ subst (λ (x : Actor). KeepsRead c x.log) (sym (ended-delivery replies c a bytes ended)) keeps
   | inl still ↦ by_fault still (fault_shown c (kept_in a.log) bytes) refl
 ]
   where
     by_full : (post : Post) (header : Header) → is_ok (content_read (shape_in c) post.content) ≡ true
         → (is_some (kept_in a.log (slot_named header)) ≡ true) ⊎ (is_some (kept_in a.log (slot_named header)) ≡ false)
-        → KeepsRead c (stored replies c a (Some (record { header = header; post = post; content = content_read (shape_in c) post.content }))).log
+        → KeepsRead c (actor_behind_heard replies c a (Some (record { header = header; post = post; content = content_read (shape_in c) post.content }))).log
     by_full post header reads (inl full) = subst (λ (x : Actor). KeepsRead c x.log) (sym (cond-true (is_some (kept_in a.log (slot_named header))) a _ full)) keeps
     by_full post header reads (inr empty) =
         let heard : Heard = record { header = header; post = post; content = content_read (shape_in c) post.content } in
-        subst (λ (x : Actor). KeepsRead c x.log) (sym (cond-false (is_some (kept_in a.log (slot_named header))) a (moved_on replies c (asked_again replies c (keeping a heard) a.mood)) empty))
-        (moved-read replies c (2 * stage_count (shape_in c)) (asked_again replies c (keeping a heard) a.mood)
-        (again-read replies c (keeping a heard) a.mood (filled-read c a.log (slot_named header) post reads keeps)))
+        subst (λ (x : Actor). KeepsRead c x.log) (sym (cond-false (is_some (kept_in a.log (slot_named header))) a (actor_behind_steps replies c (actor_behind_repeat replies c (actor_with_heard a heard) a.mood)) empty))
+        (steps-read replies c (2 * stage_count (shape_in c)) (actor_behind_repeat replies c (actor_with_heard a heard) a.mood)
+        (repeat-read replies c (actor_with_heard a heard) a.mood (filled-read c a.log (slot_named header) post reads keeps)))
 
-    by_heard : fault_shown c (kept_in a.log) bytes ≡ None → Admitting c bytes → KeepsRead c (stored replies c a (heard_of c bytes)).log
-    by_heard sound (Refuses refusal admits nothing) = subst (λ (o : Option Heard). KeepsRead c (stored replies c a o).log) (sym nothing) keeps
-    by_heard sound (IsOwn said admits own nothing) = subst (λ (o : Option Heard). KeepsRead c (stored replies c a o).log) (sym nothing) keeps
-    by_heard sound (Hears post header admits other e) = subst (λ (o : Option Heard). KeepsRead c (stored replies c a o).log) (sym e)
+    by_heard : fault_shown c (kept_in a.log) bytes ≡ None → Admitting c bytes → KeepsRead c (actor_behind_heard replies c a (heard_of c bytes)).log
+    by_heard sound (Refuses refusal admits nothing) = subst (λ (o : Option Heard). KeepsRead c (actor_behind_heard replies c a o).log) (sym nothing) keeps
+    by_heard sound (IsOwn said admits own nothing) = subst (λ (o : Option Heard). KeepsRead c (actor_behind_heard replies c a o).log) (sym nothing) keeps
+    by_heard sound (Hears post header admits other e) = subst (λ (o : Option Heard). KeepsRead c (actor_behind_heard replies c a o).log) (sym e)
         (by_full post header (new-read c a.log bytes post header e sound) (cases_Bool (is_some (kept_in a.log (slot_named header)))))
 
-    by_fault : is_open a.ending ≡ true → (o : Option Verdict) → fault_shown c (kept_in a.log) bytes ≡ o → KeepsRead c (heard_by replies c a bytes).log
-    by_fault still (Some verdict) e = subst (λ (x : Actor). KeepsRead c x.log) (sym (open-step replies c a bytes (Some verdict) still e)) keeps
-    by_fault still None e = subst (λ (x : Actor). KeepsRead c x.log) (sym (open-step replies c a bytes None still e)) (by_heard e (admitting c bytes))
+    by_fault : is_open a.ending ≡ true → (o : Option Verdict) → fault_shown c (kept_in a.log) bytes ≡ o → KeepsRead c (actor_behind_delivery replies c a bytes).log
+    by_fault still (Some verdict) e = subst (λ (x : Actor). KeepsRead c x.log) (sym (open-delivery replies c a bytes (Some verdict) still e)) keeps
+    by_fault still None e = subst (λ (x : Actor). KeepsRead c x.log) (sym (open-delivery replies c a bytes None still e)) (by_heard e (admitting c bytes))
 
-fold-read : (replies : Replies) (c : Configuration) (a : Actor) (delivered : List (List ℕ)) → KeepsRead c a.log → KeepsRead c (fold (heard_by replies c) a delivered).log
+fold-read : (replies : Replies) (c : Configuration) (a : Actor) (delivered : List (List ℕ)) → KeepsRead c a.log → KeepsRead c (fold (actor_behind_delivery replies c) a delivered).log
 fold-read replies c a [] keeps = keeps
-fold-read replies c a (bytes ∷ rest) keeps = fold-read replies c (heard_by replies c a bytes) rest (heard-read replies c a bytes keeps)
+fold-read replies c a (bytes ∷ rest) keeps = fold-read replies c (actor_behind_delivery replies c a bytes) rest (delivery-read replies c a bytes keeps)
 
 -- what a member keeps is of the grammar
 pub actor-read : (replies : Replies) (c : Configuration) (delivered : List (List ℕ)) → KeepsRead c (actor_after replies c delivered).log
 unfolding actor_after
-actor-read replies c delivered = fold-read replies c (actor_at_start replies c) delivered (moved-read replies c (2 * stage_count (shape_in c)) (first_actor c) (empty-read c))
+actor-read replies c delivered = fold-read replies c (actor_at_start replies c) delivered (steps-read replies c (2 * stage_count (shape_in c)) (first_actor c) (empty-read c))
 
 pub idle_leaves_all : IdleLeavesAll
-idle_leaves_all replies c delivered bytes leaves = idle-step replies c (actor_after replies c delivered) bytes (actor-read replies c delivered) leaves
+idle_leaves_all replies c delivered bytes leaves = idle-delivery replies c (actor_after replies c delivered) bytes (actor-read replies c delivered) leaves

@@ -4,7 +4,7 @@ pub mod Bounds
 pub mod Places
 pub mod Kept
 pub mod Moves
-pub mod Turns
+pub mod Steps
 pub mod Resting
 pub mod Hearing
 pub mod Agreeing

@@ -30,18 +30,18 @@ use Rattle.round_spec.specs.Honesty.{OthersCheck}
 use Rattle.round_spec.proofs.Given.{first_posts_delivered, first_posts_name}
 use Rattle.round_spec.proofs.Honesty.{run_after_is_honest, settled_run_is_honest}
 use Rattle.round_spec.proofs.Waiting.{open_rounds_wait}
-use Rattle.member_spec.specs.Actor.{Actor, actor_after, actor_at_start, first_actor, heard_by}
+use Rattle.member_spec.specs.Actor.{Actor, actor_after, actor_at_start, first_actor, actor_behind_delivery}
 use Rattle.member_spec.specs.Outcomes.{members_missing}
-use Rattle.member_spec.specs.Plain.{ComesTo, EndsOnce, HonestComesToResult, PlainEndsOnce, PlainPostsAreSaid, PlainRunIsHonest, SaysGrammar}
+use Rattle.member_spec.specs.Plain.{ComesTo, EndsOnce, HonestComesToResult, PlainEndsOnce, PlainPostsAreSaid, PlainRunIsHonest}
 use Rattle.member_spec.specs.Replies.{IsPlain, Replies}
 use Rattle.member_spec.proofs.Agreeing.{Agrees, delivery-keeps}
 use Rattle.member_spec.proofs.Ends.{own-ends}
 use Rattle.member_spec.proofs.Hearing.{closed-ending, none-open, open-ending}
 use Rattle.member_spec.proofs.Kept.{has_said, log_with, made_with, own_at, place_with}
 use Rattle.member_spec.proofs.Moves.{filter-in, filter-none}
-use Rattle.member_spec.proofs.Resting.{moved-rests, rests-log, rests-made, rests-stand}
+use Rattle.member_spec.proofs.Resting.{steps-rest, rests-log, rests-made, rests-stand}
 use Rattle.member_spec.proofs.Says.{says-grammar}
-use Rattle.member_spec.proofs.Turns.{Follows, Rests}
+use Rattle.member_spec.proofs.Steps.{Follows, Rests, SaysGrammar}
 
 -- what the member has to say is of the grammar, whatever byte strings were delivered
 abbrev pub AlwaysSaysGrammar : Configuration → Type 0
@@ -102,17 +102,17 @@ start-agrees replies c plain grammar = elim (cases_Bool (is_open (stand_after c 
 ]
   where
     rests : Rests c (first_posts c []) (actor_at_start replies c)
-    rests = moved-rests replies c (first_posts c []) false 0 (first_actor c) plain grammar (starts c)
+    rests = steps-rest replies c (first_posts c []) false 0 (first_actor c) plain grammar (starts c)
 
 -- ---- all deliveries
 
 agrees-on : (replies : Replies) (c : Configuration) (front rest : List (List ℕ)) (a : Actor) → IsPlain replies → AlwaysSaysGrammar c → All IsBytes front → All IsBytes rest → Agrees c front a
-    → Agrees c (front ++ rest) (fold (heard_by replies c) a rest)
+    → Agrees c (front ++ rest) (fold (actor_behind_delivery replies c) a rest)
 agrees-on replies c front [] a plain grammar before later is = subst (λ (d : List (List ℕ)). Agrees c d a) (sym (append-nil front)) is
 agrees-on replies c front (bytes ∷ rest) a plain grammar before later is =
     let more : All IsBytes (with_last front bytes) = All-append IsBytes front (bytes ∷ []) before (first-all bytes rest later) in
-    subst (λ (d : List (List ℕ)). Agrees c d (fold (heard_by replies c) (heard_by replies c a bytes) rest)) (append_assoc front (bytes ∷ []) rest)
-    (agrees-on replies c (with_last front bytes) rest (heard_by replies c a bytes) plain grammar more (rest-all bytes rest later)
+    subst (λ (d : List (List ℕ)). Agrees c d (fold (actor_behind_delivery replies c) (actor_behind_delivery replies c a bytes) rest)) (append_assoc front (bytes ∷ []) rest)
+    (agrees-on replies c (with_last front bytes) rest (actor_behind_delivery replies c a bytes) plain grammar more (rest-all bytes rest later)
     (delivery-keeps replies c front bytes a plain (head-all bytes rest later) (grammar (with_last front bytes) more) is))
   where
     head-all : (x : List ℕ) (xs : List (List ℕ)) → All IsBytes (x ∷ xs) → IsBytes x

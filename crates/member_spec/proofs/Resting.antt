@@ -1,4 +1,4 @@
--- Where the turns of a plain member end: at the course of all that was said to it.
+-- Where the steps of a plain member end: at the course of all that was said to it.
 use Rattle.std.proofs.Common.{◌≡◌, ◌⊎◌, ℕ, zero, suc, ◌+◌, ◌-◌, ◌*◌, ◌≤◌, Bool, true, false, Option, None, ap, sym, ◌∙◌, refl, subst, arith, inl, inr}
 use Rattle.std.specs.Prelude.{option_and_then}
 use Rattle.std.specs.Fn.{iterate}
@@ -10,29 +10,28 @@ use Rattle.phase_message.proofs.SlotLists.{stage-past}
 use Rattle.round_spec.specs.Say.{Configuration, shape_in}
 use Rattle.round_spec.specs.Course.{Others, Stand, course_from, course_of, first_stand, is_open, own_posts, post_settled, posts_of_kind, settled_log, stage_filled}
 use Rattle.round_spec.proofs.Courses.{course-adds, course-stays, next-ended}
-use Rattle.member_spec.specs.Actor.{Actor, moved_on, turned}
-use Rattle.member_spec.specs.Plain.{SaysGrammar}
+use Rattle.member_spec.specs.Actor.{Actor, actor_behind_steps, actor_behind_step}
 use Rattle.member_spec.specs.Replies.{IsPlain, Replies}
 use Rattle.member_spec.proofs.Kept.{log-same, log_with, made-same, made_with}
-use Rattle.member_spec.proofs.Turns.{Follows, Rests, bit, follows-reached, no-next-of, turn-leads}
+use Rattle.member_spec.proofs.Steps.{Follows, Rests, SaysGrammar, bit, follows-reached, no-next-of, step-leads}
 
--- ---- all turns
+-- ---- all steps
 
 pub stays-still : (f : Actor → Actor) (n : ℕ) (a : Actor) → f a ≡ a → iterate f n a ≡ a
 stays-still f zero a e = refl
 stays-still f (suc n) a e = ap (iterate f n) e ∙ stays-still f n a e
 
--- after so many turns it rests, or has come so far
+-- after so many steps it rests, or has come so far
 Moved : Replies → Configuration → Others → ℕ → Actor → Type 0
 Moved replies c others far a = Rests c others a ⊎ ((now : Bool) × (stages : ℕ) × Follows c others now stages a × (far ≤ 2 * stages + bit now))
 
 moved : (replies : Replies) (c : Configuration) (others : Others) (n : ℕ) (now : Bool) (stages : ℕ) (a : Actor) → IsPlain replies → SaysGrammar c others → Follows c others now stages a
-    → Moved replies c others (2 * stages + bit now + n) (iterate (turned replies c) n a)
+    → Moved replies c others (2 * stages + bit now + n) (iterate (actor_behind_step replies c) n a)
 unfolding Moved
 moved replies c others zero now stages a plain grammar f = inr (now, stages, f, omega arith)
-moved replies c others (suc n) now stages a plain grammar f = elim (turn-leads replies c others now stages a plain grammar f) [
-  | inl still ↦ inl (subst (Rests c others) (sym (ap (iterate (turned replies c) n) still.stays ∙ stays-still (turned replies c) n a still.stays)) still.rests)
-  | inr on ↦ elim (moved replies c others n on.now on.stages (turned replies c a) plain grammar on.follows) [
+moved replies c others (suc n) now stages a plain grammar f = elim (step-leads replies c others now stages a plain grammar f) [
+  | inl still ↦ inl (subst (Rests c others) (sym (ap (iterate (actor_behind_step replies c) n) still.stays ∙ stays-still (actor_behind_step replies c) n a still.stays)) still.rests)
+  | inr on ↦ elim (moved replies c others n on.now on.stages (actor_behind_step replies c a) plain grammar on.follows) [
     | inl rests ↦ inl rests
     | inr far ↦ (let further = on.further in let least = far.3 in inr (far.0, far.1, far.2, omega arith))
   ]
@@ -55,10 +54,10 @@ past-rests c others now stages a f le = record {
     none : kind_of_stage (shape_in c) a.stand.at ≡ None
     none = stage-past (shape_in c) a.stand.at (let at = f.at in omega arith)
 
--- all turns that there can be end at rest
-pub moved-rests : (replies : Replies) (c : Configuration) (others : Others) (now : Bool) (stages : ℕ) (a : Actor) → IsPlain replies → SaysGrammar c others → Follows c others now stages a → Rests c others (moved_on replies c a)
+-- all steps that there can be end at rest
+pub steps-rest : (replies : Replies) (c : Configuration) (others : Others) (now : Bool) (stages : ℕ) (a : Actor) → IsPlain replies → SaysGrammar c others → Follows c others now stages a → Rests c others (actor_behind_steps replies c a)
 unfolding Moved
-moved-rests replies c others now stages a plain grammar f = elim (moved replies c others (2 * stage_count (shape_in c)) now stages a plain grammar f) [
+steps-rest replies c others now stages a plain grammar f = elim (moved replies c others (2 * stage_count (shape_in c)) now stages a plain grammar f) [
   | inl rests ↦ rests
   | inr far ↦ (let least = far.3 in past-rests c others far.0 far.1 _ far.2 (enough far.0 far.1 least))
 ]

@@ -23,7 +23,7 @@ use Rattle.round_spec.proofs.Reached.{behind-at, next-parts, open-goes, stands_a
 use Rattle.round_spec.proofs.Rows.{checks-parts}
 use Rattle.round_spec.proofs.Settling.{before-settled, reached-end}
 use Rattle.round_spec.proofs.Stopping.{course_stops}
-use Rattle.member_spec.specs.Plain.{SaysGrammar}
+use Rattle.member_spec.proofs.Steps.{SaysGrammar}
 
 -- ---- a course goes on from its stands
 

@@ -41,8 +41,8 @@ abbrev pub descriptor_made : Replies → Configuration → List Post → List �
 descriptor_made replies c past = descriptor_text (replies.descriptor (own_description c (contents_of past)))
 
 -- the content that the rules give it to say where it stands, with that descriptor
-unfoldable pub content_due : Replies → Configuration → Stand → List ℕ
-content_due replies c stand =
+unfoldable pub content_to_say : Replies → Configuration → Stand → List ℕ
+content_to_say replies c stand =
     content_text (content_with c (descriptor_made replies c stand.past) stand.past stand.at)
 
 -- what its conduct answers about bytes where it stands; the conduct is asked about the descriptor behind the first stage
@@ -52,8 +52,8 @@ speech_about replies c a bytes =
     else replies.speech_after (own_description c (contents_of a.stand.past)) a.stand.at bytes a.log
 
 -- behind a post of a content it has spoken and keeps the post, if the content is of the grammar; else it is mute
-abbrev pub with_post : Configuration → Actor → Post → Actor
-with_post c a post =
+abbrev pub actor_behind_post : Configuration → Actor → Post → Actor
+actor_behind_post c a post =
     if is_ok (content_read (shape_in c) post.content)
     then record a {
       log = filled a.log (record { stage = a.stand.at; sender = c.number }) post;
@@ -63,82 +63,79 @@ with_post c a post =
     else record a { mood = Mute; made = a.made ++ post ∷ [] }
 
 -- behind an answer of its conduct: it posts what is said, signed with its next leaf; it puts off; or it is mute
-abbrev pub answered : Configuration → Actor → Speech → Actor
-answered c a (Say bytes) = with_post c a (signed_at c a.stand.at bytes)
-answered c a (Wait bytes) = record a { mood = PutOff bytes }
-answered c a Silent = record a { mood = Mute }
+abbrev pub actor_behind_answer : Configuration → Actor → Speech → Actor
+actor_behind_answer c a (Say bytes) = actor_behind_post c a (signed_at c a.stand.at bytes)
+actor_behind_answer c a (Wait bytes) = record a { mood = PutOff bytes }
+actor_behind_answer c a Silent = record a { mood = Mute }
 
 -- behind the question about these bytes
-abbrev pub asked : Replies → Configuration → Actor → List ℕ → Actor
-asked replies c a bytes = answered c a (speech_about replies c a bytes)
+abbrev pub actor_behind_question : Replies → Configuration → Actor → List ℕ → Actor
+actor_behind_question replies c a bytes = actor_behind_answer c a (speech_about replies c a bytes)
 
--- ---- one turn
+-- ---- one step
 
 -- whether it is to be asked: it is a sender of the stage that is being filled, and was not asked there yet
 abbrev pub is_due : Configuration → Stand → Mood → Bool
 is_due c stand Unasked = is_slot (shape_in c) stand.at c.number
 is_due c stand mood = false
 
--- a mute member stays mute; any other was not asked yet at the next stage
-abbrev pub mood_behind : Mood → Mood
-mood_behind Mute = Mute
-mood_behind mood = Unasked
-
 -- the posts of the stage that is being filled, if it is one of the round and all are there
 abbrev pub stage_posts : Configuration → Actor → Option (List Post)
 stage_posts c a = if nat_lt a.stand.at (stage_count (shape_in c)) then all_some (posts_in a.log a.stand.at) else None
 
--- behind a stage that is complete: it is judged, and a verdict that ends the round ends it
-abbrev pub passed : Configuration → Actor → Stand → Actor
-passed c a stand = record a { stand = stand; mood = mood_behind a.mood; ending = stand.verdict }
+-- behind a stage that is complete: it is judged, a verdict that ends the round ends it, and at the next stage the member
+-- was not asked yet
+abbrev pub actor_behind_stage : Configuration → Actor → Stand → Actor
+actor_behind_stage c a stand = record a { stand = stand; mood = Unasked; ending = stand.verdict }
 
--- a complete stage is passed; where it is not complete, the member speaks if it is to be asked
-abbrev pub turned_with : Replies → Configuration → Actor → Option (List Post) → Actor
-turned_with replies c a (Some posts) = passed c a (stand_behind c a.stand posts)
-turned_with replies c a None = if is_due c a.stand a.mood then asked replies c a (content_due replies c a.stand) else a
+-- behind a step with these posts of the stage: a complete stage is passed; where it is not complete, the member speaks if
+-- it is to be asked
+abbrev pub actor_behind_step_with : Replies → Configuration → Actor → Option (List Post) → Actor
+actor_behind_step_with replies c a (Some posts) = actor_behind_stage c a (stand_behind c a.stand posts)
+actor_behind_step_with replies c a None = if is_due c a.stand a.mood then actor_behind_question replies c a (content_to_say replies c a.stand) else a
 
--- one turn, as long as the round is open
-unfoldable pub turned : Replies → Configuration → Actor → Actor
-turned replies c a = if is_open a.ending then turned_with replies c a (stage_posts c a) else a
+-- behind one step, as long as the round is open
+unfoldable pub actor_behind_step : Replies → Configuration → Actor → Actor
+actor_behind_step replies c a = if is_open a.ending then actor_behind_step_with replies c a (stage_posts c a) else a
 
--- all turns that there can be: each passes a stage or speaks at one
-abbrev pub moved_on : Replies → Configuration → Actor → Actor
-moved_on replies c a = iterate (turned replies c) (2 * stage_count (shape_in c)) a
+-- behind all steps that there can be: each passes a stage or speaks at one
+abbrev pub actor_behind_steps : Replies → Configuration → Actor → Actor
+actor_behind_steps replies c a = iterate (actor_behind_step replies c) (2 * stage_count (shape_in c)) a
 
 -- ---- one delivery
 
--- what was put off is asked about once more
-abbrev pub asked_again : Replies → Configuration → Actor → Mood → Actor
-asked_again replies c a (PutOff bytes) = asked replies c a bytes
-asked_again replies c a mood = a
+-- behind a repeated question, which is about what was put off
+abbrev pub actor_behind_repeat : Replies → Configuration → Actor → Mood → Actor
+actor_behind_repeat replies c a (PutOff bytes) = actor_behind_question replies c a bytes
+actor_behind_repeat replies c a mood = a
 
--- the post of another member is kept in its slot
-abbrev pub keeping : Actor → Heard → Actor
-keeping a heard = record a { log = filled a.log (slot_named heard.header) heard.post }
+-- with a post that is heard of another member, kept in its slot
+abbrev pub actor_with_heard : Actor → Heard → Actor
+actor_with_heard a heard = record a { log = filled a.log (slot_named heard.header) heard.post }
 
--- a post that is heard is stored, unless its slot has one
-abbrev pub stored : Replies → Configuration → Actor → Option Heard → Actor
-stored replies c a None = a
-stored replies c a (Some heard) =
+-- behind what is heard: the post is stored, unless its slot has one
+abbrev pub actor_behind_heard : Replies → Configuration → Actor → Option Heard → Actor
+actor_behind_heard replies c a None = a
+actor_behind_heard replies c a (Some heard) =
     if is_some (kept_in a.log (slot_named heard.header)) then a
-    else moved_on replies c (asked_again replies c (keeping a heard) a.mood)
+    else actor_behind_steps replies c (actor_behind_repeat replies c (actor_with_heard a heard) a.mood)
 
--- a fault that a string shows against its sender ends the round
-abbrev pub unless_faulty : Replies → Configuration → Actor → List ℕ → Option Verdict → Actor
-unless_faulty replies c a bytes (Some conviction) = record a { ending = conviction }
-unless_faulty replies c a bytes None = stored replies c a (heard_of c bytes)
+-- behind a string and the fault that it shows against its sender, which ends the round
+abbrev pub actor_behind_fault : Replies → Configuration → Actor → List ℕ → Option Verdict → Actor
+actor_behind_fault replies c a bytes (Some conviction) = record a { ending = conviction }
+actor_behind_fault replies c a bytes None = actor_behind_heard replies c a (heard_of c bytes)
 
--- one delivery: nothing happens where the round has ended
-unfoldable pub heard_by : Replies → Configuration → Actor → List ℕ → Actor
-heard_by replies c a bytes =
-    if is_open a.ending then unless_faulty replies c a bytes (fault_shown c (kept_in a.log) bytes) else a
+-- behind one delivery: nothing happens where the round has ended
+unfoldable pub actor_behind_delivery : Replies → Configuration → Actor → List ℕ → Actor
+actor_behind_delivery replies c a bytes =
+    if is_open a.ending then actor_behind_fault replies c a bytes (fault_shown c (kept_in a.log) bytes) else a
 
 -- ---- a round
 
 -- a member that enters a round speaks as far as it can
 abbrev pub actor_at_start : Replies → Configuration → Actor
-actor_at_start replies c = moved_on replies c (first_actor c)
+actor_at_start replies c = actor_behind_steps replies c (first_actor c)
 
 -- a member after deliveries, each taken behind the one before
 unfoldable pub actor_after : Replies → Configuration → List (List ℕ) → Actor
-actor_after replies c delivered = fold (heard_by replies c) (actor_at_start replies c) delivered
+actor_after replies c delivered = fold (actor_behind_delivery replies c) (actor_at_start replies c) delivered

@@ -1,6 +1,6 @@
 -- What a member of a plain conduct comes to: the result of its deliveries and the posts that they ask for, by a run that
--- is honest, with at most one end of each shuffle and within the room of a round.
-use Rattle.std.specs.Prelude.{◌≡◌, ℕ, ◌≤◌, List, All, Contains, IsTrue, is_ok, length, Bool, false, ◌==◌, Some, Ok, Err, Result, count_by}
+-- is honest, with at most one end of each shuffle.
+use Rattle.std.specs.Prelude.{◌≡◌, ℕ, ◌≤◌, List, All, Contains, Bool, false, ◌==◌, Some, Ok, Err, Result, count_by}
 use Rattle.wire_core.specs.Bytes.{IsBytes}
 use Rattle.wire_core.specs.declared.cursor.Short.{Short}
 use Rattle.phase_message.specs.declared.content.Body.{Body}
@@ -8,25 +8,18 @@ use Rattle.phase_message.specs.declared.content.Body.TheVariants.{Dispute, Revea
 use Rattle.phase_message.specs.declared.content.Content.{Content}
 use Rattle.phase_message.specs.declared.header.Header.{Header}
 use Rattle.phase_message.specs.declared.post.Post.{Post}
-use Rattle.phase_message.specs.declared.stage.Slot.{Slot}
-use Rattle.phase_message.specs.declared.stage.StageKind.{StageKind}
 use Rattle.phase_message.specs.declared.stage.StageKind.TheVariants.{Final}
 use Rattle.phase_message.specs.Header.{header_of}
 use Rattle.phase_message.specs.Offence.{content_read}
-use Rattle.phase_message.specs.Post.{post_spelling}
-use Rattle.phase_message.specs.Stages.{is_slot, kind_of_stage}
-use Rattle.stage_log.specs.Table.{kept_in}
+use Rattle.phase_message.specs.Stages.{kind_of_stage}
 use Rattle.shuffle_blame.specs.Replay.{outer_place}
 use Rattle.round_spec.specs.Slots.{final_stage, inner_place}
-use Rattle.round_spec.specs.Say.{Configuration, own_content, own_key_seed, own_opening, shape_in}
-use Rattle.round_spec.specs.Course.{Others, course_from, first_stand, is_open}
+use Rattle.round_spec.specs.Say.{Configuration, own_key_seed, own_opening, shape_in}
 use Rattle.round_spec.specs.Result.{log_after, posts_of, result_of}
 use Rattle.round_spec.specs.Runs.{HonestRun, IsConfiguration, posts_said}
 use Rattle.member_spec.specs.Actor.{Actor, actor_after}
-use Rattle.member_spec.specs.Entering.{CanEnter}
 use Rattle.member_spec.specs.Outcomes.{outcome_of}
 use Rattle.member_spec.specs.Replies.{IsPlain, Replies}
-use Rattle.member_spec.specs.Sizes.{bytes_kept, greatest_log, greatest_post}
 
 -- ---- the result
 
@@ -40,17 +33,6 @@ pub record ComesTo (c : Configuration) (delivered : List (List ℕ)) (a : Actor)
 abbrev pub HonestComesToResult : Type 0
 HonestComesToResult = (replies : Replies) (c : Configuration) (delivered : List (List ℕ)) → IsPlain replies → IsConfiguration c →
     All IsBytes delivered → ComesTo c delivered (actor_after replies c delivered)
-
--- and with every plain conduct, whether the key is the roster's or not
-abbrev pub PlainComesToResult : Type 0
-PlainComesToResult = (replies : Replies) (c : Configuration) (delivered : List (List ℕ)) → IsPlain replies → CanEnter c →
-    All IsBytes delivered → ComesTo c delivered (actor_after replies c delivered)
-
--- what the member has to say wherever the course with these posts of others comes to is of the grammar
-abbrev pub SaysGrammar : Configuration → Others → Type 0
-SaysGrammar c others = (stages : ℕ) → let stand = course_from c others stages first_stand in
-    IsTrue (is_open stand.verdict) → IsTrue (is_slot (shape_in c) stand.at c.number) →
-    IsTrue (is_ok (content_read (shape_in c) (own_content c stand.past stand.at)))
 
 -- its run is honest, where the leaf run's key is the roster's
 abbrev pub PlainRunIsHonest : Type 0
@@ -89,16 +71,3 @@ pub record EndsOnce (c : Configuration) (made : List Post) (shuffle : ℕ) : Typ
 abbrev pub PlainEndsOnce : Type 0
 PlainEndsOnce = (replies : Replies) (c : Configuration) (delivered : List (List ℕ)) (shuffle : ℕ) → IsPlain replies →
     IsConfiguration c → All IsBytes delivered → EndsOnce c (actor_after replies c delivered).made shuffle
-
--- ---- room
-
--- what is kept has at most the bytes of the greatest post in each slot, and of all of these in the log
-pub record KeepsAtMost (c : Configuration) (a : Actor) : Type 0 where
-  pub each : (slot : Slot) (post : Post) (kind : StageKind) → kept_in a.log slot ≡ Some post →
-      kind_of_stage (shape_in c) slot.stage ≡ Some kind → length (post_spelling post) ≤ greatest_post (shape_in c) kind
-  pub all : bytes_kept a.log ≤ greatest_log (shape_in c)
-
--- so it is with every plain conduct
-abbrev pub PlainKeepsAtMost : Type 0
-PlainKeepsAtMost = (replies : Replies) (c : Configuration) (delivered : List (List ℕ)) → IsPlain replies → IsConfiguration c →
-    All IsBytes delivered → KeepsAtMost c (actor_after replies c delivered)

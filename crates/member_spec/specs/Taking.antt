@@ -11,7 +11,7 @@ use Rattle.round_spec.specs.Verdict.{Verdict, Goes, Done, Convicts}
 use Rattle.round_spec.specs.Course.{is_open}
 use Rattle.member_spec.specs.declared.taken.Taken.{Taken}
 use Rattle.member_spec.specs.declared.taken.Taken.TheVariants.{Stored, Same, Own, Ignored, Evidence, Finished}
-use Rattle.member_spec.specs.Actor.{Actor, actor_after, heard_by}
+use Rattle.member_spec.specs.Actor.{Actor, actor_after, actor_behind_delivery}
 use Rattle.member_spec.specs.Replies.{Replies}
 
 -- it says whose post it already has: its own, or one whose slot holds this content
@@ -39,7 +39,7 @@ unfoldable pub answer_to : Replies → Configuration → Actor → List ℕ → 
 answer_to replies c a bytes =
     if is_open a.ending
     then unwrap_or (idle_answer c a.log (admission_of_bytes c.roster c.round bytes))
-    (answer_by_end (heard_by replies c a bytes).ending)
+    (answer_by_end (actor_behind_delivery replies c a bytes).ending)
     else Finished
 
 -- an answer that tells that the delivery changed nothing
@@ -53,4 +53,4 @@ LeavesAll _ = ⊥
 -- such a delivery leaves the member as it was
 abbrev pub IdleLeavesAll : Type 0
 IdleLeavesAll = (replies : Replies) (c : Configuration) (delivered : List (List ℕ)) (bytes : List ℕ) →
-    let a = actor_after replies c delivered in LeavesAll (answer_to replies c a bytes) → heard_by replies c a bytes ≡ a
+    let a = actor_after replies c delivered in LeavesAll (answer_to replies c a bytes) → actor_behind_delivery replies c a bytes ≡ a
