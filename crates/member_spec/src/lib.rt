@@ -9,7 +9,12 @@ mod state;
 mod taken;
 
 pub use conduct::{Conduct, Honest, Speech};
-pub use laws::{eight_keep_at_most, idle_deliveries, order_changes_nothing, plain_members, posts_only_grow};
+pub use laws::{
+    eight_keep_at_most, idle_deliveries, order_changes_nothing, plain_members, posts_only_grow,
+};
 pub use mood::Mood;
 pub use state::State;
 pub use taken::Taken;
+
+#[cfg(test)]
+mod tests;
