@@ -11,6 +11,7 @@ pub mod Agreeing
 pub mod Idle
 pub mod Growing
 pub mod Bits
+pub mod Standing
 pub mod Ends
 pub mod Says
 pub mod PlainLaws

@@ -90,18 +90,18 @@ question-says replies c a plain reads =
 
 -- ---- one step
 
-ended-step : (replies : Replies) (c : Configuration) (a : Actor) → is_open a.ending ≡ false → actor_behind_step replies c a ≡ a
+pub ended-step : (replies : Replies) (c : Configuration) (a : Actor) → is_open a.ending ≡ false → actor_behind_step replies c a ≡ a
 unfolding actor_behind_step
 ended-step replies c a ended = cond-false (is_open a.ending) (actor_behind_step_with replies c a (stage_posts c a)) a ended
 
-open-step : (replies : Replies) (c : Configuration) (a : Actor) (o : Option (List Post)) → is_open a.ending ≡ true → stage_posts c a ≡ o → actor_behind_step replies c a ≡ actor_behind_step_with replies c a o
+pub open-step : (replies : Replies) (c : Configuration) (a : Actor) (o : Option (List Post)) → is_open a.ending ≡ true → stage_posts c a ≡ o → actor_behind_step replies c a ≡ actor_behind_step_with replies c a o
 unfolding actor_behind_step
 open-step replies c a o still e = cond-true (is_open a.ending) (actor_behind_step_with replies c a (stage_posts c a)) a still ∙ ap (actor_behind_step_with replies c a) e
 
-posts-within : (c : Configuration) (a : Actor) → a.stand.at < stage_count (shape_in c) → stage_posts c a ≡ all_some (posts_in a.log a.stand.at)
+pub posts-within : (c : Configuration) (a : Actor) → a.stand.at < stage_count (shape_in c) → stage_posts c a ≡ all_some (posts_in a.log a.stand.at)
 posts-within c a lt = cond-true (nat_lt a.stand.at (stage_count (shape_in c))) (all_some (posts_in a.log a.stand.at)) None (lt-ltb a.stand.at (stage_count (shape_in c)) lt)
 
-posts-past : (c : Configuration) (a : Actor) → stage_count (shape_in c) ≤ a.stand.at → stage_posts c a ≡ None
+pub posts-past : (c : Configuration) (a : Actor) → stage_count (shape_in c) ≤ a.stand.at → stage_posts c a ≡ None
 posts-past c a le = cond-false (nat_lt a.stand.at (stage_count (shape_in c))) (all_some (posts_in a.log a.stand.at)) None
     (false_from_ne_true (nat_lt a.stand.at (stage_count (shape_in c))) (λ e. (let lt = ltb-true a.stand.at (stage_count (shape_in c)) e in omega arith)))
 

@@ -3,6 +3,7 @@ pub mod Actor
 pub mod Outcomes
 pub mod Taking
 pub mod Growing
+pub mod Standing
 pub mod Sizes
 pub mod Entering
 pub mod Plain
