@@ -1,0 +1,17 @@
+pub mod Named
+pub mod Orders
+pub mod Bounds
+pub mod Places
+pub mod Kept
+pub mod Moves
+pub mod Steps
+pub mod Resting
+pub mod Hearing
+pub mod Agreeing
+pub mod Idle
+pub mod Growing
+pub mod Bits
+pub mod Standing
+pub mod Ends
+pub mod Says
+pub mod PlainLaws

@@ -1,0 +1,10 @@
+pub mod Replies
+pub mod Actor
+pub mod Outcomes
+pub mod Taking
+pub mod Growing
+pub mod Standing
+pub mod Sizes
+pub mod Entering
+pub mod Plain
+pub mod Order
