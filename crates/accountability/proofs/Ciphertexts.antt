@@ -278,15 +278,17 @@ opens-at c posts shuffle run shape_is has there_is =
     length-map-range_with_len (λ m. seed_in (said_in (shape_in c) (contents_of posts) (final_stage (shape_in c) shuffle) m)) 1 (shape_in c).members
     ∙ sym (ap (λ (s : Shape). s.members) shape_is) ∙ sym layers.0 in
     let opened = ap (opened_item (seeds_revealed (shape_in c) (contents_of posts) shuffle)) (inner-wrapped c posts shuffle run shape_is has)
-    ∙ item-opened (seeds_revealed (shape_in c) (contents_of posts) shuffle) (own_layer_seeds run.config shuffle 1) (item_kept posts run shuffle) many layers.1 in
-    (at.0, record {
-      list = there_is.list;
-      said = there_is.said;
-      stands = at.1;
-      opens = ap (λ (items : List (Option (List ℕ))). slice_get items at.0) (items-are (shape_in c) (contents_of posts) shuffle there_is.list there_is.said)
-          ∙ slice_get-map (opened_item (seeds_revealed (shape_in c) (contents_of posts) shuffle)) there_is.list at.0
-          ∙ ap (option_map (opened_item (seeds_revealed (shape_in c) (contents_of posts) shuffle))) at.1 ∙ ap (λ (o : Option (List ℕ)). Some o) opened;
-    })
+    ∙ item-opened (seeds_revealed (shape_in c) (contents_of posts) shuffle) (own_layer_seeds run.config shuffle 1) (item_kept posts run shuffle) many layers.1 in (
+      at.0,
+      record {
+        list = there_is.list;
+        said = there_is.said;
+        stands = at.1;
+        opens = ap (λ (items : List (Option (List ℕ))). slice_get items at.0) (items-are (shape_in c) (contents_of posts) shuffle there_is.list there_is.said)
+            ∙ slice_get-map (opened_item (seeds_revealed (shape_in c) (contents_of posts) shuffle)) there_is.list at.0
+            ∙ ap (option_map (opened_item (seeds_revealed (shape_in c) (contents_of posts) shuffle))) at.1 ∙ ap (λ (o : Option (List ℕ)). Some o) opened;
+      },
+    )
 
 -- ---- each run's place
 

@@ -73,10 +73,10 @@ unfolding log_after
 blame-of c delivered t e = elim (outcome-cases c delivered) [
   | inl open_end ↦ absurd (waits-not (first_posts c delivered) (stand_after c delivered) (sym e ∙ open_end.outcome_is))
   | inr ended ↦ record {
-      count = ended.count;
-      ends = ended.ends ∙ ap (λ (v : Verdict). Some v) (convicted (stand_after c (take ended.count delivered)) ended.verdict (sym e ∙ ended.outcome_is));
-      run_is = ap (λ (o : Option (ℕ × Verdict)). record { config = c; log = settled_log c (first_posts c (counted_part delivered o)) }) ended.least;
-    }
+    count = ended.count;
+    ends = ended.ends ∙ ap (λ (v : Verdict). Some v) (convicted (stand_after c (take ended.count delivered)) ended.verdict (sym e ∙ ended.outcome_is));
+    run_is = ap (λ (o : Option (ℕ × Verdict)). record { config = c; log = settled_log c (first_posts c (counted_part delivered o)) }) ended.least;
+  }
 ]
   where
     waits-not : (others : Others) (stand : Stand) → Blamed t ≡ waiting_outcome c others stand → ⊥

@@ -653,9 +653,12 @@ run-message c delivered runs stage posts run e work =
     found.1.opens ∙ ap (λ (item : List ℕ). Some (Some item)) (item-first run.config (own_descriptor run.config (contents_of posts)) (contents_of posts)) in
     let fit = own-slot-fits c delivered runs stage found.0 posts run e work opens in
     let within = slice_get_within (items_opened (shape_in c) (contents_of posts) 1) found.0 _ opens in
-    let few : found.0 < (shape_in c).members = omega (arith, within, items-count c delivered stage posts e.end.kept e.late) in
-    (found.0, found.1, slot-there c runs found.0 posts run e.end.among.honest e.listed opens
-    ∙ ap (λ (s : SlotState). Some s) (fit-message c delivered runs stage found.0 posts run e few fit))
+    let few : found.0 < (shape_in c).members = omega (arith, within, items-count c delivered stage posts e.end.kept e.late) in (
+      found.0,
+      found.1,
+      slot-there c runs found.0 posts run e.end.among.honest e.listed opens
+          ∙ ap (λ (s : SlotState). Some s) (fit-message c delivered runs stage found.0 posts run e few fit),
+    )
 
 -- the end of a done round
 pub record IsDoneEnd (c : Configuration) (delivered : List (List ℕ)) (slots : List SlotState) : Type 0 where

@@ -306,14 +306,18 @@ embedded-traced c delivered stage member posts content pair all end is reads lis
         ∙ sym (settled-kept c (first_posts c delivered) (record { stage = stage; sender = member }) speaks_there) ∙ kept in
         let found = first_posts_delivered c delivered (record { stage = stage; sender = member }) k.post all first in
         let stage_is : content.header.stage ≡ stage = ap (λ (x : Content). x.header.stage) (sym content_is) ∙ content-stage run posts stage member k in
-        Given (inr (found.bytes, found.listed, record {
-          post = k.post;
-          content = content;
-          spelled = found.spelled;
-          reads = content-reads run posts stage member k ∙ ap (λ (x : Content). Ok x) content_is;
-          closing = ap (is_closing (shape_in c)) stage_is ∙ end.closing;
-          embedded = zip-second (slots_embedded (shape_in c) content) (posts_embedded content.body) pair listed;
-        }))
+        Given (inr (
+          found.bytes,
+          found.listed,
+          record {
+            post = k.post;
+            content = content;
+            spelled = found.spelled;
+            reads = content-reads run posts stage member k ∙ ap (λ (x : Content). Ok x) content_is;
+            closing = ap (is_closing (shape_in c)) stage_is ∙ end.closing;
+            embedded = zip-second (slots_embedded (shape_in c) content) (posts_embedded content.body) pair listed;
+          },
+        ))
 
 -- what is traced in some of the deliveries is in all
 pub widened : (run : Run) (part delivered : List (List ℕ)) → ((bytes : List ℕ) → Contains part bytes → Contains delivered bytes) → (bytes : List ℕ)
