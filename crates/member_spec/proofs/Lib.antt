@@ -15,3 +15,4 @@ pub mod Standing
 pub mod Ends
 pub mod Says
 pub mod PlainLaws
+pub mod Room

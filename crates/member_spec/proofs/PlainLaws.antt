@@ -188,7 +188,7 @@ agrees-comes c delivered a small least are (inr is) = record {
 All-take : (k : ℕ) (xs : List (List ℕ)) → All IsBytes xs → All IsBytes (take k xs)
 All-take k xs all i d lt = (let long = length-take k xs in subst IsBytes (sym (get_or-take k xs i d (omega (arith, long)))) (all i d (omega (arith, long))))
 
-members-least : (c : Configuration) → IsConfiguration c → 1 ≤ (shape_in c).members
+pub members-least : (c : Configuration) → IsConfiguration c → 1 ≤ (shape_in c).members
 members-least c is = (let least = is.roster.least in omega arith)
 
 part-bytes : (delivered : List (List ℕ)) (o : Option (ℕ × Verdict)) → All IsBytes delivered → All IsBytes (counted_part delivered o)

@@ -1,6 +1,6 @@
 -- What a member of a plain conduct comes to: the result of its deliveries and the posts that they ask for, by a run that
--- is honest, with at most one end of each shuffle.
-use Rattle.std.specs.Prelude.{◌≡◌, ℕ, ◌≤◌, List, All, Contains, Bool, false, ◌==◌, Some, Ok, Err, Result, count_by}
+-- is honest, with at most one end of each shuffle and within the room of a round.
+use Rattle.std.specs.Prelude.{◌≡◌, ℕ, ◌≤◌, List, length, All, Contains, Bool, false, ◌==◌, Some, Ok, Err, Result, count_by}
 use Rattle.wire_core.specs.Bytes.{IsBytes}
 use Rattle.wire_core.specs.declared.cursor.Short.{Short}
 use Rattle.phase_message.specs.declared.content.Body.{Body}
@@ -8,10 +8,14 @@ use Rattle.phase_message.specs.declared.content.Body.TheVariants.{Dispute, Revea
 use Rattle.phase_message.specs.declared.content.Content.{Content}
 use Rattle.phase_message.specs.declared.header.Header.{Header}
 use Rattle.phase_message.specs.declared.post.Post.{Post}
+use Rattle.phase_message.specs.declared.stage.Slot.{Slot}
+use Rattle.phase_message.specs.declared.stage.StageKind.{StageKind}
 use Rattle.phase_message.specs.declared.stage.StageKind.TheVariants.{Final}
 use Rattle.phase_message.specs.Header.{header_of}
 use Rattle.phase_message.specs.Offence.{content_read}
+use Rattle.phase_message.specs.Post.{post_spelling}
 use Rattle.phase_message.specs.Stages.{kind_of_stage}
+use Rattle.stage_log.specs.Table.{kept_in}
 use Rattle.shuffle_blame.specs.Replay.{outer_place}
 use Rattle.round_spec.specs.Slots.{final_stage, inner_place}
 use Rattle.round_spec.specs.Say.{Configuration, own_key_seed, own_opening, shape_in}
@@ -20,6 +24,7 @@ use Rattle.round_spec.specs.Runs.{HonestRun, IsConfiguration, posts_said}
 use Rattle.member_spec.specs.Actor.{Actor, actor_after}
 use Rattle.member_spec.specs.Outcomes.{outcome_of}
 use Rattle.member_spec.specs.Replies.{IsPlain, Replies}
+use Rattle.member_spec.specs.Sizes.{bytes_kept, greatest_log, greatest_post}
 
 -- ---- the result
 
@@ -71,3 +76,16 @@ pub record EndsOnce (c : Configuration) (made : List Post) (shuffle : ℕ) : Typ
 abbrev pub PlainEndsOnce : Type 0
 PlainEndsOnce = (replies : Replies) (c : Configuration) (delivered : List (List ℕ)) (shuffle : ℕ) → IsPlain replies →
     IsConfiguration c → All IsBytes delivered → EndsOnce c (actor_after replies c delivered).made shuffle
+
+-- ---- room
+
+-- what is kept has at most the bytes of the greatest post in each slot, and of all of these in the log
+pub record KeepsAtMost (c : Configuration) (a : Actor) : Type 0 where
+  pub each : (slot : Slot) (post : Post) (kind : StageKind) → kept_in a.log slot ≡ Some post →
+      kind_of_stage (shape_in c) slot.stage ≡ Some kind → length (post_spelling post) ≤ greatest_post (shape_in c) kind
+  pub all : bytes_kept a.log ≤ greatest_log (shape_in c)
+
+-- so it is with every plain conduct
+abbrev pub PlainKeepsAtMost : Type 0
+PlainKeepsAtMost = (replies : Replies) (c : Configuration) (delivered : List (List ℕ)) → IsPlain replies → IsConfiguration c →
+    All IsBytes delivered → KeepsAtMost c (actor_after replies c delivered)
