@@ -98,13 +98,14 @@ pub rests-agrees : (c : Configuration) (delivered : List (List ℕ)) (bytes : Li
 unfolding Agrees
 rests-agrees c delivered bytes a none sound rests = elim (cases_Bool (is_open (stand_after c (with_last delivered bytes)).verdict)) [
   | inl still ↦ inl (record { none = goes-on c delivered bytes none (course-ends c delivered bytes sound ∙ open-ending _ still); rests = rests })
-  | inr ended ↦ inr (ends-with-last c delivered bytes (stand_after c (with_last delivered bytes)).verdict a none (course-ends c delivered bytes sound ∙ closed-ending _ ended) (record {
-    closed = ended;
-    ending = rests.follows.ending ∙ ap (λ (s : Stand). s.verdict) (rests-stand c (first_posts c (with_last delivered bytes)) a rests);
-    stand = rests-stand c (first_posts c (with_last delivered bytes)) a rests;
-    log = rests-log c (first_posts c (with_last delivered bytes)) a rests;
-    made = rests-made c (first_posts c (with_last delivered bytes)) a rests;
-  }))
+  | inr ended ↦ inr (ends-with-last c delivered bytes (stand_after c (with_last delivered bytes)).verdict a none (course-ends c delivered bytes sound
+      ∙ closed-ending _ ended) (record {
+        closed = ended;
+        ending = rests.follows.ending ∙ ap (λ (s : Stand). s.verdict) (rests-stand c (first_posts c (with_last delivered bytes)) a rests);
+        stand = rests-stand c (first_posts c (with_last delivered bytes)) a rests;
+        log = rests-log c (first_posts c (with_last delivered bytes)) a rests;
+        made = rests-made c (first_posts c (with_last delivered bytes)) a rests;
+      }))
 ]
 
 -- a string that changes no first post and shows no fault
@@ -143,7 +144,8 @@ open-heard : (replies : Replies) (c : Configuration) (a : Actor) (bytes : List �
     → fault_shown c (kept_in a.log) bytes ≡ o
     → actor_behind_delivery replies c a bytes ≡ actor_behind_fault replies c a bytes o
 unfolding actor_behind_delivery
-open-heard replies c a bytes o still e = cond-true (is_open a.ending) (actor_behind_fault replies c a bytes (fault_shown c (kept_in a.log) bytes)) a still ∙ ap (actor_behind_fault replies c a bytes) e
+open-heard replies c a bytes o still e = cond-true (is_open a.ending) (actor_behind_fault replies c a bytes (fault_shown c (kept_in a.log) bytes)) a still
+    ∙ ap (actor_behind_fault replies c a bytes) e
 
 rests-open : (c : Configuration) (delivered : List (List ℕ)) (a : Actor) → IsOpenAfter c delivered a → is_open a.ending ≡ true
 rests-open c delivered a is =
@@ -186,7 +188,8 @@ hears-full : (replies : Replies) (c : Configuration) (delivered : List (List ℕ
     → heard_of c bytes ≡ Some heard → is_ok heard.content ≡ true → first_posts c delivered (slot_named heard.header) ≡ Some kept
     → Agrees c (with_last delivered bytes) (actor_behind_delivery replies c a bytes)
 hears-full replies c delivered bytes a heard kept is other e reads first = elim (contradiction-cases c bytes heard kept) [
-  | inl same ↦ subst (Agrees c (with_last delivered bytes)) (sym (step None same.1 ∙ ap (actor_behind_heard replies c a) e ∙ cond-true (is_some (kept_in a.log (slot_named heard.header))) a _ (ap is_some there)))
+  | inl same ↦ subst (Agrees c (with_last delivered bytes)) (sym (step None same.1 ∙ ap (actor_behind_heard replies c a) e
+      ∙ cond-true (is_some (kept_in a.log (slot_named heard.header))) a _ (ap is_some there)))
       (idle-agrees c delivered bytes a is posts (shown (first_posts c (with_last delivered bytes)) here ∙ same.1))
   | inr fault ↦ subst (Agrees c (with_last delivered bytes)) (sym (step (Some fault.0) fault.2))
       (fault-agrees c delivered bytes a fault.0 is posts (shown (first_posts c (with_last delivered bytes)) here ∙ fault.2) fault.1)
@@ -239,14 +242,16 @@ heard-follows c others more a heard rests other contained here same =
     let f = rests.follows in
     let through = course-grows c others more rests.stages first_stand contained in
     let at : a.stand ≡ course_from c more through.count first_stand =
-    f.stand ∙ sym (course-zero c more (course_from c others rests.stages first_stand)) ∙ sym (through.goes_on 0) ∙ (let none : through.count + 0 ≡ through.count = omega arith in ap (λ (k : ℕ). course_from c more k first_stand) none) in (
+    f.stand ∙ sym (course-zero c more (course_from c others rests.stages first_stand)) ∙ sym (through.goes_on 0)
+    ∙ (let none : through.count + 0 ≡ through.count = omega arith in ap (λ (k : ℕ). course_from c more k first_stand) none) in (
       through.count,
       (
         rests.now,
         record {
           stand = at;
           at = (let most = at-most c more through.count first_stand in let count = through.most in let was = f.at in let is_at = ap (λ (s : Stand). s.at) at in omega (arith, is_at));
-          log = ap (λ (log : Log). filled log (slot_named heard.header) heard.post) f.log ∙ keeps-log c others more a.stand rests.now (slot_named heard.header) heard.post other.speaks other.other here same;
+          log = ap (λ (log : Log). filled log (slot_named heard.header) heard.post) f.log
+              ∙ keeps-log c others more a.stand rests.now (slot_named heard.header) heard.post other.speaks other.other here same;
           made = f.made;
           mood = f.mood;
           ending = f.ending;
@@ -288,7 +293,8 @@ hears-new replies c delivered bytes a heard plain grammar is other e reads empty
     nothing = kept-first c (first_posts c delivered) a slot is.rests other.speaks other.other ∙ empty
 
     sound : fault_shown c more bytes ≡ None
-    sound = fault-of c more bytes (Some heard) e ∙ fault-inside c more bytes heard reads ∙ contradiction-full c more bytes heard heard.post here ∙ contradiction-same c bytes heard heard.post refl
+    sound = fault-of c more bytes (Some heard) e ∙ fault-inside c more bytes heard reads ∙ contradiction-full c more bytes heard heard.post here
+        ∙ contradiction-same c bytes heard heard.post refl
 
     quiet : fault_shown c (kept_in a.log) bytes ≡ None
     quiet = fault-of c (kept_in a.log) bytes (Some heard) e ∙ fault-inside c (kept_in a.log) bytes heard reads ∙ contradiction-empty c (kept_in a.log) bytes heard nothing

@@ -86,7 +86,8 @@ bits-missing log stage = by_kind (kind_of_stage log.shape stage) refl
 
     by_kind : (o : Option StageKind) → kind_of_stage log.shape stage ≡ o
         → bits_of (filter (is_missing log stage) (option_map_or (senders_in log.shape) (kind_of_stage log.shape stage) [])) ≡ missing_bits log stage
-    by_kind None e = chosen None e ∙ sym (range-none (missing_bit log stage) 1 log.shape.members (λ m le. silent-bit log stage m (ap (λ (o : Option StageKind). speaks log.shape o m) e)))
+    by_kind None e = chosen None e
+        ∙ sym (range-none (missing_bit log stage) 1 log.shape.members (λ m le. silent-bit log stage m (ap (λ (o : Option StageKind). speaks log.shape o m) e)))
     by_kind (Some (Shuffle shuffle k)) e = chosen (Some (Shuffle shuffle k)) e ∙ turn-bits log stage shuffle k e
     by_kind (Some Keys) e = chosen (Some Keys) e ∙ all
     by_kind (Some (Submit shuffle)) e = chosen (Some (Submit shuffle)) e ∙ all

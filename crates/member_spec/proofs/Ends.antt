@@ -58,11 +58,13 @@ counts-one p f k a (suc n) only = by_first (f a) refl (counts-one p f k (a + 1) 
     by_value : (y : Post) → f a ≡ Some y → CountsOne p f k (a + 1) n → (p y ≡ true) ⊎ (p y ≡ false) → CountsOne p f k a (suc n)
     by_value y e later (inl counted) =
         let here : a ≡ k = only a y e counted in
-        let whole : count_by p (filter_map f (range_with_len a (suc n))) ≡ 1 + count_by p rest = ap (λ (o : Option Post). count_by p (cons_option o rest)) e ∙ count-cons p y rest ∙ ap (λ (b : Bool). cond b 1 0 + count_by p rest) counted in
+        let whole : count_by p (filter_map f (range_with_len a (suc n))) ≡ 1 + count_by p rest = ap (λ (o : Option Post). count_by p (cons_option o rest)) e
+        ∙ count-cons p y rest ∙ ap (λ (b : Bool). cond b 1 0 + count_by p rest) counted in
         let nothing : count_by p rest ≡ 0 = later.none (omega (arith, here)) in
         record { none = λ lt. absurd (omega (arith, here)); most = omega (arith, whole, nothing) }
     by_value y e later (inr not_counted) =
-        let whole : count_by p (filter_map f (range_with_len a (suc n))) ≡ 0 + count_by p rest = ap (λ (o : Option Post). count_by p (cons_option o rest)) e ∙ count-cons p y rest ∙ ap (λ (b : Bool). cond b 1 0 + count_by p rest) not_counted in
+        let whole : count_by p (filter_map f (range_with_len a (suc n))) ≡ 0 + count_by p rest = ap (λ (o : Option Post). count_by p (cons_option o rest)) e
+        ∙ count-cons p y rest ∙ ap (λ (b : Bool). cond b 1 0 + count_by p rest) not_counted in
         let most = later.most in
         record { none = λ lt. (let nothing = later.none (omega arith) in omega (arith, whole, nothing)); most = omega (arith, whole) }
 

@@ -186,7 +186,8 @@ admitting c bytes = by_frame (frame_of bytes) refl
 pub open-delivery : (replies : Replies) (c : Configuration) (a : Actor) (bytes : List ℕ) (o : Option Verdict) → is_open a.ending ≡ true
     → fault_shown c (kept_in a.log) bytes ≡ o → actor_behind_delivery replies c a bytes ≡ actor_behind_fault replies c a bytes o
 unfolding actor_behind_delivery
-open-delivery replies c a bytes o still e = cond-true (is_open a.ending) (actor_behind_fault replies c a bytes (fault_shown c (kept_in a.log) bytes)) a still ∙ ap (actor_behind_fault replies c a bytes) e
+open-delivery replies c a bytes o still e = cond-true (is_open a.ending) (actor_behind_fault replies c a bytes (fault_shown c (kept_in a.log) bytes)) a still
+    ∙ ap (actor_behind_fault replies c a bytes) e
 
 pub ended-delivery : (replies : Replies) (c : Configuration) (a : Actor) (bytes : List ℕ) → is_open a.ending ≡ false
     → actor_behind_delivery replies c a bytes ≡ a
@@ -196,14 +197,16 @@ ended-delivery replies c a bytes ended = cond-false (is_open a.ending) (actor_be
 -- of what nothing is heard changes nothing
 pub nothing-delivered : (replies : Replies) (c : Configuration) (a : Actor) (bytes : List ℕ) → is_open a.ending ≡ true → heard_of c bytes ≡ None
     → actor_behind_delivery replies c a bytes ≡ a
-nothing-delivered replies c a bytes still nothing = open-delivery replies c a bytes None still (fault-of c (kept_in a.log) bytes None nothing) ∙ ap (actor_behind_heard replies c a) nothing
+nothing-delivered replies c a bytes still nothing = open-delivery replies c a bytes None still (fault-of c (kept_in a.log) bytes None nothing)
+    ∙ ap (actor_behind_heard replies c a) nothing
 
 -- nor does a content that is kept
 pub same-delivered : (replies : Replies) (c : Configuration) (a : Actor) (bytes : List ℕ) (heard : Heard) (kept : Post) → is_open a.ending ≡ true
     → heard_of c bytes ≡ Some heard → is_ok heard.content ≡ true
     → kept_in a.log (slot_named heard.header) ≡ Some kept → kept.content ≡ heard.post.content → actor_behind_delivery replies c a bytes ≡ a
 same-delivered replies c a bytes heard kept still e reads there same =
-    open-delivery replies c a bytes None still (fault-of c (kept_in a.log) bytes (Some heard) e ∙ fault-inside c (kept_in a.log) bytes heard reads ∙ contradiction-full c (kept_in a.log) bytes heard kept there ∙ contradiction-same c bytes heard kept same)
+    open-delivery replies c a bytes None still (fault-of c (kept_in a.log) bytes (Some heard) e ∙ fault-inside c (kept_in a.log) bytes heard reads
+    ∙ contradiction-full c (kept_in a.log) bytes heard kept there ∙ contradiction-same c bytes heard kept same)
     ∙ ap (actor_behind_heard replies c a) e ∙ cond-true (is_some (kept_in a.log (slot_named heard.header))) a _ (ap is_some there)
 
 -- where the answer is by the round's end, something may have changed
@@ -243,10 +246,12 @@ idle-delivery replies c a bytes keeps leaves = elim (cases_Bool (is_open a.endin
     by_kept still post header admits other e (inr new) = absurd (not-idle (actor_behind_delivery replies c a bytes).ending (subst LeavesAll told leaves))
       where
         none : idle_answer c a.log (Ok (header, post.content)) ≡ None
-        none = cond-false (header.sender == c.number) (Some Own) (if is_content post.content (kept_in a.log (slot_named header)) then Some Same else None) other ∙ cond-false (is_content post.content (kept_in a.log (slot_named header))) (Some Same) None new
+        none = cond-false (header.sender == c.number) (Some Own) (if is_content post.content (kept_in a.log (slot_named header)) then Some Same else None) other
+            ∙ cond-false (is_content post.content (kept_in a.log (slot_named header))) (Some Same) None new
 
         told : answer_to replies c a bytes ≡ answer_by_end (actor_behind_delivery replies c a bytes).ending
-        told = answer-open replies c a bytes still ∙ ap (λ (o : Option Taken). unwrap_or o (answer_by_end (actor_behind_delivery replies c a bytes).ending)) (ap (idle_answer c a.log) admits ∙ none)
+        told = answer-open replies c a bytes still
+            ∙ ap (λ (o : Option Taken). unwrap_or o (answer_by_end (actor_behind_delivery replies c a bytes).ending)) (ap (idle_answer c a.log) admits ∙ none)
 
     by_admission : is_open a.ending ≡ true → Admitting c bytes → actor_behind_delivery replies c a bytes ≡ a
     by_admission still (Refuses refusal admits nothing) = nothing-delivered replies c a bytes still nothing
@@ -256,7 +261,8 @@ idle-delivery replies c a bytes keeps leaves = elim (cases_Bool (is_open a.endin
 -- ---- all deliveries
 
 -- a new post is of the grammar where no fault is shown
-new-read : (c : Configuration) (log : Log) (bytes : List ℕ) (post : Post) (header : Header) → heard_of c bytes ≡ Some (record { header = header; post = post; content = content_read (shape_in c) post.content })
+new-read : (c : Configuration) (log : Log) (bytes : List ℕ) (post : Post) (header : Header)
+    → heard_of c bytes ≡ Some (record { header = header; post = post; content = content_read (shape_in c) post.content })
     → fault_shown c (kept_in log) bytes ≡ None → is_ok (content_read (shape_in c) post.content) ≡ true
 new-read c log bytes post header e sound = elim (cases_Bool (is_ok (content_read (shape_in c) post.content))) [
   | inl reads ↦ reads

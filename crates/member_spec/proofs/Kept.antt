@@ -44,7 +44,8 @@ made_with c stand now = filter_map (own_at c stand now) (range_with_len 0 (stage
 has_said-same : (c : Configuration) (stand : Stand) (now later : Bool) (stage : ℕ) → (is_slot (shape_in c) stand.at c.number ≡ true → now ≡ later)
     → has_said c stand now stage ≡ has_said c stand later stage
 has_said-same c stand now later stage same = elim (cases_Bool (is_slot (shape_in c) stage c.number)) [
-  | inr silent ↦ ap (λ (b : Bool). b && (nat_lt stage stand.at || (now && (stage == stand.at)))) silent ∙ sym (ap (λ (b : Bool). b && (nat_lt stage stand.at || (later && (stage == stand.at)))) silent)
+  | inr silent ↦ ap (λ (b : Bool). b && (nat_lt stage stand.at || (now && (stage == stand.at)))) silent
+      ∙ sym (ap (λ (b : Bool). b && (nat_lt stage stand.at || (later && (stage == stand.at)))) silent)
   | inl speaks ↦ elim (cases_Bool (stage == stand.at)) [
     | inl here ↦
         let at : stage ≡ stand.at = eqb-true stage stand.at here in
@@ -91,7 +92,8 @@ place-now c others stand sender is speaks = by_sender (cases_Bool (sender == c.n
     there : Option Post
     there = others (record { stage = stand.at; sender = sender })
 
-    by_sender : (sender == c.number ≡ true) ⊎ (sender == c.number ≡ false) → (if sender == c.number then own_at c stand true stand.at else others (record { stage = stand.at; sender = sender })) ≡ post_of c others stand sender
+    by_sender : (sender == c.number ≡ true) ⊎ (sender == c.number ≡ false)
+        → (if sender == c.number then own_at c stand true stand.at else others (record { stage = stand.at; sender = sender })) ≡ post_of c others stand sender
     by_sender (inr other) =
         cond-false (sender == c.number) (own_at c stand true stand.at) (others (record { stage = stand.at; sender = sender })) other
         ∙ sym (cond-false (sender == c.number) (Some (own_post c stand.past stand.at)) (others (record { stage = stand.at; sender = sender })) other)

@@ -63,7 +63,9 @@ speaks-log c others stand is speaks =
     by_sender : (other : Slot) → other ≢ slot → (other.sender == c.number ≡ true) ⊎ (other.sender == c.number ≡ false)
         → ((other.stage == stand.at) ≡ true) ⊎ ((other.stage == stand.at) ≡ false)
         → place_with c others stand false other ≡ place_with c others stand true other
-    by_sender other apart (inl own) (inl here) = absurd (apart (sym (slot-is other) ∙ ap (λ (s : ℕ). record { stage = s; sender = other.sender }) (eqb-true other.stage stand.at here) ∙ ap (λ (s : ℕ). record { stage = stand.at; sender = s }) (eqb-true other.sender c.number own)))
+    by_sender other apart (inl own) (inl here) = absurd (apart (sym (slot-is other)
+        ∙ ap (λ (s : ℕ). record { stage = s; sender = other.sender }) (eqb-true other.stage stand.at here)
+        ∙ ap (λ (s : ℕ). record { stage = stand.at; sender = s }) (eqb-true other.sender c.number own)))
       where
         slot-is : (s : Slot) → record { stage = s.stage; sender = s.sender } ≡ s
         slot-is s = refl
@@ -75,7 +77,8 @@ speaks-log c others stand is speaks =
 -- ---- ranges of stages
 
 range-splits : (a m n : ℕ) → range_with_len a (m + n) ≡ range_with_len a m ++ range_with_len (a + m) n
-range-splits a zero n = (let none : zero + n ≡ n = omega arith in let start : a + zero ≡ a = omega arith in ap (range_with_len a) none ∙ sym (ap (λ (k : ℕ). range_with_len k n) start))
+range-splits a zero n = (let none : zero + n ≡ n = omega arith in let start : a + zero ≡ a = omega arith in ap (range_with_len a) none
+    ∙ sym (ap (λ (k : ℕ). range_with_len k n) start))
 range-splits a (suc m) n =
     let more : suc m + n ≡ suc (m + n) = omega arith in
     let start : a + 1 + m ≡ a + suc m = omega arith in
@@ -124,9 +127,13 @@ pub speaks-made : (c : Configuration) (others : Others) (stand : Stand) → IsRe
     → made_with c stand false ++ own_post c stand.past stand.at ∷ [] ≡ made_with c stand true
 unfolding made_with
 speaks-made c others stand is speaks =
-    ap (λ (posts : List Post). posts ++ own_post c stand.past stand.at ∷ []) (filter-splits (own_at c stand false) stand.at n lt ∙ ap (λ (posts : List Post). front false ++ posts) (ap (λ (o : Option Post). cons_option o (back false)) (own-not-yet c stand) ∙ nothing false) ∙ append-nil (front false))
+    ap (λ (posts : List Post). posts ++ own_post c stand.past stand.at ∷ []) (filter-splits (own_at c stand false) stand.at n lt
+    ∙ ap (λ (posts : List Post). front false ++ posts) (ap (λ (o : Option Post). cons_option o (back false)) (own-not-yet c stand) ∙ nothing false)
+    ∙ append-nil (front false))
     ∙ ap (λ (posts : List Post). posts ++ own_post c stand.past stand.at ∷ []) (filter-in (own_at c stand false) (own_at c stand true) 0 stand.at (λ x le lt. own-elsewhere c stand x (elsewhere x lt)))
-    ∙ sym (filter-splits (own_at c stand true) stand.at n lt ∙ ap (λ (posts : List Post). front true ++ posts) (ap (λ (o : Option Post). cons_option o (back true)) (own-now c others stand is speaks) ∙ ap (λ (posts : List Post). own_post c stand.past stand.at ∷ posts) (nothing true)))
+    ∙ sym (filter-splits (own_at c stand true) stand.at n lt
+    ∙ ap (λ (posts : List Post). front true ++ posts) (ap (λ (o : Option Post). cons_option o (back true)) (own-now c others stand is speaks)
+    ∙ ap (λ (posts : List Post). own_post c stand.past stand.at ∷ posts) (nothing true)))
   where
     n : ℕ
     n = stage_count (shape_in c)
@@ -156,7 +163,8 @@ has_said-passed c stand posts stage = ap (λ (b : Bool). is_slot (shape_in c) st
   where
     by_order : (stage < stand.at) ⊎ (stand.at ≤ stage)
         → (nat_lt stage (stand.at + 1) || (false && (stage == stand.at + 1))) ≡ (nat_lt stage stand.at || (true && (stage == stand.at)))
-    by_order (inl lt) = ap (λ (b : Bool). b || (false && (stage == stand.at + 1))) (lt-ltb stage (stand.at + 1) (omega arith)) ∙ sym (ap (λ (b : Bool). b || (true && (stage == stand.at))) (lt-ltb stage stand.at lt))
+    by_order (inl lt) = ap (λ (b : Bool). b || (false && (stage == stand.at + 1))) (lt-ltb stage (stand.at + 1) (omega arith))
+        ∙ sym (ap (λ (b : Bool). b || (true && (stage == stand.at))) (lt-ltb stage stand.at lt))
     by_order (inr le) = elim (cases_lt stand.at stage) [
       | inl beyond ↦
           ap (λ (b : Bool). b || (false && (stage == stand.at + 1))) (false_from_ne_true (nat_lt stage (stand.at + 1)) (λ e. (let lt = ltb-true stage (stand.at + 1) e in omega arith)))

@@ -129,7 +129,8 @@ same-function f g each = λ i slot. each slot i
 pub order_changes_nothing : OrderChangesNothing
 order_changes_nothing c delivered others orderless shuffled =
     let into : (bytes : List ℕ) → Contains delivered bytes → Contains others bytes = λ bytes. Contains-permutation delivered others bytes shuffled in
-    let back : (bytes : List ℕ) → Contains others bytes → Contains delivered bytes = λ bytes. Contains-permutation others delivered bytes (IsPermutation-sym delivered others shuffled) in
+    let back : (bytes : List ℕ) → Contains others bytes
+    → Contains delivered bytes = λ bytes. Contains-permutation others delivered bytes (IsPermutation-sym delivered others shuffled) in
     let posts : first_posts c others ≡ first_posts c delivered = same-function (first_posts c others) (first_posts c delivered) (λ slot. posts-same c delivered others slot orderless into back) in
     let was = whole_course c delivered (consistent c delivered orderless) in
     let is = whole_course c others (consistent c others (reordered c delivered others orderless back)) in (

@@ -59,7 +59,8 @@ pub places-set : (shape : Shape) (f g : Slot → Option Post) (slot : Slot) (pos
     → ((other : Slot) → is_slot shape other.stage other.sender ≡ true → other ≢ slot → f other ≡ g other)
     → slice_set (map f (slots_of shape)) (slot_number shape slot.stage slot.sender) (Some post) ≡ map g (slots_of shape)
 places-set shape f g slot post speaks here others =
-    ext_get_or None (set (map f (slots_of shape)) number (Some post)) (map g (slots_of shape)) (long ∙ sym (length-map (slots_of shape) g)) (λ i lt. each i (omega (arith, long)) (apart i number))
+    ext_get_or None (set (map f (slots_of shape)) number (Some post)) (map g (slots_of shape)) (long
+    ∙ sym (length-map (slots_of shape) g)) (λ i lt. each i (omega (arith, long)) (apart i number))
   where
     number : ℕ
     number = slot_number shape slot.stage slot.sender
@@ -136,7 +137,8 @@ stage-slots shape stage kind is = ext_get_or any_slot part made (count ∙ sym m
         get_or-take (slots_before shape (stage + 1) - a) (drop a (slots_of shape)) i any_slot (omega (arith, width))
         ∙ get_or-drop a (slots_of shape) i any_slot
         ∙ get_or_from_slice_get (slots_of shape) (a + i) (to_slot (get_or (senders_in shape kind) i 0)) any_slot at
-        ∙ sym (get_or_from_slice_get made i (to_slot (get_or (senders_in shape kind) i 0)) any_slot (slice_get-map to_slot (senders_in shape kind) i ∙ ap (option_map to_slot) there))
+        ∙ sym (get_or_from_slice_get made i (to_slot (get_or (senders_in shape kind) i 0)) any_slot (slice_get-map to_slot (senders_in shape kind) i
+        ∙ ap (option_map to_slot) there))
 
 -- the posts of a stage, by sender
 pub stage-places : (shape : Shape) (f : Slot → Option Post) (stage : ℕ) (kind : StageKind) → kind_of_stage shape stage ≡ Some kind
@@ -164,7 +166,8 @@ place-of-sender shape stage sender kind is speaks =
     let few : place < length (senders_in shape kind) = omega (arith, slots_next shape stage kind is, length-senders_in shape kind) in
     let other = slice_get-get_or (senders_in shape kind) place 0 few in
     let there = slot_at-place shape stage place (get_or (senders_in shape kind) place 0) kind is other in
-    let same : record { stage = stage; sender = get_or (senders_in shape kind) place 0 } ≡ record { stage = stage; sender = sender } = told_same _ _ (sym there ∙ ap (slot_at shape) (sym number) ∙ slot_at-number shape stage sender speaks) in
+    let same : record { stage = stage; sender = get_or (senders_in shape kind) place 0 } ≡ record { stage = stage; sender = sender } = told_same _ _ (sym there
+    ∙ ap (slot_at shape) (sym number) ∙ slot_at-number shape stage sender speaks) in
     (place, other ∙ ap (λ (s : Slot). Some s.sender) same)
   where
     told_same : (x y : Slot) → (let told : Slot → Option Slot = λ z. Some z in told x ≡ told y) → x ≡ y

@@ -86,10 +86,15 @@ nothing-ends c = ending-none c [] refl
 start-agrees : (replies : Replies) (c : Configuration) → IsPlain replies → SaysGrammar c (first_posts c []) → Agrees c [] (actor_at_start replies c)
 unfolding Agrees least_ending
 start-agrees replies c plain grammar = elim (cases_Bool (is_open (stand_after c []).verdict)) [
-  | inl still ↦ inl (record { none = first_below-none (ending_at c []) 1 (λ j lt. ending-all c [] j (omega arith) ∙ ap (option_map (λ verdict. (j, verdict))) (nothing-ends c ∙ open-ending _ still)); rests = rests })
+  | inl still ↦ inl (record {
+    none = first_below-none (ending_at c []) 1 (λ j lt. ending-all c [] j (omega arith)
+        ∙ ap (option_map (λ verdict. (j, verdict))) (nothing-ends c ∙ open-ending _ still));
+    rests = rests;
+  })
   | inr ended ↦ inr (record {
     ending = (0, (stand_after c []).verdict);
-    least = first_below-some (ending_at c []) 1 0 (0, (stand_after c []).verdict) (omega arith) (λ j lt. absurd (omega (arith, lt))) (ending-all c [] 0 (omega arith) ∙ ap (option_map (λ verdict. (0, verdict))) (nothing-ends c ∙ closed-ending _ ended));
+    least = first_below-some (ending_at c []) 1 0 (0, (stand_after c []).verdict) (omega arith) (λ j lt. absurd (omega (arith, lt))) (ending-all c [] 0 (omega arith)
+        ∙ ap (option_map (λ verdict. (0, verdict))) (nothing-ends c ∙ closed-ending _ ended));
     within = omega arith;
     has = record {
       closed = ended;
@@ -139,7 +144,8 @@ agrees-after replies c delivered plain grammar are =
 
 filter-members : (f g : ℕ → Bool) (xs : List ℕ) → ((i x : ℕ) → slice_get xs i ≡ Some x → f x ≡ g x) → filter f xs ≡ filter g xs
 filter-members f g [] same = refl
-filter-members f g (x ∷ xs) same = ap (λ (b : Bool). if b then x ∷ filter f xs else filter f xs) (same 0 x refl) ∙ ap (λ (ys : List ℕ). if g x then x ∷ ys else ys) (filter-members f g xs (λ i y e. same (suc i) y e))
+filter-members f g (x ∷ xs) same = ap (λ (b : Bool). if b then x ∷ filter f xs else filter f xs) (same 0 x refl)
+    ∙ ap (λ (ys : List ℕ). if g x then x ∷ ys else ys) (filter-members f g xs (λ i y e. same (suc i) y e))
 
 -- where the round is open it waits for those that the result names
 waits-same : (c : Configuration) (others : Others) (a : Actor) → WaitsAtFirst c others → a.log ≡ settled_log c others → a.stand ≡ course_of c others
@@ -174,7 +180,8 @@ agrees-comes c delivered a small least are (inl is) =
     let waits = open_rounds_wait c firsts small least (first_posts_name c delivered are) still in
     record {
       outcome =
-          cond-true (is_open a.ending) (Waiting a.stand.at (members_missing c a)) (outcome_ended c a.stand a.ending) (ap is_open (is.rests.follows.ending ∙ ap (λ (s : Stand). s.verdict) stand) ∙ still)
+          cond-true (is_open a.ending) (Waiting a.stand.at (members_missing c a)) (outcome_ended c a.stand a.ending) (ap is_open (is.rests.follows.ending
+          ∙ ap (λ (s : Stand). s.verdict) stand) ∙ still)
           ∙ waits-same c firsts a waits log stand ∙ sym (ap (outcome_by c delivered) is.none);
       posts = rests-made c firsts a is.rests ∙ sym (ap (λ (o : Option (ℕ × Verdict)). own_posts c (stand_after c (counted_part delivered o))) is.none);
       log = log ∙ sym (ap (λ (o : Option (ℕ × Verdict)). settled_log c (first_posts c (counted_part delivered o))) is.none);
@@ -224,7 +231,8 @@ said-there : (c : Configuration) (others : Others) (stage : ℕ)
     → own_post_at c (course_of c others) stage ≡ kept_in (settled_log c others) (own_slot (settled_run c others) stage)
 unfolding post_settled settled_log
 said-there c others stage = elim (cases_Bool (is_slot (shape_in c) stage c.number)) [
-  | inl speaks ↦ sym (settled-kept c others (own_slot (settled_run c others) stage) speaks ∙ cond-true (c.number == c.number) (own_post_at c (course_of c others) stage) _ (eq-eqb c.number c.number refl))
+  | inl speaks ↦ sym (settled-kept c others (own_slot (settled_run c others) stage) speaks
+      ∙ cond-true (c.number == c.number) (own_post_at c (course_of c others) stage) _ (eq-eqb c.number c.number refl))
   | inr silent ↦ cond-false (has_spoken c (course_of c others) stage) _ None (ap (λ (b : Bool). b && (nat_lt stage (course_of c others).at || (is_open (course_of c others).verdict && (stage == (course_of c others).at)))) silent)
       ∙ sym (cond-false (is_slot (shape_in c) stage c.number) _ None silent)
 ]

@@ -31,7 +31,8 @@ moved : (replies : Replies) (c : Configuration) (others : Others) (n : ℕ) (now
 unfolding Moved
 moved replies c others zero now stages a plain grammar f = inr (now, stages, f, omega arith)
 moved replies c others (suc n) now stages a plain grammar f = elim (step-leads replies c others now stages a plain grammar f) [
-  | inl still ↦ inl (subst (Rests c others) (sym (ap (iterate (actor_behind_step replies c) n) still.stays ∙ stays-still (actor_behind_step replies c) n a still.stays)) still.rests)
+  | inl still ↦ inl (subst (Rests c others) (sym (ap (iterate (actor_behind_step replies c) n) still.stays
+      ∙ stays-still (actor_behind_step replies c) n a still.stays)) still.rests)
   | inr on ↦ elim (moved replies c others n on.now on.stages (actor_behind_step replies c a) plain grammar on.follows) [
     | inl rests ↦ inl rests
     | inr far ↦ (let further = on.further in let least = far.3 in inr (far.0, far.1, far.2, omega arith))

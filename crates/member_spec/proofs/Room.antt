@@ -123,7 +123,8 @@ slots-sum shape first (kind ∷ kinds) are =
     let rest = slots-sum shape (first + 1) kinds (λ i k e. (let next : first + 1 + i ≡ first + suc i = omega arith in ap (kind_of_stage shape) next ∙ are (suc i) k e)) in
     let now : List Slot = map (λ sender. record { stage = first; sender = sender }) (senders_in shape kind) in
     sum_by-append (slot_room shape) now (slots_from shape (first + 1) kinds)
-    ∙ ap (λ (n : ℕ). n + sum_by (slot_room shape) (slots_from shape (first + 1) kinds)) (stage-sum shape first kind (senders_in shape kind) here ∙ ap (λ (n : ℕ). n * greatest_post shape kind) (length-senders_in shape kind))
+    ∙ ap (λ (n : ℕ). n + sum_by (slot_room shape) (slots_from shape (first + 1) kinds)) (stage-sum shape first kind (senders_in shape kind) here
+    ∙ ap (λ (n : ℕ). n * greatest_post shape kind) (length-senders_in shape kind))
     ∙ ap (λ (n : ℕ). senders_of shape kind * greatest_post shape kind + n) rest
     ∙ sym (sum_by-cons (λ kind. senders_of shape kind * greatest_post shape kind) kind kinds)
 

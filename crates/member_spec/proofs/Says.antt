@@ -51,7 +51,8 @@ next-later c others stand next later e is =
     record {
       at = omega (arith, step);
       past = sym (take-take (length stand.past) (length next.past) later.past (omega (arith, more, length-append stand.past posts)))
-          ∙ ap (take (length stand.past)) (is.past ∙ longer) ∙ take-append-le (length stand.past) stand.past posts (omega arith) ∙ take_all (length stand.past) stand.past (omega arith);
+          ∙ ap (take (length stand.past)) (is.past ∙ longer) ∙ take-append-le (length stand.past) stand.past posts (omega arith)
+          ∙ take_all (length stand.past) stand.past (omega arith);
     }
 
 goes-later : (c : Configuration) (others : Others) (stages : ℕ) (stand : Stand) → IsLater stand (course_from c others stages stand)
@@ -69,7 +70,8 @@ unfolding course_of
 end-later c others stages stops = elim (cases_lt stages (stage_count (shape_in c))) [
   | inl lt ↦
       let split : stage_count (shape_in c) ≡ stages + (stage_count (shape_in c) - stages) = omega arith in
-      subst (IsLater (course_from c others stages first_stand)) (sym (ap (λ (k : ℕ). course_from c others k first_stand) split ∙ course-adds c others stages (stage_count (shape_in c) - stages) first_stand))
+      subst (IsLater (course_from c others stages first_stand)) (sym (ap (λ (k : ℕ). course_from c others k first_stand) split
+      ∙ course-adds c others stages (stage_count (shape_in c) - stages) first_stand))
       (goes-later c others (stage_count (shape_in c) - stages) (course_from c others stages first_stand))
   | inr le ↦
       let split : stages ≡ stage_count (shape_in c) + (stages - stage_count (shape_in c)) = omega arith in

@@ -293,5 +293,6 @@ open_stand_at_first replies c delivered still =
     let is = after-waits replies c delivered in
     record {
       first = stands-first c a is still;
-      bits = ap (λ (s : Shape). bits_of (filter (is_missing a.log a.stand.at) (option_map_or (senders_in s) (kind_of_stage s a.stand.at) []))) (sym is.has.shape) ∙ bits-missing a.log a.stand.at;
+      bits = ap (λ (s : Shape). bits_of (filter (is_missing a.log a.stand.at) (option_map_or (senders_in s) (kind_of_stage s a.stand.at) []))) (sym is.has.shape)
+          ∙ bits-missing a.log a.stand.at;
     }

@@ -149,7 +149,9 @@ speaks-on replies c others stages a kind plain grammar f still lt kind_is speaks
     reads = subst (λ (s : Stand). is_open s.verdict ≡ true → is_slot (shape_in c) s.at c.number ≡ true → is_ok (content_read (shape_in c) (own_content c s.past s.at)) ≡ true) (sym f.stand) (grammar stages) still speaks
 
     step : actor_behind_step replies c a ≡ having_said c a
-    step = open-step replies c a None (ap is_open f.ending ∙ still) waits ∙ cond-true (is_due c a.stand a.mood) (actor_behind_question replies c a (content_to_say replies c a.stand)) a due ∙ question-says replies c a plain reads
+    step = open-step replies c a None (ap is_open f.ending ∙ still) waits
+        ∙ cond-true (is_due c a.stand a.mood) (actor_behind_question replies c a (content_to_say replies c a.stand)) a due
+        ∙ question-says replies c a plain reads
 
     after : Follows c others true stages (having_said c a)
     after = record {
@@ -253,7 +255,8 @@ still-waiting : (replies : Replies) (c : Configuration) (others : Others) (now :
 still-waiting replies c others now stages a kind f still lt kind_is said none = record {
   rests = record { now = now; stages = stages; follows = f; no_next = no-next-of c others a.stand still none; spoken = λ _. said };
   stays = open-step replies c a None (ap is_open f.ending ∙ still)
-      (posts-within c a lt ∙ ap (λ (log : Log). all_some (posts_in log a.stand.at)) f.log ∙ stage-filled c others a.stand now kind (follows-reached c others now stages a f) kind_is said ∙ none)
+      (posts-within c a lt ∙ ap (λ (log : Log). all_some (posts_in log a.stand.at)) f.log
+      ∙ stage-filled c others a.stand now kind (follows-reached c others now stages a f) kind_is said ∙ none)
       ∙ cond-false (is_due c a.stand a.mood) _ a (due-when c a.stand now a.mood f.mood said);
 }
 
