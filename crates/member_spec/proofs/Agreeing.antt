@@ -58,7 +58,8 @@ Agrees c delivered a = IsOpenAfter c delivered a ⊎ IsEndedAfter c delivered a
 
 -- all of the deliveries end, by this verdict
 ends-with-last : (c : Configuration) (delivered : List (List ℕ)) (bytes : List ℕ) (verdict : Verdict) (a : Actor) → least_ending c delivered ≡ None
-    → ending_of c (with_last delivered bytes) ≡ Some verdict → HasEndedWith c (with_last delivered bytes) verdict a → IsEndedAfter c (with_last delivered bytes) a
+    → ending_of c (with_last delivered bytes) ≡ Some verdict → HasEndedWith c (with_last delivered bytes) verdict a
+    → IsEndedAfter c (with_last delivered bytes) a
 ends-with-last c delivered bytes verdict a none ends has = record {
   ending = (length delivered + 1, verdict);
   least = (least-ending-grows c delivered bytes).comes none ∙ ap (option_map (λ v. (length delivered + 1, v))) ends;
@@ -70,17 +71,20 @@ ends-with-last c delivered bytes verdict a none ends has = record {
     long = length-append delivered (bytes ∷ [])
 
 -- nothing ends
-goes-on : (c : Configuration) (delivered : List (List ℕ)) (bytes : List ℕ) → least_ending c delivered ≡ None → ending_of c (with_last delivered bytes) ≡ None → least_ending c (with_last delivered bytes) ≡ None
+goes-on : (c : Configuration) (delivered : List (List ℕ)) (bytes : List ℕ) → least_ending c delivered ≡ None
+    → ending_of c (with_last delivered bytes) ≡ None → least_ending c (with_last delivered bytes) ≡ None
 goes-on c delivered bytes none ends = (least-ending-grows c delivered bytes).comes none ∙ ap (option_map (λ v. (length delivered + 1, v))) ends
 
 -- a fault that the last string shows ends them
-fault-ends : (c : Configuration) (delivered : List (List ℕ)) (bytes : List ℕ) (verdict : Verdict) → fault_shown c (first_posts c (with_last delivered bytes)) bytes ≡ Some verdict → ending_of c (with_last delivered bytes) ≡ Some verdict
+fault-ends : (c : Configuration) (delivered : List (List ℕ)) (bytes : List ℕ) (verdict : Verdict)
+    → fault_shown c (first_posts c (with_last delivered bytes)) bytes ≡ Some verdict → ending_of c (with_last delivered bytes) ≡ Some verdict
 unfolding ending_of
 fault-ends c delivered bytes verdict e =
     first_some-some verdict _ (ending_verdict (stand_after c (with_last delivered bytes)).verdict ∷ []) (ap (option_and_then (fault_shown c (first_posts c (with_last delivered bytes)))) (last-of delivered bytes) ∙ e)
 
 -- without one they end by their course
-course-ends : (c : Configuration) (delivered : List (List ℕ)) (bytes : List ℕ) → fault_shown c (first_posts c (with_last delivered bytes)) bytes ≡ None
+course-ends : (c : Configuration) (delivered : List (List ℕ)) (bytes : List ℕ)
+    → fault_shown c (first_posts c (with_last delivered bytes)) bytes ≡ None
     → ending_of c (with_last delivered bytes) ≡ ending_verdict (stand_after c (with_last delivered bytes)).verdict
 course-ends c delivered bytes e =
     ending-none c (with_last delivered bytes) (ap (option_and_then (fault_shown c (first_posts c (with_last delivered bytes)))) (last-of delivered bytes) ∙ e)
@@ -88,28 +92,33 @@ course-ends c delivered bytes e =
 -- ---- where it rests
 
 -- a member that rests agrees, where no string ends the deliveries
-pub rests-agrees : (c : Configuration) (delivered : List (List ℕ)) (bytes : List ℕ) (a : Actor) → least_ending c delivered ≡ None → fault_shown c (first_posts c (with_last delivered bytes)) bytes ≡ None
+pub rests-agrees : (c : Configuration) (delivered : List (List ℕ)) (bytes : List ℕ) (a : Actor) → least_ending c delivered ≡ None
+    → fault_shown c (first_posts c (with_last delivered bytes)) bytes ≡ None
     → Rests c (first_posts c (with_last delivered bytes)) a → Agrees c (with_last delivered bytes) a
 unfolding Agrees
 rests-agrees c delivered bytes a none sound rests = elim (cases_Bool (is_open (stand_after c (with_last delivered bytes)).verdict)) [
   | inl still ↦ inl (record { none = goes-on c delivered bytes none (course-ends c delivered bytes sound ∙ open-ending _ still); rests = rests })
-  | inr ended ↦ inr (ends-with-last c delivered bytes (stand_after c (with_last delivered bytes)).verdict a none (course-ends c delivered bytes sound ∙ closed-ending _ ended) (record {
-    closed = ended;
-    ending = rests.follows.ending ∙ ap (λ (s : Stand). s.verdict) (rests-stand c (first_posts c (with_last delivered bytes)) a rests);
-    stand = rests-stand c (first_posts c (with_last delivered bytes)) a rests;
-    log = rests-log c (first_posts c (with_last delivered bytes)) a rests;
-    made = rests-made c (first_posts c (with_last delivered bytes)) a rests;
-  }))
+  | inr ended ↦ inr (ends-with-last c delivered bytes (stand_after c (with_last delivered bytes)).verdict a none (course-ends c delivered bytes sound
+      ∙ closed-ending _ ended) (record {
+        closed = ended;
+        ending = rests.follows.ending ∙ ap (λ (s : Stand). s.verdict) (rests-stand c (first_posts c (with_last delivered bytes)) a rests);
+        stand = rests-stand c (first_posts c (with_last delivered bytes)) a rests;
+        log = rests-log c (first_posts c (with_last delivered bytes)) a rests;
+        made = rests-made c (first_posts c (with_last delivered bytes)) a rests;
+      }))
 ]
 
 -- a string that changes no first post and shows no fault
-idle-agrees : (c : Configuration) (delivered : List (List ℕ)) (bytes : List ℕ) (a : Actor) → IsOpenAfter c delivered a → first_posts c (with_last delivered bytes) ≡ first_posts c delivered
+idle-agrees : (c : Configuration) (delivered : List (List ℕ)) (bytes : List ℕ) (a : Actor) → IsOpenAfter c delivered a
+    → first_posts c (with_last delivered bytes) ≡ first_posts c delivered
     → fault_shown c (first_posts c (with_last delivered bytes)) bytes ≡ None → Agrees c (with_last delivered bytes) a
 idle-agrees c delivered bytes a is same sound = rests-agrees c delivered bytes a is.none sound (subst (λ (o : Others). Rests c o a) (sym same) is.rests)
 
 -- one that changes none and shows a fault
-fault-agrees : (c : Configuration) (delivered : List (List ℕ)) (bytes : List ℕ) (a : Actor) (verdict : Verdict) → IsOpenAfter c delivered a → first_posts c (with_last delivered bytes) ≡ first_posts c delivered
-    → fault_shown c (first_posts c (with_last delivered bytes)) bytes ≡ Some verdict → is_open verdict ≡ false → Agrees c (with_last delivered bytes) (record a { ending = verdict })
+fault-agrees : (c : Configuration) (delivered : List (List ℕ)) (bytes : List ℕ) (a : Actor) (verdict : Verdict) → IsOpenAfter c delivered a
+    → first_posts c (with_last delivered bytes) ≡ first_posts c delivered
+    → fault_shown c (first_posts c (with_last delivered bytes)) bytes ≡ Some verdict → is_open verdict ≡ false
+    → Agrees c (with_last delivered bytes) (record a { ending = verdict })
 unfolding Agrees
 fault-agrees c delivered bytes a verdict is same shown closed =
     inr (ends-with-last c delivered bytes verdict (record a { ending = verdict }) is.none (fault-ends c delivered bytes verdict shown) (record {
@@ -123,24 +132,29 @@ fault-agrees c delivered bytes a verdict is same shown closed =
 -- ---- one delivery
 
 -- its log has just the first posts in the slots of others
-kept-first : (c : Configuration) (others : Others) (a : Actor) (slot : Slot) → Rests c others a → is_slot (shape_in c) slot.stage slot.sender ≡ true → (slot.sender == c.number) ≡ false → kept_in a.log slot ≡ others slot
+kept-first : (c : Configuration) (others : Others) (a : Actor) (slot : Slot) → Rests c others a → is_slot (shape_in c) slot.stage slot.sender ≡ true
+    → (slot.sender == c.number) ≡ false → kept_in a.log slot ≡ others slot
 unfolding log_with
 kept-first c others a slot rests speaks other =
     ap (λ (log : Log). kept_in log slot) rests.follows.log
     ∙ kept-place (shape_in c) (place_with c others a.stand rests.now) slot speaks
     ∙ cond-false (slot.sender == c.number) _ (others slot) other
 
-open-heard : (replies : Replies) (c : Configuration) (a : Actor) (bytes : List ℕ) (o : Option Verdict) → is_open a.ending ≡ true → fault_shown c (kept_in a.log) bytes ≡ o
+open-heard : (replies : Replies) (c : Configuration) (a : Actor) (bytes : List ℕ) (o : Option Verdict) → is_open a.ending ≡ true
+    → fault_shown c (kept_in a.log) bytes ≡ o
     → actor_behind_delivery replies c a bytes ≡ actor_behind_fault replies c a bytes o
 unfolding actor_behind_delivery
-open-heard replies c a bytes o still e = cond-true (is_open a.ending) (actor_behind_fault replies c a bytes (fault_shown c (kept_in a.log) bytes)) a still ∙ ap (actor_behind_fault replies c a bytes) e
+open-heard replies c a bytes o still e = cond-true (is_open a.ending) (actor_behind_fault replies c a bytes (fault_shown c (kept_in a.log) bytes)) a still
+    ∙ ap (actor_behind_fault replies c a bytes) e
 
 rests-open : (c : Configuration) (delivered : List (List ℕ)) (a : Actor) → IsOpenAfter c delivered a → is_open a.ending ≡ true
 rests-open c delivered a is =
-    ap is_open (is.rests.follows.ending ∙ ap (λ (s : Stand). s.verdict) (rests-stand c (first_posts c delivered) a is.rests)) ∙ none-open c delivered is.none
+    ap is_open (is.rests.follows.ending ∙ ap (λ (s : Stand). s.verdict) (rests-stand c (first_posts c delivered) a is.rests))
+    ∙ none-open c delivered is.none
 
 -- nothing is heard
-hears-nothing : (replies : Replies) (c : Configuration) (delivered : List (List ℕ)) (bytes : List ℕ) (a : Actor) → IsOpenAfter c delivered a → heard_of c bytes ≡ None → Agrees c (with_last delivered bytes) (actor_behind_delivery replies c a bytes)
+hears-nothing : (replies : Replies) (c : Configuration) (delivered : List (List ℕ)) (bytes : List ℕ) (a : Actor) → IsOpenAfter c delivered a
+    → heard_of c bytes ≡ None → Agrees c (with_last delivered bytes) (actor_behind_delivery replies c a bytes)
 unfolding post_given
 hears-nothing replies c delivered bytes a is nothing =
     subst (Agrees c (with_last delivered bytes)) (sym step) (idle-agrees c delivered bytes a is
@@ -150,7 +164,8 @@ hears-nothing replies c delivered bytes a is nothing =
     step = open-heard replies c a bytes None (rests-open c delivered a is) (fault-of c (kept_in a.log) bytes None nothing) ∙ ap (actor_behind_heard replies c a) nothing
 
 -- a body outside the grammar is heard
-hears-outside : (replies : Replies) (c : Configuration) (delivered : List (List ℕ)) (bytes : List ℕ) (a : Actor) (heard : Heard) → IsOpenAfter c delivered a → heard_of c bytes ≡ Some heard → is_ok heard.content ≡ false
+hears-outside : (replies : Replies) (c : Configuration) (delivered : List (List ℕ)) (bytes : List ℕ) (a : Actor) (heard : Heard)
+    → IsOpenAfter c delivered a → heard_of c bytes ≡ Some heard → is_ok heard.content ≡ false
     → Agrees c (with_last delivered bytes) (actor_behind_delivery replies c a bytes)
 hears-outside replies c delivered bytes a heard is e outside =
     let fault = fault-outside c (kept_in a.log) bytes heard outside in
@@ -161,16 +176,20 @@ hears-outside replies c delivered bytes a heard is e outside =
     (fault-of c (first_posts c (with_last delivered bytes)) bytes (Some heard) e ∙ fault.2 (first_posts c (with_last delivered bytes))) fault.1)
 
 -- a string for a slot that has a post gives no slot a new one
-full-same : (c : Configuration) (delivered : List (List ℕ)) (bytes : List ℕ) (heard : Heard) (kept : Post) → heard_of c bytes ≡ Some heard → first_posts c delivered (slot_named heard.header) ≡ Some kept
+full-same : (c : Configuration) (delivered : List (List ℕ)) (bytes : List ℕ) (heard : Heard) (kept : Post) → heard_of c bytes ≡ Some heard
+    → first_posts c delivered (slot_named heard.header) ≡ Some kept
     → first_posts c (with_last delivered bytes) ≡ first_posts c delivered
 full-same c delivered bytes heard kept e first =
     firsts-same c delivered bytes (λ slot none. given-elsewhere c slot bytes heard e (λ same. none-some kept (sym none ∙ ap (first_posts c delivered) same ∙ first)))
 
 -- a post is heard for a slot that has one
-hears-full : (replies : Replies) (c : Configuration) (delivered : List (List ℕ)) (bytes : List ℕ) (a : Actor) (heard : Heard) (kept : Post) → IsOpenAfter c delivered a → IsOfOther c heard
-    → heard_of c bytes ≡ Some heard → is_ok heard.content ≡ true → first_posts c delivered (slot_named heard.header) ≡ Some kept → Agrees c (with_last delivered bytes) (actor_behind_delivery replies c a bytes)
+hears-full : (replies : Replies) (c : Configuration) (delivered : List (List ℕ)) (bytes : List ℕ) (a : Actor) (heard : Heard) (kept : Post)
+    → IsOpenAfter c delivered a → IsOfOther c heard
+    → heard_of c bytes ≡ Some heard → is_ok heard.content ≡ true → first_posts c delivered (slot_named heard.header) ≡ Some kept
+    → Agrees c (with_last delivered bytes) (actor_behind_delivery replies c a bytes)
 hears-full replies c delivered bytes a heard kept is other e reads first = elim (contradiction-cases c bytes heard kept) [
-  | inl same ↦ subst (Agrees c (with_last delivered bytes)) (sym (step None same.1 ∙ ap (actor_behind_heard replies c a) e ∙ cond-true (is_some (kept_in a.log (slot_named heard.header))) a _ (ap is_some there)))
+  | inl same ↦ subst (Agrees c (with_last delivered bytes)) (sym (step None same.1 ∙ ap (actor_behind_heard replies c a) e
+      ∙ cond-true (is_some (kept_in a.log (slot_named heard.header))) a _ (ap is_some there)))
       (idle-agrees c delivered bytes a is posts (shown (first_posts c (with_last delivered bytes)) here ∙ same.1))
   | inr fault ↦ subst (Agrees c (with_last delivered bytes)) (sym (step (Some fault.0) fault.2))
       (fault-agrees c delivered bytes a fault.0 is posts (shown (first_posts c (with_last delivered bytes)) here ∙ fault.2) fault.1)
@@ -188,11 +207,13 @@ hears-full replies c delivered bytes a heard kept is other e reads first = elim 
     shown : (firsts : Others) → firsts (slot_named heard.header) ≡ Some kept → fault_shown c firsts bytes ≡ contradiction_with c bytes heard kept
     shown firsts has = fault-of c firsts bytes (Some heard) e ∙ fault-inside c firsts bytes heard reads ∙ contradiction-full c firsts bytes heard kept has
 
-    step : (o : Option Verdict) → contradiction_with c bytes heard kept ≡ o → actor_behind_delivery replies c a bytes ≡ actor_behind_fault replies c a bytes o
+    step : (o : Option Verdict) → contradiction_with c bytes heard kept ≡ o
+        → actor_behind_delivery replies c a bytes ≡ actor_behind_fault replies c a bytes o
     step o shows = open-heard replies c a bytes o (rests-open c delivered a is) (shown (kept_in a.log) there ∙ shows)
 
 -- a plain member has put nothing off
-repeat-plain : (replies : Replies) (c : Configuration) (a : Actor) (mood : Mood) (now : Bool) → mood ≡ mood_when now → actor_behind_repeat replies c a mood ≡ a
+repeat-plain : (replies : Replies) (c : Configuration) (a : Actor) (mood : Mood) (now : Bool) → mood ≡ mood_when now
+    → actor_behind_repeat replies c a mood ≡ a
 repeat-plain replies c a mood true e = ap (actor_behind_repeat replies c a) e
 repeat-plain replies c a mood false e = ap (actor_behind_repeat replies c a) e
 
@@ -213,20 +234,24 @@ at-most c others (suc stages) stand = elim (cases_Some (next_stand c others stan
 ]
 
 -- with the new post it is where it was, in the course with that post
-heard-follows : (c : Configuration) (others more : Others) (a : Actor) (heard : Heard) → Rests c others a → IsOfOther c heard → IsContained others more → more (slot_named heard.header) ≡ Some heard.post
-    → ((slot : Slot) → slot ≢ slot_named heard.header → others slot ≡ more slot) → (stages : ℕ) × ((now : Bool) × Follows c more now stages (actor_with_heard a heard))
+heard-follows : (c : Configuration) (others more : Others) (a : Actor) (heard : Heard) → Rests c others a → IsOfOther c heard
+    → IsContained others more → more (slot_named heard.header) ≡ Some heard.post
+    → ((slot : Slot) → slot ≢ slot_named heard.header → others slot ≡ more slot)
+    → (stages : ℕ) × ((now : Bool) × Follows c more now stages (actor_with_heard a heard))
 heard-follows c others more a heard rests other contained here same =
     let f = rests.follows in
     let through = course-grows c others more rests.stages first_stand contained in
     let at : a.stand ≡ course_from c more through.count first_stand =
-    f.stand ∙ sym (course-zero c more (course_from c others rests.stages first_stand)) ∙ sym (through.goes_on 0) ∙ (let none : through.count + 0 ≡ through.count = omega arith in ap (λ (k : ℕ). course_from c more k first_stand) none) in (
+    f.stand ∙ sym (course-zero c more (course_from c others rests.stages first_stand)) ∙ sym (through.goes_on 0)
+    ∙ (let none : through.count + 0 ≡ through.count = omega arith in ap (λ (k : ℕ). course_from c more k first_stand) none) in (
       through.count,
       (
         rests.now,
         record {
           stand = at;
           at = (let most = at-most c more through.count first_stand in let count = through.most in let was = f.at in let is_at = ap (λ (s : Stand). s.at) at in omega (arith, is_at));
-          log = ap (λ (log : Log). filled log (slot_named heard.header) heard.post) f.log ∙ keeps-log c others more a.stand rests.now (slot_named heard.header) heard.post other.speaks other.other here same;
+          log = ap (λ (log : Log). filled log (slot_named heard.header) heard.post) f.log
+              ∙ keeps-log c others more a.stand rests.now (slot_named heard.header) heard.post other.speaks other.other here same;
           made = f.made;
           mood = f.mood;
           ending = f.ending;
@@ -236,8 +261,10 @@ heard-follows c others more a heard rests other contained here same =
     )
 
 -- a post is heard for an empty slot
-hears-new : (replies : Replies) (c : Configuration) (delivered : List (List ℕ)) (bytes : List ℕ) (a : Actor) (heard : Heard) → IsPlain replies → SaysGrammar c (first_posts c (with_last delivered bytes))
-    → IsOpenAfter c delivered a → IsOfOther c heard → heard_of c bytes ≡ Some heard → is_ok heard.content ≡ true → first_posts c delivered (slot_named heard.header) ≡ None
+hears-new : (replies : Replies) (c : Configuration) (delivered : List (List ℕ)) (bytes : List ℕ) (a : Actor) (heard : Heard) → IsPlain replies
+    → SaysGrammar c (first_posts c (with_last delivered bytes))
+    → IsOpenAfter c delivered a → IsOfOther c heard → heard_of c bytes ≡ Some heard → is_ok heard.content ≡ true
+    → first_posts c delivered (slot_named heard.header) ≡ None
     → Agrees c (with_last delivered bytes) (actor_behind_delivery replies c a bytes)
 hears-new replies c delivered bytes a heard plain grammar is other e reads empty =
     subst (Agrees c (with_last delivered bytes)) (sym step) (rests-agrees c delivered bytes (actor_behind_steps replies c (actor_with_heard a heard)) is.none sound
@@ -266,7 +293,8 @@ hears-new replies c delivered bytes a heard plain grammar is other e reads empty
     nothing = kept-first c (first_posts c delivered) a slot is.rests other.speaks other.other ∙ empty
 
     sound : fault_shown c more bytes ≡ None
-    sound = fault-of c more bytes (Some heard) e ∙ fault-inside c more bytes heard reads ∙ contradiction-full c more bytes heard heard.post here ∙ contradiction-same c bytes heard heard.post refl
+    sound = fault-of c more bytes (Some heard) e ∙ fault-inside c more bytes heard reads ∙ contradiction-full c more bytes heard heard.post here
+        ∙ contradiction-same c bytes heard heard.post refl
 
     quiet : fault_shown c (kept_in a.log) bytes ≡ None
     quiet = fault-of c (kept_in a.log) bytes (Some heard) e ∙ fault-inside c (kept_in a.log) bytes heard reads ∙ contradiction-empty c (kept_in a.log) bytes heard nothing
@@ -280,7 +308,8 @@ hears-new replies c delivered bytes a heard plain grammar is other e reads empty
 -- ---- after the end
 
 -- nothing happens any more
-ended-agrees : (replies : Replies) (c : Configuration) (delivered : List (List ℕ)) (bytes : List ℕ) (a : Actor) → IsEndedAfter c delivered a → Agrees c (with_last delivered bytes) (actor_behind_delivery replies c a bytes)
+ended-agrees : (replies : Replies) (c : Configuration) (delivered : List (List ℕ)) (bytes : List ℕ) (a : Actor) → IsEndedAfter c delivered a
+    → Agrees c (with_last delivered bytes) (actor_behind_delivery replies c a bytes)
 unfolding Agrees actor_behind_delivery
 ended-agrees replies c delivered bytes a is =
     let within = is.within in
@@ -294,7 +323,8 @@ ended-agrees replies c delivered bytes a is =
 
 -- ---- every delivery
 
-pub delivery-keeps : (replies : Replies) (c : Configuration) (delivered : List (List ℕ)) (bytes : List ℕ) (a : Actor) → IsPlain replies → IsBytes bytes → SaysGrammar c (first_posts c (with_last delivered bytes))
+pub delivery-keeps : (replies : Replies) (c : Configuration) (delivered : List (List ℕ)) (bytes : List ℕ) (a : Actor) → IsPlain replies
+    → IsBytes bytes → SaysGrammar c (first_posts c (with_last delivered bytes))
     → Agrees c delivered a → Agrees c (with_last delivered bytes) (actor_behind_delivery replies c a bytes)
 unfolding Agrees
 delivery-keeps replies c delivered bytes a plain are grammar (inr is) = ended-agrees replies c delivered bytes a is

@@ -20,7 +20,8 @@ passing-sum : (f : ℕ → ℕ) (p : ℕ → Bool) (xs : List ℕ) → sum_by f 
 passing-sum f p [] = refl
 passing-sum f p (x ∷ xs) = by_first (p x) (passing-sum f p xs) ∙ sym (sum_by-cons (λ y. if p y then f y else 0) x xs)
   where
-    by_first : (b : Bool) → sum_by f (filter p xs) ≡ sum_by (λ y. if p y then f y else 0) xs → sum_by f (if b then x ∷ filter p xs else filter p xs) ≡ (if b then f x else 0) + sum_by (λ y. if p y then f y else 0) xs
+    by_first : (b : Bool) → sum_by f (filter p xs) ≡ sum_by (λ y. if p y then f y else 0) xs
+        → sum_by f (if b then x ∷ filter p xs else filter p xs) ≡ (if b then f x else 0) + sum_by (λ y. if p y then f y else 0) xs
     by_first true rest = sum_by-cons f x (filter p xs) ∙ ap (λ (n : ℕ). f x + n) rest
     by_first false rest = rest ∙ sym (let none : 0 + sum_by (λ y. if p y then f y else 0) xs ≡ sum_by (λ y. if p y then f y else 0) xs = omega arith in none)
 
@@ -55,9 +56,11 @@ silent-bit log stage member silent =
 by-sum : (log : Log) (stage : ℕ) (xs : List ℕ) → bits_of (filter (is_missing log stage) xs) ≡ sum_by (missing_bit log stage) xs
 by-sum log stage xs = passing-sum (λ member. 2 ^ (member - 1)) (is_missing log stage) xs
 
-turn-bits : (log : Log) (stage shuffle k : ℕ) → kind_of_stage log.shape stage ≡ Some (Shuffle shuffle k) → bits_of (filter (is_missing log stage) (k ∷ [])) ≡ missing_bits log stage
+turn-bits : (log : Log) (stage shuffle k : ℕ) → kind_of_stage log.shape stage ≡ Some (Shuffle shuffle k)
+    → bits_of (filter (is_missing log stage) (k ∷ [])) ≡ missing_bits log stage
 turn-bits log stage shuffle k e =
-    by-sum log stage (k ∷ []) ∙ sum_by-cons (missing_bit log stage) k [] ∙ (let none : missing_bit log stage k + 0 ≡ missing_bit log stage k = omega arith in none)
+    by-sum log stage (k ∷ []) ∙ sum_by-cons (missing_bit log stage) k []
+    ∙ (let none : missing_bit log stage k + 0 ≡ missing_bit log stage k = omega arith in none)
     ∙ sym (range-single (missing_bit log stage) k 1 log.shape.members others within.1 (let most = within.2 in omega arith))
   where
     speaks_at : (member : ℕ) → is_slot log.shape stage member ≡ nat_eq member k
@@ -70,7 +73,8 @@ turn-bits log stage shuffle k e =
     others m apart = silent-bit log stage m (speaks_at m ∙ false_from_ne_true (nat_eq m k) (λ same. apart (eqb-true m k same)))
 
 -- the bits of those whose posts are missing among the senders of a stage are all bits of the stage
-pub bits-missing : (log : Log) (stage : ℕ) → bits_of (filter (is_missing log stage) (option_map_or (senders_in log.shape) (kind_of_stage log.shape stage) [])) ≡ missing_bits log stage
+pub bits-missing : (log : Log) (stage : ℕ)
+    → bits_of (filter (is_missing log stage) (option_map_or (senders_in log.shape) (kind_of_stage log.shape stage) [])) ≡ missing_bits log stage
 bits-missing log stage = by_kind (kind_of_stage log.shape stage) refl
   where
     chosen : (o : Option StageKind) → kind_of_stage log.shape stage ≡ o
@@ -80,8 +84,10 @@ bits-missing log stage = by_kind (kind_of_stage log.shape stage) refl
     all : bits_of (filter (is_missing log stage) (range_with_len 1 log.shape.members)) ≡ missing_bits log stage
     all = by-sum log stage (range_with_len 1 log.shape.members)
 
-    by_kind : (o : Option StageKind) → kind_of_stage log.shape stage ≡ o → bits_of (filter (is_missing log stage) (option_map_or (senders_in log.shape) (kind_of_stage log.shape stage) [])) ≡ missing_bits log stage
-    by_kind None e = chosen None e ∙ sym (range-none (missing_bit log stage) 1 log.shape.members (λ m le. silent-bit log stage m (ap (λ (o : Option StageKind). speaks log.shape o m) e)))
+    by_kind : (o : Option StageKind) → kind_of_stage log.shape stage ≡ o
+        → bits_of (filter (is_missing log stage) (option_map_or (senders_in log.shape) (kind_of_stage log.shape stage) [])) ≡ missing_bits log stage
+    by_kind None e = chosen None e
+        ∙ sym (range-none (missing_bit log stage) 1 log.shape.members (λ m le. silent-bit log stage m (ap (λ (o : Option StageKind). speaks log.shape o m) e)))
     by_kind (Some (Shuffle shuffle k)) e = chosen (Some (Shuffle shuffle k)) e ∙ turn-bits log stage shuffle k e
     by_kind (Some Keys) e = chosen (Some Keys) e ∙ all
     by_kind (Some (Submit shuffle)) e = chosen (Some (Submit shuffle)) e ∙ all

@@ -58,11 +58,13 @@ counts-one p f k a (suc n) only = by_first (f a) refl (counts-one p f k (a + 1) 
     by_value : (y : Post) → f a ≡ Some y → CountsOne p f k (a + 1) n → (p y ≡ true) ⊎ (p y ≡ false) → CountsOne p f k a (suc n)
     by_value y e later (inl counted) =
         let here : a ≡ k = only a y e counted in
-        let whole : count_by p (filter_map f (range_with_len a (suc n))) ≡ 1 + count_by p rest = ap (λ (o : Option Post). count_by p (cons_option o rest)) e ∙ count-cons p y rest ∙ ap (λ (b : Bool). cond b 1 0 + count_by p rest) counted in
+        let whole : count_by p (filter_map f (range_with_len a (suc n))) ≡ 1 + count_by p rest = ap (λ (o : Option Post). count_by p (cons_option o rest)) e
+        ∙ count-cons p y rest ∙ ap (λ (b : Bool). cond b 1 0 + count_by p rest) counted in
         let nothing : count_by p rest ≡ 0 = later.none (omega (arith, here)) in
         record { none = λ lt. absurd (omega (arith, here)); most = omega (arith, whole, nothing) }
     by_value y e later (inr not_counted) =
-        let whole : count_by p (filter_map f (range_with_len a (suc n))) ≡ 0 + count_by p rest = ap (λ (o : Option Post). count_by p (cons_option o rest)) e ∙ count-cons p y rest ∙ ap (λ (b : Bool). cond b 1 0 + count_by p rest) not_counted in
+        let whole : count_by p (filter_map f (range_with_len a (suc n))) ≡ 0 + count_by p rest = ap (λ (o : Option Post). count_by p (cons_option o rest)) e
+        ∙ count-cons p y rest ∙ ap (λ (b : Bool). cond b 1 0 + count_by p rest) not_counted in
         let most = later.most in
         record { none = λ lt. (let nothing = later.none (omega arith) in omega (arith, whole, nothing)); most = omega (arith, whole) }
 
@@ -87,7 +89,8 @@ own-at c stand stage post e = elim (cases_Bool (has_spoken c stand stage)) [
     told_same : (x y : Post) → (let told : Post → Option Post = λ z. Some z in told x ≡ told y) → x ≡ y
     told_same x y e = cc
 
-own-end : (c : Configuration) (past : List Post) (stage shuffle : ℕ) → c.round < 2 ^ 64 → is_end c shuffle (own_post c past stage) ≡ true → stage ≡ final_stage (shape_in c) shuffle
+own-end : (c : Configuration) (past : List Post) (stage shuffle : ℕ) → c.round < 2 ^ 64 → is_end c shuffle (own_post c past stage) ≡ true
+    → stage ≡ final_stage (shape_in c) shuffle
 unfolding own_post
 own-end c past stage shuffle small e =
     eqb-true stage (final_stage (shape_in c) shuffle) (sym (ap (ends_shuffle c shuffle) (own-header c past stage small)) ∙ e)
@@ -101,7 +104,8 @@ ends-at-most-once c stand shuffle small =
 -- ---- one of the seeds
 
 -- an end of a shuffle shows the inner seed, or the outer seed and opening
-end-shows : (c : Configuration) (own : List ℕ) (past : List Post) (stage shuffle : ℕ) → ShowsOneSeed c shuffle (own_body_if c own past stage (Some (Final shuffle)))
+end-shows : (c : Configuration) (own : List ℕ) (past : List Post) (stage shuffle : ℕ)
+    → ShowsOneSeed c shuffle (own_body_if c own past stage (Some (Final shuffle)))
 unfolding final_row
 end-shows c own past stage shuffle = by_votes (votes_agree (shape_in c) (contents_of past) stage)
   where
@@ -115,7 +119,8 @@ content-same : (a b : Content) (r : Result Content Offence) → r ≡ Ok a → r
 content-same a b r e e' = let both = sym e ∙ e' in cc
 
 -- what is read of an own post is what the member had to say
-own-is-read : (c : Configuration) (stage : ℕ) (past : List Post) → CanSay c stage past → content_read (shape_in c) (own_post c past stage).content ≡ Ok (content_due c past stage)
+own-is-read : (c : Configuration) (stage : ℕ) (past : List Post) → CanSay c stage past
+    → content_read (shape_in c) (own_post c past stage).content ≡ Ok (content_due c past stage)
 unfolding own_post own_content
 own-is-read c stage past can = content-is_read (shape_in c) (content_due c past stage) (own_row_of_grammar c stage past can)
 
@@ -123,11 +128,13 @@ due-header : (c : Configuration) (past : List Post) (stage : ℕ) → (content_d
 unfolding content_with
 due-header c past stage = refl
 
-due-body : (c : Configuration) (past : List Post) (stage : ℕ) → (content_due c past stage).body ≡ own_body_if c (own_descriptor c (contents_of past)) past stage (kind_of_stage (shape_in c) stage)
+due-body : (c : Configuration) (past : List Post) (stage : ℕ)
+    → (content_due c past stage).body ≡ own_body_if c (own_descriptor c (contents_of past)) past stage (kind_of_stage (shape_in c) stage)
 unfolding content_with
 due-body c past stage = refl
 
-own-shows : (c : Configuration) (stage shuffle : ℕ) (past : List Post) (content : Content) → CanSay c stage past → content_read (shape_in c) (own_post c past stage).content ≡ Ok content
+own-shows : (c : Configuration) (stage shuffle : ℕ) (past : List Post) (content : Content) → CanSay c stage past
+    → content_read (shape_in c) (own_post c past stage).content ≡ Ok content
     → kind_of_stage (shape_in c) content.header.stage ≡ Some (Final shuffle) → ShowsOneSeed c shuffle content.body
 own-shows c stage shuffle past content can reads kind =
     let same : content_due c past stage ≡ content = content-same (content_due c past stage) content (content_read (shape_in c) (own_post c past stage).content) (own-is-read c stage past can) reads in
@@ -140,7 +147,8 @@ own-shows c stage shuffle past content can reads kind =
 -- ---- the pasts of own posts
 
 -- what stands in the past of a course is what its log keeps
-kept-past : (c : Configuration) (others : Others) (number : ℕ) (slot : Slot) (post : Post) → slot_at (shape_in c) number ≡ Some slot → slot.stage < (course_of c others).at
+kept-past : (c : Configuration) (others : Others) (number : ℕ) (slot : Slot) (post : Post) → slot_at (shape_in c) number ≡ Some slot
+    → slot.stage < (course_of c others).at
     → slice_get (course_of c others).past number ≡ Some post → kept_in (settled_log c others) slot ≡ Some post
 unfolding post_settled
 kept-past c others number slot post at lt there =
@@ -155,7 +163,8 @@ kept-past c others number slot post at lt there =
     due : post_due c others stand.past slot.stage slot.sender ≡ Some post
     due = sym ((reached-end c others).posts slot.stage slot.sender speaks lt) ∙ ap (slice_get stand.past) (slot_at-is (shape_in c) number slot at).1 ∙ there
 
-    by_sender : ((slot.sender == c.number) ≡ true) ⊎ ((slot.sender == c.number) ≡ false) → (if slot.sender == c.number then own_post_at c (course_of c others) slot.stage else others slot) ≡ Some post
+    by_sender : ((slot.sender == c.number) ≡ true) ⊎ ((slot.sender == c.number) ≡ false)
+        → (if slot.sender == c.number then own_post_at c (course_of c others) slot.stage else others slot) ≡ Some post
     by_sender (inl own) =
         let speaks_own : is_slot (shape_in c) slot.stage c.number ≡ true = sym (ap (λ (s : ℕ). is_slot (shape_in c) slot.stage s) (eqb-true slot.sender c.number own)) ∙ speaks in
         let said : has_spoken c stand slot.stage ≡ true = and_from _ _ speaks_own (or_left (nat_lt slot.stage stand.at) _ (lt-ltb slot.stage stand.at lt)) in
@@ -167,7 +176,8 @@ kept-past c others number slot post at lt there =
         ∙ sym (cond-false (slot.sender == c.number) (Some (own_post c (posts_before_stage c stand slot.stage) slot.stage)) (others slot) other) ∙ due
 
 -- so each front of it is a past of posts that check
-past-checks : (c : Configuration) (others : Others) (stage : ℕ) → HonestRun (settled_run c others) → stage ≤ (course_of c others).at → IsPastAt c stage (posts_before_stage c (course_of c others) stage)
+past-checks : (c : Configuration) (others : Others) (stage : ℕ) → HonestRun (settled_run c others) → stage ≤ (course_of c others).at
+    → IsPastAt c stage (posts_before_stage c (course_of c others) stage)
 past-checks c others stage honest le = record {
   whole = length-take-le (slots_before (shape_in c) stage) (course_of c others).past (omega (arith, rises, is.whole));
   checks = λ number slot post at there. (
@@ -182,7 +192,8 @@ past-checks c others stage honest le = record {
     rises : slots_before (shape_in c) stage ≤ slots_before (shape_in c) (course_of c others).at
     rises = slots_before-rises (shape_in c) stage (course_of c others).at le
 
-    earlier : (number : ℕ) (slot : Slot) → slot_at (shape_in c) number ≡ Some slot → number < slots_before (shape_in c) stage → slot.stage < (course_of c others).at
+    earlier : (number : ℕ) (slot : Slot) → slot_at (shape_in c) number ≡ Some slot → number < slots_before (shape_in c) stage
+        → slot.stage < (course_of c others).at
     earlier number slot at lt =
         let there = slot_at-is (shape_in c) number slot at in
         let first = (slot_number-within (shape_in c) slot.stage slot.sender there.0).0 in
@@ -194,7 +205,8 @@ past-checks c others stage honest le = record {
 
 -- ---- all own posts
 
-pub own-ends : (c : Configuration) (others : Others) (shuffle : ℕ) → IsConfiguration c → HonestRun (settled_run c others) → EndsOnce c (own_posts c (course_of c others)) shuffle
+pub own-ends : (c : Configuration) (others : Others) (shuffle : ℕ) → IsConfiguration c → HonestRun (settled_run c others)
+    → EndsOnce c (own_posts c (course_of c others)) shuffle
 unfolding own_posts
 own-ends c others shuffle is honest = record {
   single = ends-at-most-once c stand shuffle is.widths.round;

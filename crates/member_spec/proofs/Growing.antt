@@ -77,7 +77,8 @@ heard-post-grows replies c a (Some heard) =
     (further a kept (actor_behind_steps replies c again) (same a kept refl)
     (further kept again (actor_behind_steps replies c again) (repeat-grows replies c kept a.mood) (steps-grow replies c (2 * stage_count (shape_in c)) again)))
 
-fault-grows : (replies : Replies) (c : Configuration) (a : Actor) (bytes : List ℕ) (o : Option Verdict) → Grows a (actor_behind_fault replies c a bytes o)
+fault-grows : (replies : Replies) (c : Configuration) (a : Actor) (bytes : List ℕ) (o : Option Verdict)
+    → Grows a (actor_behind_fault replies c a bytes o)
 fault-grows replies c a bytes (Some verdict) = same a _ refl
 fault-grows replies c a bytes None = heard-post-grows replies c a (heard_of c bytes)
 

@@ -71,7 +71,8 @@ heard-other c bytes heard are e =
 -- ---- what it gives
 
 -- to its own slot it gives its post, if the body is in the grammar
-pub given-here : (c : Configuration) (bytes : List ℕ) (heard : Heard) → heard_of c bytes ≡ Some heard → is_ok heard.content ≡ true → post_given c (slot_named heard.header) bytes ≡ Some heard.post
+pub given-here : (c : Configuration) (bytes : List ℕ) (heard : Heard) → heard_of c bytes ≡ Some heard → is_ok heard.content ≡ true
+    → post_given c (slot_named heard.header) bytes ≡ Some heard.post
 unfolding post_given
 given-here c bytes heard e reads =
     ap (option_and_then (heard_in (slot_named heard.header))) e
@@ -79,28 +80,32 @@ given-here c bytes heard e reads =
     (and_from _ _ (and_from _ _ (eq-eqb heard.header.stage heard.header.stage refl) (eq-eqb heard.header.sender heard.header.sender refl)) reads)
 
 -- to another slot it gives nothing
-pub given-elsewhere : (c : Configuration) (slot : Slot) (bytes : List ℕ) (heard : Heard) → heard_of c bytes ≡ Some heard → slot ≢ slot_named heard.header → post_given c slot bytes ≡ None
+pub given-elsewhere : (c : Configuration) (slot : Slot) (bytes : List ℕ) (heard : Heard) → heard_of c bytes ≡ Some heard
+    → slot ≢ slot_named heard.header → post_given c slot bytes ≡ None
 unfolding post_given
 given-elsewhere c slot bytes heard e apart =
     ap (option_and_then (heard_in slot)) e
     ∙ ap (λ (b : Bool). if b && is_ok heard.content then Some heard.post else None) (false_from_ne_true (names_slot slot heard.header) (λ named. apart (names-is slot heard.header named)))
 
 -- where the body is outside the grammar it gives nothing at all
-pub given-nothing : (c : Configuration) (slot : Slot) (bytes : List ℕ) (heard : Heard) → heard_of c bytes ≡ Some heard → is_ok heard.content ≡ false → post_given c slot bytes ≡ None
+pub given-nothing : (c : Configuration) (slot : Slot) (bytes : List ℕ) (heard : Heard) → heard_of c bytes ≡ Some heard → is_ok heard.content ≡ false
+    → post_given c slot bytes ≡ None
 unfolding post_given
 given-nothing c slot bytes heard e outside =
     ap (option_and_then (heard_in slot)) e
     ∙ cond-false (names_slot slot heard.header && is_ok heard.content) (Some heard.post) None (false_from_ne_true _ (λ both. (let reads = (and_parts (names_slot slot heard.header) (is_ok heard.content) both).1 in let no = sym reads ∙ outside in cc)))
 
 -- first posts that get nothing new are the same
-pub firsts-same : (c : Configuration) (delivered : List (List ℕ)) (bytes : List ℕ) → ((slot : Slot) → first_posts c delivered slot ≡ None → post_given c slot bytes ≡ None)
+pub firsts-same : (c : Configuration) (delivered : List (List ℕ)) (bytes : List ℕ)
+    → ((slot : Slot) → first_posts c delivered slot ≡ None → post_given c slot bytes ≡ None)
     → first_posts c (with_last delivered bytes) ≡ first_posts c delivered
 firsts-same c delivered bytes nothing = same-function (first_posts c (with_last delivered bytes)) (first_posts c delivered) (λ slot. by_first slot (first_posts c delivered slot) refl)
   where
     same-function : (f g : Others) → ((slot : Slot) → f slot ≡ g slot) → f ≡ g
     same-function f g each = λ i slot. each slot i
 
-    by_first : (slot : Slot) (o : Option Post) → first_posts c delivered slot ≡ o → first_posts c (with_last delivered bytes) slot ≡ first_posts c delivered slot
+    by_first : (slot : Slot) (o : Option Post) → first_posts c delivered slot ≡ o
+        → first_posts c (with_last delivered bytes) slot ≡ first_posts c delivered slot
     by_first slot (Some post) e = (first-posts-grow c delivered bytes slot).stays post e ∙ sym e
     by_first slot None e = (first-posts-grow c delivered bytes slot).comes e ∙ nothing slot e ∙ sym e
 
@@ -110,7 +115,8 @@ firsts-same c delivered bytes nothing = same-function (first_posts c (with_last 
 abbrev pub faults_with : Configuration → Others → List ℕ → Heard → Option Verdict
 faults_with c firsts bytes heard = first_some (malformed_conviction c bytes heard ∷ contradiction c firsts bytes heard ∷ [])
 
-pub fault-of : (c : Configuration) (firsts : Others) (bytes : List ℕ) (o : Option Heard) → heard_of c bytes ≡ o → fault_shown c firsts bytes ≡ option_and_then (faults_with c firsts bytes) o
+pub fault-of : (c : Configuration) (firsts : Others) (bytes : List ℕ) (o : Option Heard) → heard_of c bytes ≡ o
+    → fault_shown c firsts bytes ≡ option_and_then (faults_with c firsts bytes) o
 fault-of c firsts bytes o e = ap (option_and_then (faults_with c firsts bytes)) e
 
 -- outside the grammar it convicts as malformed
@@ -124,22 +130,26 @@ fault-outside c firsts bytes heard outside =
 pub fault-inside : (c : Configuration) (firsts : Others) (bytes : List ℕ) (heard : Heard) → is_ok heard.content ≡ true
     → faults_with c firsts bytes heard ≡ contradiction c firsts bytes heard
 fault-inside c firsts bytes heard reads =
-    first_some-none (malformed_conviction c bytes heard) (contradiction c firsts bytes heard ∷ []) (cond-true (is_ok heard.content) None _ reads) ∙ first_some-one (contradiction c firsts bytes heard)
+    first_some-none (malformed_conviction c bytes heard) (contradiction c firsts bytes heard ∷ []) (cond-true (is_ok heard.content) None _ reads)
+    ∙ first_some-one (contradiction c firsts bytes heard)
   where
     first_some-one : (o : Option Verdict) → first_some (o ∷ []) ≡ o
     first_some-one None = refl
     first_some-one (Some x) = refl
 
 -- no contradiction where the slot has nothing
-pub contradiction-empty : (c : Configuration) (firsts : Others) (bytes : List ℕ) (heard : Heard) → firsts (slot_named heard.header) ≡ None → contradiction c firsts bytes heard ≡ None
+pub contradiction-empty : (c : Configuration) (firsts : Others) (bytes : List ℕ) (heard : Heard) → firsts (slot_named heard.header) ≡ None
+    → contradiction c firsts bytes heard ≡ None
 contradiction-empty c firsts bytes heard e = ap (option_and_then (contradiction_with c bytes heard)) e
 
 -- nor where it has this content; another one convicts
-pub contradiction-full : (c : Configuration) (firsts : Others) (bytes : List ℕ) (heard : Heard) (post : Post) → firsts (slot_named heard.header) ≡ Some post
+pub contradiction-full : (c : Configuration) (firsts : Others) (bytes : List ℕ) (heard : Heard) (post : Post)
+    → firsts (slot_named heard.header) ≡ Some post
     → contradiction c firsts bytes heard ≡ contradiction_with c bytes heard post
 contradiction-full c firsts bytes heard post e = ap (option_and_then (contradiction_with c bytes heard)) e
 
-pub contradiction-same : (c : Configuration) (bytes : List ℕ) (heard : Heard) (post : Post) → post.content ≡ heard.post.content → contradiction_with c bytes heard post ≡ None
+pub contradiction-same : (c : Configuration) (bytes : List ℕ) (heard : Heard) (post : Post) → post.content ≡ heard.post.content
+    → contradiction_with c bytes heard post ≡ None
 contradiction-same c bytes heard post same = cond-true (bytes_eq post.content heard.post.content) None _ ((bytes_eq-Decides post.content heard.post.content).1 same)
 
 pub contradiction-cases : (c : Configuration) (bytes : List ℕ) (heard : Heard) (post : Post)

@@ -54,7 +54,8 @@ get-set (z ∷ xs) (suc k) zero y x e = inl e
 get-set (z ∷ xs) (suc k) (suc i) y x e = get-set xs k i y x e
 
 -- where a slot was filled, a kept post is one from before, or the new one
-kept-filled : (log : Log) (slot other : Slot) (post kept : Post) → kept_in (filled log slot post) other ≡ Some kept → (kept_in log other ≡ Some kept) ⊎ (kept ≡ post)
+kept-filled : (log : Log) (slot other : Slot) (post kept : Post) → kept_in (filled log slot post) other ≡ Some kept
+    → (kept_in log other ≡ Some kept) ⊎ (kept ≡ post)
 kept-filled log slot other post kept e = elim (cases_Bool (is_slot log.shape other.stage other.sender)) [
   | inr silent ↦ absurd (none-some kept (sym (cond-false (is_slot log.shape other.stage other.sender) _ None silent) ∙ e))
   | inl speaks ↦
@@ -70,7 +71,8 @@ kept-filled log slot other post kept e = elim (cases_Bool (is_slot log.shape oth
     told_same : (x y : Post) → (let told : Post → Option Post = λ z. Some z in told x ≡ told y) → x ≡ y
     told_same x y e = cc
 
-filled-read : (c : Configuration) (log : Log) (slot : Slot) (post : Post) → is_ok (content_read (shape_in c) post.content) ≡ true → KeepsRead c log → KeepsRead c (filled log slot post)
+filled-read : (c : Configuration) (log : Log) (slot : Slot) (post : Post) → is_ok (content_read (shape_in c) post.content) ≡ true → KeepsRead c log
+    → KeepsRead c (filled log slot post)
 unfolding KeepsRead
 filled-read c log slot post reads keeps other kept e = elim (kept-filled log slot other post kept e) [
   | inl old ↦ keeps other kept old
@@ -94,7 +96,8 @@ empty-read c slot post e = elim (cases_Bool (is_slot (shape_in c) slot.stage slo
 post-read : (c : Configuration) (a : Actor) (post : Post) → KeepsRead c a.log → KeepsRead c (actor_behind_post c a post).log
 post-read c a post keeps = by_read (cases_Bool (is_ok (content_read (shape_in c) post.content)))
   where
-    by_read : (is_ok (content_read (shape_in c) post.content) ≡ true) ⊎ (is_ok (content_read (shape_in c) post.content) ≡ false) → KeepsRead c (actor_behind_post c a post).log
+    by_read : (is_ok (content_read (shape_in c) post.content) ≡ true) ⊎ (is_ok (content_read (shape_in c) post.content) ≡ false)
+        → KeepsRead c (actor_behind_post c a post).log
     by_read (inl reads) = subst (KeepsRead c) (sym (ap (λ (x : Actor). x.log) (cond-true (is_ok (content_read (shape_in c) post.content)) _ _ reads)))
         (filled-read c a.log (record { stage = a.stand.at; sender = c.number }) post reads keeps)
     by_read (inr outside) = subst (KeepsRead c) (sym (ap (λ (x : Actor). x.log) (cond-false (is_ok (content_read (shape_in c) post.content)) _ _ outside))) keeps
@@ -116,15 +119,18 @@ step-read replies c a keeps = by_open (cases_Bool (is_open a.ending))
     by_posts (Some posts) = keeps
     by_posts None = by_due (cases_Bool (is_due c a.stand a.mood))
 
-    by_open : (is_open a.ending ≡ true) ⊎ (is_open a.ending ≡ false) → KeepsRead c (if is_open a.ending then actor_behind_step_with replies c a (stage_posts c a) else a).log
+    by_open : (is_open a.ending ≡ true) ⊎ (is_open a.ending ≡ false)
+        → KeepsRead c (if is_open a.ending then actor_behind_step_with replies c a (stage_posts c a) else a).log
     by_open (inl still) = subst (KeepsRead c) (sym (ap (λ (x : Actor). x.log) (cond-true (is_open a.ending) (actor_behind_step_with replies c a (stage_posts c a)) a still))) (by_posts (stage_posts c a))
     by_open (inr ended) = subst (KeepsRead c) (sym (ap (λ (x : Actor). x.log) (cond-false (is_open a.ending) (actor_behind_step_with replies c a (stage_posts c a)) a ended))) keeps
 
-steps-read : (replies : Replies) (c : Configuration) (n : ℕ) (a : Actor) → KeepsRead c a.log → KeepsRead c (iterate (actor_behind_step replies c) n a).log
+steps-read : (replies : Replies) (c : Configuration) (n : ℕ) (a : Actor) → KeepsRead c a.log
+    → KeepsRead c (iterate (actor_behind_step replies c) n a).log
 steps-read replies c zero a keeps = keeps
 steps-read replies c (suc n) a keeps = steps-read replies c n (actor_behind_step replies c a) (step-read replies c a keeps)
 
-repeat-read : (replies : Replies) (c : Configuration) (a : Actor) (mood : Mood) → KeepsRead c a.log → KeepsRead c (actor_behind_repeat replies c a mood).log
+repeat-read : (replies : Replies) (c : Configuration) (a : Actor) (mood : Mood) → KeepsRead c a.log
+    → KeepsRead c (actor_behind_repeat replies c a mood).log
 repeat-read replies c a (PutOff bytes) keeps = answer-read c a (speech_about replies c a bytes) keeps
 repeat-read replies c a Unasked keeps = keeps
 repeat-read replies c a Spoken keeps = keeps
@@ -135,31 +141,39 @@ repeat-read replies c a Mute keeps = keeps
 -- how the seven checks and what is heard of bytes fit
 data Admitting (c : Configuration) (bytes : List ℕ) : Type 0 where
   Refuses : (refusal : PostRefusal) → admission_of_bytes c.roster c.round bytes ≡ Err refusal → heard_of c bytes ≡ None → Admitting c bytes
-  IsOwn : (said : Header × List ℕ) → admission_of_bytes c.roster c.round bytes ≡ Ok said → (said.0.sender == c.number) ≡ true → heard_of c bytes ≡ None → Admitting c bytes
-  Hears : (post : Post) (header : Header) → admission_of_bytes c.roster c.round bytes ≡ Ok (header, post.content) → (header.sender == c.number) ≡ false
+  IsOwn : (said : Header × List ℕ) → admission_of_bytes c.roster c.round bytes ≡ Ok said → (said.0.sender == c.number) ≡ true
+      → heard_of c bytes ≡ None → Admitting c bytes
+  Hears : (post : Post) (header : Header) → admission_of_bytes c.roster c.round bytes ≡ Ok (header, post.content)
+      → (header.sender == c.number) ≡ false
       → heard_of c bytes ≡ Some (record { header = header; post = post; content = content_read (shape_in c) post.content }) → Admitting c bytes
 
 admitting : (c : Configuration) (bytes : List ℕ) → Admitting c bytes
 unfolding heard_of
 admitting c bytes = by_frame (frame_of bytes) refl
   where
-    by_sender : (post : Post) (header : Header) → frame_of bytes ≡ Ok post → framed_admission_of c.roster c.round post ≡ Ok header → ((header.sender == c.number) ≡ true) ⊎ ((header.sender == c.number) ≡ false) → Admitting c bytes
+    by_sender : (post : Post) (header : Header) → frame_of bytes ≡ Ok post → framed_admission_of c.roster c.round post ≡ Ok header
+        → ((header.sender == c.number) ≡ true) ⊎ ((header.sender == c.number) ≡ false) → Admitting c bytes
     by_sender post header spelled is (inl own) = IsOwn (header, post.content) (admits spelled is) own (hears spelled is ∙ cond-true (header.sender == c.number) None _ own)
       where
-        admits : frame_of bytes ≡ Ok post → framed_admission_of c.roster c.round post ≡ Ok header → admission_of_bytes c.roster c.round bytes ≡ Ok (header, post.content)
+        admits : frame_of bytes ≡ Ok post → framed_admission_of c.roster c.round post ≡ Ok header
+            → admission_of_bytes c.roster c.round bytes ≡ Ok (header, post.content)
         admits spelled is = rw (spelled, is) refl
 
-        hears : frame_of bytes ≡ Ok post → framed_admission_of c.roster c.round post ≡ Ok header → option_and_then (heard_of_post c) (result_ok (frame_of bytes)) ≡ heard_with c post header
+        hears : frame_of bytes ≡ Ok post → framed_admission_of c.roster c.round post ≡ Ok header
+            → option_and_then (heard_of_post c) (result_ok (frame_of bytes)) ≡ heard_with c post header
         hears spelled is = rw (spelled, is) refl
     by_sender post header spelled is (inr other) = Hears post header (admits spelled is) other (hears spelled is ∙ cond-false (header.sender == c.number) None _ other)
       where
-        admits : frame_of bytes ≡ Ok post → framed_admission_of c.roster c.round post ≡ Ok header → admission_of_bytes c.roster c.round bytes ≡ Ok (header, post.content)
+        admits : frame_of bytes ≡ Ok post → framed_admission_of c.roster c.round post ≡ Ok header
+            → admission_of_bytes c.roster c.round bytes ≡ Ok (header, post.content)
         admits spelled is = rw (spelled, is) refl
 
-        hears : frame_of bytes ≡ Ok post → framed_admission_of c.roster c.round post ≡ Ok header → option_and_then (heard_of_post c) (result_ok (frame_of bytes)) ≡ heard_with c post header
+        hears : frame_of bytes ≡ Ok post → framed_admission_of c.roster c.round post ≡ Ok header
+            → option_and_then (heard_of_post c) (result_ok (frame_of bytes)) ≡ heard_with c post header
         hears spelled is = rw (spelled, is) refl
 
-    by_header : (post : Post) → frame_of bytes ≡ Ok post → (r : Result Header PostRefusal) → framed_admission_of c.roster c.round post ≡ r → Admitting c bytes
+    by_header : (post : Post) → frame_of bytes ≡ Ok post → (r : Result Header PostRefusal) → framed_admission_of c.roster c.round post ≡ r
+        → Admitting c bytes
     by_header post spelled (Ok header) is = by_sender post header spelled is (cases_Bool (header.sender == c.number))
     by_header post spelled (Err refusal) is = Refuses refusal (rw (spelled, is) refl) (rw (spelled, is) refl)
 
@@ -169,23 +183,30 @@ admitting c bytes = by_frame (frame_of bytes) refl
 
 -- ---- one delivery
 
-open-delivery : (replies : Replies) (c : Configuration) (a : Actor) (bytes : List ℕ) (o : Option Verdict) → is_open a.ending ≡ true → fault_shown c (kept_in a.log) bytes ≡ o → actor_behind_delivery replies c a bytes ≡ actor_behind_fault replies c a bytes o
+pub open-delivery : (replies : Replies) (c : Configuration) (a : Actor) (bytes : List ℕ) (o : Option Verdict) → is_open a.ending ≡ true
+    → fault_shown c (kept_in a.log) bytes ≡ o → actor_behind_delivery replies c a bytes ≡ actor_behind_fault replies c a bytes o
 unfolding actor_behind_delivery
-open-delivery replies c a bytes o still e = cond-true (is_open a.ending) (actor_behind_fault replies c a bytes (fault_shown c (kept_in a.log) bytes)) a still ∙ ap (actor_behind_fault replies c a bytes) e
+open-delivery replies c a bytes o still e = cond-true (is_open a.ending) (actor_behind_fault replies c a bytes (fault_shown c (kept_in a.log) bytes)) a still
+    ∙ ap (actor_behind_fault replies c a bytes) e
 
-ended-delivery : (replies : Replies) (c : Configuration) (a : Actor) (bytes : List ℕ) → is_open a.ending ≡ false → actor_behind_delivery replies c a bytes ≡ a
+pub ended-delivery : (replies : Replies) (c : Configuration) (a : Actor) (bytes : List ℕ) → is_open a.ending ≡ false
+    → actor_behind_delivery replies c a bytes ≡ a
 unfolding actor_behind_delivery
 ended-delivery replies c a bytes ended = cond-false (is_open a.ending) (actor_behind_fault replies c a bytes (fault_shown c (kept_in a.log) bytes)) a ended
 
 -- of what nothing is heard changes nothing
-nothing-delivered : (replies : Replies) (c : Configuration) (a : Actor) (bytes : List ℕ) → is_open a.ending ≡ true → heard_of c bytes ≡ None → actor_behind_delivery replies c a bytes ≡ a
-nothing-delivered replies c a bytes still nothing = open-delivery replies c a bytes None still (fault-of c (kept_in a.log) bytes None nothing) ∙ ap (actor_behind_heard replies c a) nothing
+pub nothing-delivered : (replies : Replies) (c : Configuration) (a : Actor) (bytes : List ℕ) → is_open a.ending ≡ true → heard_of c bytes ≡ None
+    → actor_behind_delivery replies c a bytes ≡ a
+nothing-delivered replies c a bytes still nothing = open-delivery replies c a bytes None still (fault-of c (kept_in a.log) bytes None nothing)
+    ∙ ap (actor_behind_heard replies c a) nothing
 
 -- nor does a content that is kept
-same-delivered : (replies : Replies) (c : Configuration) (a : Actor) (bytes : List ℕ) (heard : Heard) (kept : Post) → is_open a.ending ≡ true → heard_of c bytes ≡ Some heard → is_ok heard.content ≡ true
+pub same-delivered : (replies : Replies) (c : Configuration) (a : Actor) (bytes : List ℕ) (heard : Heard) (kept : Post) → is_open a.ending ≡ true
+    → heard_of c bytes ≡ Some heard → is_ok heard.content ≡ true
     → kept_in a.log (slot_named heard.header) ≡ Some kept → kept.content ≡ heard.post.content → actor_behind_delivery replies c a bytes ≡ a
 same-delivered replies c a bytes heard kept still e reads there same =
-    open-delivery replies c a bytes None still (fault-of c (kept_in a.log) bytes (Some heard) e ∙ fault-inside c (kept_in a.log) bytes heard reads ∙ contradiction-full c (kept_in a.log) bytes heard kept there ∙ contradiction-same c bytes heard kept same)
+    open-delivery replies c a bytes None still (fault-of c (kept_in a.log) bytes (Some heard) e ∙ fault-inside c (kept_in a.log) bytes heard reads
+    ∙ contradiction-full c (kept_in a.log) bytes heard kept there ∙ contradiction-same c bytes heard kept same)
     ∙ ap (actor_behind_heard replies c a) e ∙ cond-true (is_some (kept_in a.log (slot_named heard.header))) a _ (ap is_some there)
 
 -- where the answer is by the round's end, something may have changed
@@ -200,19 +221,23 @@ unfolding answer_to
 answer-open replies c a bytes still = cond-true (is_open a.ending) _ _ still
 
 -- an answer that tells of no change is right
-idle-delivery : (replies : Replies) (c : Configuration) (a : Actor) (bytes : List ℕ) → KeepsRead c a.log → LeavesAll (answer_to replies c a bytes) → actor_behind_delivery replies c a bytes ≡ a
+idle-delivery : (replies : Replies) (c : Configuration) (a : Actor) (bytes : List ℕ) → KeepsRead c a.log → LeavesAll (answer_to replies c a bytes)
+    → actor_behind_delivery replies c a bytes ≡ a
 unfolding KeepsRead
 idle-delivery replies c a bytes keeps leaves = elim (cases_Bool (is_open a.ending)) [
   | inr ended ↦ ended-delivery replies c a bytes ended
   | inl still ↦ by_admission still (admitting c bytes)
 ]
   where
-    by_kept : is_open a.ending ≡ true → (post : Post) (header : Header) → admission_of_bytes c.roster c.round bytes ≡ Ok (header, post.content) → (header.sender == c.number) ≡ false
+    by_kept : is_open a.ending ≡ true → (post : Post) (header : Header) → admission_of_bytes c.roster c.round bytes ≡ Ok (header, post.content)
+        → (header.sender == c.number) ≡ false
         → heard_of c bytes ≡ Some (record { header = header; post = post; content = content_read (shape_in c) post.content })
-        → (is_content post.content (kept_in a.log (slot_named header)) ≡ true) ⊎ (is_content post.content (kept_in a.log (slot_named header)) ≡ false) → actor_behind_delivery replies c a bytes ≡ a
+        → (is_content post.content (kept_in a.log (slot_named header)) ≡ true) ⊎ (is_content post.content (kept_in a.log (slot_named header)) ≡ false)
+        → actor_behind_delivery replies c a bytes ≡ a
     by_kept still post header admits other e (inl same) = by_post (kept_in a.log (slot_named header)) refl same
       where
-        by_post : (o : Option Post) → kept_in a.log (slot_named header) ≡ o → is_content post.content o ≡ true → actor_behind_delivery replies c a bytes ≡ a
+        by_post : (o : Option Post) → kept_in a.log (slot_named header) ≡ o → is_content post.content o ≡ true
+            → actor_behind_delivery replies c a bytes ≡ a
         by_post None there same = absurd cc
         by_post (Some kept) there same =
             let equal : kept.content ≡ post.content = (bytes_eq-Decides kept.content post.content).0 same in
@@ -221,10 +246,12 @@ idle-delivery replies c a bytes keeps leaves = elim (cases_Bool (is_open a.endin
     by_kept still post header admits other e (inr new) = absurd (not-idle (actor_behind_delivery replies c a bytes).ending (subst LeavesAll told leaves))
       where
         none : idle_answer c a.log (Ok (header, post.content)) ≡ None
-        none = cond-false (header.sender == c.number) (Some Own) (if is_content post.content (kept_in a.log (slot_named header)) then Some Same else None) other ∙ cond-false (is_content post.content (kept_in a.log (slot_named header))) (Some Same) None new
+        none = cond-false (header.sender == c.number) (Some Own) (if is_content post.content (kept_in a.log (slot_named header)) then Some Same else None) other
+            ∙ cond-false (is_content post.content (kept_in a.log (slot_named header))) (Some Same) None new
 
         told : answer_to replies c a bytes ≡ answer_by_end (actor_behind_delivery replies c a bytes).ending
-        told = answer-open replies c a bytes still ∙ ap (λ (o : Option Taken). unwrap_or o (answer_by_end (actor_behind_delivery replies c a bytes).ending)) (ap (idle_answer c a.log) admits ∙ none)
+        told = answer-open replies c a bytes still
+            ∙ ap (λ (o : Option Taken). unwrap_or o (answer_by_end (actor_behind_delivery replies c a bytes).ending)) (ap (idle_answer c a.log) admits ∙ none)
 
     by_admission : is_open a.ending ≡ true → Admitting c bytes → actor_behind_delivery replies c a bytes ≡ a
     by_admission still (Refuses refusal admits nothing) = nothing-delivered replies c a bytes still nothing
@@ -234,7 +261,8 @@ idle-delivery replies c a bytes keeps leaves = elim (cases_Bool (is_open a.endin
 -- ---- all deliveries
 
 -- a new post is of the grammar where no fault is shown
-new-read : (c : Configuration) (log : Log) (bytes : List ℕ) (post : Post) (header : Header) → heard_of c bytes ≡ Some (record { header = header; post = post; content = content_read (shape_in c) post.content })
+new-read : (c : Configuration) (log : Log) (bytes : List ℕ) (post : Post) (header : Header)
+    → heard_of c bytes ≡ Some (record { header = header; post = post; content = content_read (shape_in c) post.content })
     → fault_shown c (kept_in log) bytes ≡ None → is_ok (content_read (shape_in c) post.content) ≡ true
 new-read c log bytes post header e sound = elim (cases_Bool (is_ok (content_read (shape_in c) post.content))) [
   | inl reads ↦ reads
@@ -244,7 +272,8 @@ new-read c log bytes post header e sound = elim (cases_Bool (is_ok (content_read
       absurd (none-some fault.0 (sym sound ∙ fault-of c (kept_in log) bytes (Some heard) e ∙ fault.2 (kept_in log)))
 ]
 
-delivery-read : (replies : Replies) (c : Configuration) (a : Actor) (bytes : List ℕ) → KeepsRead c a.log → KeepsRead c (actor_behind_delivery replies c a bytes).log
+delivery-read : (replies : Replies) (c : Configuration) (a : Actor) (bytes : List ℕ) → KeepsRead c a.log
+    → KeepsRead c (actor_behind_delivery replies c a bytes).log
 delivery-read replies c a bytes keeps = elim (cases_Bool (is_open a.ending)) [
   | inr ended ↦ subst (λ (x : Actor). KeepsRead c x.log) (sym (ended-delivery replies c a bytes ended)) keeps
   | inl still ↦ by_fault still (fault_shown c (kept_in a.log) bytes) refl
@@ -266,11 +295,13 @@ delivery-read replies c a bytes keeps = elim (cases_Bool (is_open a.ending)) [
     by_heard sound (Hears post header admits other e) = subst (λ (o : Option Heard). KeepsRead c (actor_behind_heard replies c a o).log) (sym e)
         (by_full post header (new-read c a.log bytes post header e sound) (cases_Bool (is_some (kept_in a.log (slot_named header)))))
 
-    by_fault : is_open a.ending ≡ true → (o : Option Verdict) → fault_shown c (kept_in a.log) bytes ≡ o → KeepsRead c (actor_behind_delivery replies c a bytes).log
+    by_fault : is_open a.ending ≡ true → (o : Option Verdict) → fault_shown c (kept_in a.log) bytes ≡ o
+        → KeepsRead c (actor_behind_delivery replies c a bytes).log
     by_fault still (Some verdict) e = subst (λ (x : Actor). KeepsRead c x.log) (sym (open-delivery replies c a bytes (Some verdict) still e)) keeps
     by_fault still None e = subst (λ (x : Actor). KeepsRead c x.log) (sym (open-delivery replies c a bytes None still e)) (by_heard e (admitting c bytes))
 
-fold-read : (replies : Replies) (c : Configuration) (a : Actor) (delivered : List (List ℕ)) → KeepsRead c a.log → KeepsRead c (fold (actor_behind_delivery replies c) a delivered).log
+fold-read : (replies : Replies) (c : Configuration) (a : Actor) (delivered : List (List ℕ)) → KeepsRead c a.log
+    → KeepsRead c (fold (actor_behind_delivery replies c) a delivered).log
 fold-read replies c a [] keeps = keeps
 fold-read replies c a (bytes ∷ rest) keeps = fold-read replies c (actor_behind_delivery replies c a bytes) rest (delivery-read replies c a bytes keeps)
 

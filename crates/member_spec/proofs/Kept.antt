@@ -41,9 +41,11 @@ made_with c stand now = filter_map (own_at c stand now) (range_with_len 0 (stage
 
 -- ---- when it has spoken
 
-has_said-same : (c : Configuration) (stand : Stand) (now later : Bool) (stage : ℕ) → (is_slot (shape_in c) stand.at c.number ≡ true → now ≡ later) → has_said c stand now stage ≡ has_said c stand later stage
+has_said-same : (c : Configuration) (stand : Stand) (now later : Bool) (stage : ℕ) → (is_slot (shape_in c) stand.at c.number ≡ true → now ≡ later)
+    → has_said c stand now stage ≡ has_said c stand later stage
 has_said-same c stand now later stage same = elim (cases_Bool (is_slot (shape_in c) stage c.number)) [
-  | inr silent ↦ ap (λ (b : Bool). b && (nat_lt stage stand.at || (now && (stage == stand.at)))) silent ∙ sym (ap (λ (b : Bool). b && (nat_lt stage stand.at || (later && (stage == stand.at)))) silent)
+  | inr silent ↦ ap (λ (b : Bool). b && (nat_lt stage stand.at || (now && (stage == stand.at)))) silent
+      ∙ sym (ap (λ (b : Bool). b && (nat_lt stage stand.at || (later && (stage == stand.at)))) silent)
   | inl speaks ↦ elim (cases_Bool (stage == stand.at)) [
     | inl here ↦
         let at : stage ≡ stand.at = eqb-true stage stand.at here in
@@ -58,7 +60,8 @@ has_said-same c stand now later stage same = elim (cases_Bool (is_slot (shape_in
     and_false false e = refl
 
 -- where it is no sender, it does not matter whether it has spoken
-pub log-same : (c : Configuration) (others : Others) (stand : Stand) (now later : Bool) → (is_slot (shape_in c) stand.at c.number ≡ true → now ≡ later) → log_with c others stand now ≡ log_with c others stand later
+pub log-same : (c : Configuration) (others : Others) (stand : Stand) (now later : Bool)
+    → (is_slot (shape_in c) stand.at c.number ≡ true → now ≡ later) → log_with c others stand now ≡ log_with c others stand later
 unfolding log_with
 log-same c others stand now later same =
     ap (λ (posts : List (Option Post)). record { shape = shape_in c; posts = posts }) (places-same (shape_in c) (place_with c others stand now) (place_with c others stand later) (λ slot speaks.
@@ -69,7 +72,8 @@ filter-same : (f g : ℕ → Option Post) (xs : List ℕ) → ((x : ℕ) → f x
 filter-same f g [] same = refl
 filter-same f g (x ∷ xs) same = ap (λ (o : Option Post). cons_option o (filter_map f xs)) (same x) ∙ ap (cons_option (g x)) (filter-same f g xs same)
 
-pub made-same : (c : Configuration) (stand : Stand) (now later : Bool) → (is_slot (shape_in c) stand.at c.number ≡ true → now ≡ later) → made_with c stand now ≡ made_with c stand later
+pub made-same : (c : Configuration) (stand : Stand) (now later : Bool) → (is_slot (shape_in c) stand.at c.number ≡ true → now ≡ later)
+    → made_with c stand now ≡ made_with c stand later
 unfolding made_with
 made-same c stand now later same = filter-same (own_at c stand now) (own_at c stand later) (range_with_len 0 (stage_count (shape_in c))) (λ stage.
     ap (λ (b : Bool). if b then Some (own_post c (posts_before_stage c stand stage) stage) else None) (has_said-same c stand now later stage same))
@@ -77,7 +81,8 @@ made-same c stand now later same = filter-same (own_at c stand now) (own_at c st
 -- ---- a stage that is being filled
 
 -- the posts of the stage, where all of its senders may be there
-pub place-now : (c : Configuration) (others : Others) (stand : Stand) (sender : ℕ) → IsReached c others stand → is_slot (shape_in c) stand.at sender ≡ true
+pub place-now : (c : Configuration) (others : Others) (stand : Stand) (sender : ℕ) → IsReached c others stand
+    → is_slot (shape_in c) stand.at sender ≡ true
     → place_with c others stand true (record { stage = stand.at; sender = sender }) ≡ post_of c others stand sender
 place-now c others stand sender is speaks = by_sender (cases_Bool (sender == c.number))
   where
@@ -87,7 +92,8 @@ place-now c others stand sender is speaks = by_sender (cases_Bool (sender == c.n
     there : Option Post
     there = others (record { stage = stand.at; sender = sender })
 
-    by_sender : (sender == c.number ≡ true) ⊎ (sender == c.number ≡ false) → (if sender == c.number then own_at c stand true stand.at else others (record { stage = stand.at; sender = sender })) ≡ post_of c others stand sender
+    by_sender : (sender == c.number ≡ true) ⊎ (sender == c.number ≡ false)
+        → (if sender == c.number then own_at c stand true stand.at else others (record { stage = stand.at; sender = sender })) ≡ post_of c others stand sender
     by_sender (inr other) =
         cond-false (sender == c.number) (own_at c stand true stand.at) (others (record { stage = stand.at; sender = sender })) other
         ∙ sym (cond-false (sender == c.number) (Some (own_post c stand.past stand.at)) (others (record { stage = stand.at; sender = sender })) other)
@@ -105,12 +111,15 @@ map-in f g [] same = refl
 map-in f g (x ∷ xs) same = ap (λ (o : Option Post). o ∷ map f xs) (same 0 x refl) ∙ ap (λ (os : List (Option Post)). g x ∷ os) (map-in f g xs (λ i y e. same (suc i) y e))
 
 -- each of the senders of a stage has a slot there
-sender-speaks : (c : Configuration) (stage place sender : ℕ) (kind : StageKind) → kind_of_stage (shape_in c) stage ≡ Some kind → slice_get (senders_in (shape_in c) kind) place ≡ Some sender → is_slot (shape_in c) stage sender ≡ true
+sender-speaks : (c : Configuration) (stage place sender : ℕ) (kind : StageKind) → kind_of_stage (shape_in c) stage ≡ Some kind
+    → slice_get (senders_in (shape_in c) kind) place ≡ Some sender → is_slot (shape_in c) stage sender ≡ true
 sender-speaks c stage place sender kind is at = (slot_at-is (shape_in c) (slots_before (shape_in c) stage + place) (record { stage = stage; sender = sender }) (slot_at-place (shape_in c) stage place sender kind is at)).0
 
 -- once it has spoken, or where it is no sender, the posts of the stage are those that fill it
-pub stage-filled : (c : Configuration) (others : Others) (stand : Stand) (now : Bool) (kind : StageKind) → IsReached c others stand → kind_of_stage (shape_in c) stand.at ≡ Some kind
-    → (is_slot (shape_in c) stand.at c.number ≡ true → now ≡ true) → all_some (posts_in (log_with c others stand now) stand.at) ≡ stage_filled c others stand
+pub stage-filled : (c : Configuration) (others : Others) (stand : Stand) (now : Bool) (kind : StageKind) → IsReached c others stand
+    → kind_of_stage (shape_in c) stand.at ≡ Some kind
+    → (is_slot (shape_in c) stand.at c.number ≡ true → now ≡ true)
+    → all_some (posts_in (log_with c others stand now) stand.at) ≡ stage_filled c others stand
 unfolding stage_filled log_with
 stage-filled c others stand now kind is kind_is said =
     ap (λ (log : Log). all_some (posts_in log stand.at)) (log-same c others stand now true said)
@@ -136,7 +145,8 @@ not-all f (y ∷ ys) (suc i) x e none = by_first (f y) (not-all f ys i x e none)
     by_first (Some z) rest = ap (option_map (λ (zs : List Post). z ∷ zs)) rest
 
 -- as long as it is a sender and has not spoken, the stage is not complete
-pub stage-waits : (c : Configuration) (others : Others) (stand : Stand) (kind : StageKind) → kind_of_stage (shape_in c) stand.at ≡ Some kind → is_slot (shape_in c) stand.at c.number ≡ true
+pub stage-waits : (c : Configuration) (others : Others) (stand : Stand) (kind : StageKind) → kind_of_stage (shape_in c) stand.at ≡ Some kind
+    → is_slot (shape_in c) stand.at c.number ≡ true
     → all_some (posts_in (log_with c others stand false) stand.at) ≡ None
 unfolding log_with
 stage-waits c others stand kind kind_is speaks =

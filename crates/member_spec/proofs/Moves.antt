@@ -21,7 +21,8 @@ use Rattle.member_spec.proofs.Places.{places-same, places-set}
 -- ---- it speaks
 
 -- what it has said at other stages does not change
-has_said-elsewhere : (c : Configuration) (stand : Stand) (stage : ℕ) → (stage == stand.at) ≡ false → has_said c stand false stage ≡ has_said c stand true stage
+has_said-elsewhere : (c : Configuration) (stand : Stand) (stage : ℕ) → (stage == stand.at) ≡ false
+    → has_said c stand false stage ≡ has_said c stand true stage
 has_said-elsewhere c stand stage other = ap (λ (b : Bool). is_slot (shape_in c) stage c.number && (nat_lt stage stand.at || b)) (sym other)
 
 own-elsewhere : (c : Configuration) (stand : Stand) (stage : ℕ) → (stage == stand.at) ≡ false → own_at c stand false stage ≡ own_at c stand true stage
@@ -34,9 +35,11 @@ own-there c others stand is speaks =
     place-now c others stand c.number is speaks
     ∙ cond-true (c.number == c.number) (Some (own_post c stand.past stand.at)) (others (record { stage = stand.at; sender = c.number })) (eq-eqb c.number c.number refl)
 
-own-now : (c : Configuration) (others : Others) (stand : Stand) → IsReached c others stand → is_slot (shape_in c) stand.at c.number ≡ true → own_at c stand true stand.at ≡ Some (own_post c stand.past stand.at)
+own-now : (c : Configuration) (others : Others) (stand : Stand) → IsReached c others stand → is_slot (shape_in c) stand.at c.number ≡ true
+    → own_at c stand true stand.at ≡ Some (own_post c stand.past stand.at)
 own-now c others stand is speaks =
-    sym (cond-true (c.number == c.number) (own_at c stand true stand.at) (others (record { stage = stand.at; sender = c.number })) (eq-eqb c.number c.number refl)) ∙ own-there c others stand is speaks
+    sym (cond-true (c.number == c.number) (own_at c stand true stand.at) (others (record { stage = stand.at; sender = c.number })) (eq-eqb c.number c.number refl))
+    ∙ own-there c others stand is speaks
 
 own-not-yet : (c : Configuration) (stand : Stand) → own_at c stand false stand.at ≡ None
 own-not-yet c stand = cond-false (has_said c stand false stand.at) (Some (own_post c (posts_before_stage c stand stand.at) stand.at)) None (false_from_ne_true (has_said c stand false stand.at) (λ said.
@@ -57,26 +60,33 @@ speaks-log c others stand is speaks =
     slot : Slot
     slot = record { stage = stand.at; sender = c.number }
 
-    by_sender : (other : Slot) → other ≢ slot → (other.sender == c.number ≡ true) ⊎ (other.sender == c.number ≡ false) → ((other.stage == stand.at) ≡ true) ⊎ ((other.stage == stand.at) ≡ false)
+    by_sender : (other : Slot) → other ≢ slot → (other.sender == c.number ≡ true) ⊎ (other.sender == c.number ≡ false)
+        → ((other.stage == stand.at) ≡ true) ⊎ ((other.stage == stand.at) ≡ false)
         → place_with c others stand false other ≡ place_with c others stand true other
-    by_sender other apart (inl own) (inl here) = absurd (apart (sym (slot-is other) ∙ ap (λ (s : ℕ). record { stage = s; sender = other.sender }) (eqb-true other.stage stand.at here) ∙ ap (λ (s : ℕ). record { stage = stand.at; sender = s }) (eqb-true other.sender c.number own)))
+    by_sender other apart (inl own) (inl here) = absurd (apart (sym (slot-is other)
+        ∙ ap (λ (s : ℕ). record { stage = s; sender = other.sender }) (eqb-true other.stage stand.at here)
+        ∙ ap (λ (s : ℕ). record { stage = stand.at; sender = s }) (eqb-true other.sender c.number own)))
       where
         slot-is : (s : Slot) → record { stage = s.stage; sender = s.sender } ≡ s
         slot-is s = refl
     by_sender other apart own (inr there) = ap (λ (o : Option Post). if other.sender == c.number then o else others other) (own-elsewhere c stand other.stage there)
     by_sender other apart (inr not_own) (inl here) =
-        cond-false (other.sender == c.number) (own_at c stand false other.stage) (others other) not_own ∙ sym (cond-false (other.sender == c.number) (own_at c stand true other.stage) (others other) not_own)
+        cond-false (other.sender == c.number) (own_at c stand false other.stage) (others other) not_own
+        ∙ sym (cond-false (other.sender == c.number) (own_at c stand true other.stage) (others other) not_own)
 
 -- ---- ranges of stages
 
 range-splits : (a m n : ℕ) → range_with_len a (m + n) ≡ range_with_len a m ++ range_with_len (a + m) n
-range-splits a zero n = (let none : zero + n ≡ n = omega arith in let start : a + zero ≡ a = omega arith in ap (range_with_len a) none ∙ sym (ap (λ (k : ℕ). range_with_len k n) start))
+range-splits a zero n = (let none : zero + n ≡ n = omega arith in let start : a + zero ≡ a = omega arith in ap (range_with_len a) none
+    ∙ sym (ap (λ (k : ℕ). range_with_len k n) start))
 range-splits a (suc m) n =
     let more : suc m + n ≡ suc (m + n) = omega arith in
     let start : a + 1 + m ≡ a + suc m = omega arith in
-    ap (range_with_len a) more ∙ ap (λ (xs : List ℕ). a ∷ xs) (range-splits (a + 1) m n ∙ ap (λ (k : ℕ). range_with_len (a + 1) m ++ range_with_len k n) start)
+    ap (range_with_len a) more
+    ∙ ap (λ (xs : List ℕ). a ∷ xs) (range-splits (a + 1) m n ∙ ap (λ (k : ℕ). range_with_len (a + 1) m ++ range_with_len k n) start)
 
-pub filter-in : (f g : ℕ → Option Post) (a n : ℕ) → ((x : ℕ) → a ≤ x → x < a + n → f x ≡ g x) → filter_map f (range_with_len a n) ≡ filter_map g (range_with_len a n)
+pub filter-in : (f g : ℕ → Option Post) (a n : ℕ) → ((x : ℕ) → a ≤ x → x < a + n → f x ≡ g x)
+    → filter_map f (range_with_len a n) ≡ filter_map g (range_with_len a n)
 filter-in f g a zero same = refl
 filter-in f g a (suc n) same =
     ap (λ (o : Option Post). cons_option o (filter_map f (range_with_len (a + 1) n))) (same a (omega arith) (omega arith))
@@ -89,7 +99,8 @@ filter-none f a (suc n) none =
     ∙ filter-none f (a + 1) n (λ x le lt. none x (omega arith) (omega arith))
 
 -- the values of the numbers before one, its own, and those behind it
-filter-splits : (f : ℕ → Option Post) (at n : ℕ) → at < n → filter_map f (range_with_len 0 n) ≡ filter_map f (range_with_len 0 at) ++ cons_option (f at) (filter_map f (range_with_len (at + 1) (n - at - 1)))
+filter-splits : (f : ℕ → Option Post) (at n : ℕ) → at < n
+    → filter_map f (range_with_len 0 n) ≡ filter_map f (range_with_len 0 at) ++ cons_option (f at) (filter_map f (range_with_len (at + 1) (n - at - 1)))
 filter-splits f at n lt =
     let split : n ≡ at + suc (n - at - 1) = omega arith in
     let start : 0 + at ≡ at = omega arith in
@@ -116,9 +127,13 @@ pub speaks-made : (c : Configuration) (others : Others) (stand : Stand) → IsRe
     → made_with c stand false ++ own_post c stand.past stand.at ∷ [] ≡ made_with c stand true
 unfolding made_with
 speaks-made c others stand is speaks =
-    ap (λ (posts : List Post). posts ++ own_post c stand.past stand.at ∷ []) (filter-splits (own_at c stand false) stand.at n lt ∙ ap (λ (posts : List Post). front false ++ posts) (ap (λ (o : Option Post). cons_option o (back false)) (own-not-yet c stand) ∙ nothing false) ∙ append-nil (front false))
+    ap (λ (posts : List Post). posts ++ own_post c stand.past stand.at ∷ []) (filter-splits (own_at c stand false) stand.at n lt
+    ∙ ap (λ (posts : List Post). front false ++ posts) (ap (λ (o : Option Post). cons_option o (back false)) (own-not-yet c stand) ∙ nothing false)
+    ∙ append-nil (front false))
     ∙ ap (λ (posts : List Post). posts ++ own_post c stand.past stand.at ∷ []) (filter-in (own_at c stand false) (own_at c stand true) 0 stand.at (λ x le lt. own-elsewhere c stand x (elsewhere x lt)))
-    ∙ sym (filter-splits (own_at c stand true) stand.at n lt ∙ ap (λ (posts : List Post). front true ++ posts) (ap (λ (o : Option Post). cons_option o (back true)) (own-now c others stand is speaks) ∙ ap (λ (posts : List Post). own_post c stand.past stand.at ∷ posts) (nothing true)))
+    ∙ sym (filter-splits (own_at c stand true) stand.at n lt
+    ∙ ap (λ (posts : List Post). front true ++ posts) (ap (λ (o : Option Post). cons_option o (back true)) (own-now c others stand is speaks)
+    ∙ ap (λ (posts : List Post). own_post c stand.past stand.at ∷ posts) (nothing true)))
   where
     n : ℕ
     n = stage_count (shape_in c)
@@ -141,12 +156,15 @@ speaks-made c others stand is speaks =
 -- ---- it passes a stage
 
 -- behind the stage it has spoken at the same stages
-has_said-passed : (c : Configuration) (stand : Stand) (posts : List Post) (stage : ℕ) → has_said c (stand_behind c stand posts) false stage ≡ has_said c stand true stage
+has_said-passed : (c : Configuration) (stand : Stand) (posts : List Post) (stage : ℕ)
+    → has_said c (stand_behind c stand posts) false stage ≡ has_said c stand true stage
 unfolding stand_behind
 has_said-passed c stand posts stage = ap (λ (b : Bool). is_slot (shape_in c) stage c.number && b) (by_order (cases_lt stage stand.at))
   where
-    by_order : (stage < stand.at) ⊎ (stand.at ≤ stage) → (nat_lt stage (stand.at + 1) || (false && (stage == stand.at + 1))) ≡ (nat_lt stage stand.at || (true && (stage == stand.at)))
-    by_order (inl lt) = ap (λ (b : Bool). b || (false && (stage == stand.at + 1))) (lt-ltb stage (stand.at + 1) (omega arith)) ∙ sym (ap (λ (b : Bool). b || (true && (stage == stand.at))) (lt-ltb stage stand.at lt))
+    by_order : (stage < stand.at) ⊎ (stand.at ≤ stage)
+        → (nat_lt stage (stand.at + 1) || (false && (stage == stand.at + 1))) ≡ (nat_lt stage stand.at || (true && (stage == stand.at)))
+    by_order (inl lt) = ap (λ (b : Bool). b || (false && (stage == stand.at + 1))) (lt-ltb stage (stand.at + 1) (omega arith))
+        ∙ sym (ap (λ (b : Bool). b || (true && (stage == stand.at))) (lt-ltb stage stand.at lt))
     by_order (inr le) = elim (cases_lt stand.at stage) [
       | inl beyond ↦
           ap (λ (b : Bool). b || (false && (stage == stand.at + 1))) (false_from_ne_true (nat_lt stage (stand.at + 1)) (λ e. (let lt = ltb-true stage (stand.at + 1) e in omega arith)))
@@ -163,7 +181,8 @@ has_said-passed c stand posts stage = ap (λ (b : Bool). is_slot (shape_in c) st
         or_true false = refl
 
 -- and its posts there are the same
-own-passed : (c : Configuration) (others : Others) (stand : Stand) (posts : List Post) (stage : ℕ) → IsReached c others stand → own_at c (stand_behind c stand posts) false stage ≡ own_at c stand true stage
+own-passed : (c : Configuration) (others : Others) (stand : Stand) (posts : List Post) (stage : ℕ) → IsReached c others stand
+    → own_at c (stand_behind c stand posts) false stage ≡ own_at c stand true stage
 unfolding stand_behind
 own-passed c others stand posts stage is =
     ap (λ (b : Bool). if b then Some (own_post c (take (slots_before (shape_in c) stage) (stand.past ++ posts)) stage) else None) (has_said-passed c stand posts stage)
@@ -182,21 +201,25 @@ own-passed c others stand posts stage is =
         let rises = slots_before-rises (shape_in c) stage stand.at within in
         ap (λ (past : List Post). if has_said c stand true stage then Some (own_post c past stage) else None) (take-append-le (slots_before (shape_in c) stage) stand.past posts (omega (arith, is.whole)))
 
-pub passes-log : (c : Configuration) (others : Others) (stand : Stand) (posts : List Post) → IsReached c others stand → log_with c others (stand_behind c stand posts) false ≡ log_with c others stand true
+pub passes-log : (c : Configuration) (others : Others) (stand : Stand) (posts : List Post) → IsReached c others stand
+    → log_with c others (stand_behind c stand posts) false ≡ log_with c others stand true
 unfolding log_with
 passes-log c others stand posts is =
     ap (λ (places : List (Option Post)). record { shape = shape_in c; posts = places }) (places-same (shape_in c) (place_with c others (stand_behind c stand posts) false) (place_with c others stand true) (λ slot speaks.
     ap (λ (o : Option Post). if slot.sender == c.number then o else others slot) (own-passed c others stand posts slot.stage is)))
 
-pub passes-made : (c : Configuration) (others : Others) (stand : Stand) (posts : List Post) → IsReached c others stand → made_with c (stand_behind c stand posts) false ≡ made_with c stand true
+pub passes-made : (c : Configuration) (others : Others) (stand : Stand) (posts : List Post) → IsReached c others stand
+    → made_with c (stand_behind c stand posts) false ≡ made_with c stand true
 unfolding made_with
 passes-made c others stand posts is = filter-in (own_at c (stand_behind c stand posts) false) (own_at c stand true) 0 (stage_count (shape_in c)) (λ stage le lt. own-passed c others stand posts stage is)
 
 -- ---- it is delivered a post
 
 -- the post of another member is put into its log
-pub keeps-log : (c : Configuration) (others more : Others) (stand : Stand) (now : Bool) (slot : Slot) (post : Post) → is_slot (shape_in c) slot.stage slot.sender ≡ true → (slot.sender == c.number) ≡ false
-    → more slot ≡ Some post → ((other : Slot) → other ≢ slot → others other ≡ more other) → filled (log_with c others stand now) slot post ≡ log_with c more stand now
+pub keeps-log : (c : Configuration) (others more : Others) (stand : Stand) (now : Bool) (slot : Slot) (post : Post)
+    → is_slot (shape_in c) slot.stage slot.sender ≡ true → (slot.sender == c.number) ≡ false
+    → more slot ≡ Some post → ((other : Slot) → other ≢ slot → others other ≡ more other)
+    → filled (log_with c others stand now) slot post ≡ log_with c more stand now
 unfolding log_with
 keeps-log c others more stand now slot post speaks not_own here same =
     ap (λ (posts : List (Option Post)). record { shape = shape_in c; posts = posts })

@@ -66,7 +66,8 @@ given-by c slot bytes post e = by_heard (heard_of c bytes) refl e
 
 -- two strings of the deliveries that give one slot posts give it the same
 given-same : (c : Configuration) (delivered : List (List ℕ)) (slot : Slot) (bytes other : List ℕ) (post second : Post) → AreOrderless c delivered
-    → Contains delivered bytes → Contains delivered other → post_given c slot bytes ≡ Some post → post_given c slot other ≡ Some second → post ≡ second
+    → Contains delivered bytes → Contains delivered other → post_given c slot bytes ≡ Some post → post_given c slot other ≡ Some second
+    → post ≡ second
 given-same c delivered slot bytes other post second orderless here there e e' =
     let one = given-by c slot bytes post e in
     let two = given-by c slot other second e' in
@@ -106,7 +107,8 @@ consistent c delivered orderless bytes heard listed is = (orderless.read bytes h
     told_same : (x y : Heard) → (let told : Heard → Option Heard = λ z. Some z in told x ≡ told y) → x ≡ y
     told_same x y e = cc
 
-    same : (first : Post) → (b : List ℕ) × Contains delivered b × (post_given c (slot_named heard.header) b ≡ Some first) → first.content ≡ heard.post.content
+    same : (first : Post) → (b : List ℕ) × Contains delivered b × (post_given c (slot_named heard.header) b ≡ Some first)
+        → first.content ≡ heard.post.content
     same first found =
         let given = given-by c (slot_named heard.header) found.0 first found.2 in
         let string : found.0 ≡ bytes = orderless.single found.0 bytes given.heard heard found.1 listed given.is is (sym given.named) in
@@ -114,7 +116,8 @@ consistent c delivered orderless bytes heard listed is = (orderless.read bytes h
         ap (λ (p : Post). p.content) (sym given.same) ∙ ap (λ (h : Heard). h.post.content) one
 
 -- a reordering of such deliveries is such, too
-reordered : (c : Configuration) (delivered others : List (List ℕ)) → AreOrderless c delivered → ((bytes : List ℕ) → Contains others bytes → Contains delivered bytes) → AreOrderless c others
+reordered : (c : Configuration) (delivered others : List (List ℕ)) → AreOrderless c delivered
+    → ((bytes : List ℕ) → Contains others bytes → Contains delivered bytes) → AreOrderless c others
 reordered c delivered others orderless back = record {
   read = λ bytes heard listed. orderless.read bytes heard (back bytes listed);
   single = λ bytes other heard second here there. orderless.single bytes other heard second (back bytes here) (back other there);
@@ -126,7 +129,8 @@ same-function f g each = λ i slot. each slot i
 pub order_changes_nothing : OrderChangesNothing
 order_changes_nothing c delivered others orderless shuffled =
     let into : (bytes : List ℕ) → Contains delivered bytes → Contains others bytes = λ bytes. Contains-permutation delivered others bytes shuffled in
-    let back : (bytes : List ℕ) → Contains others bytes → Contains delivered bytes = λ bytes. Contains-permutation others delivered bytes (IsPermutation-sym delivered others shuffled) in
+    let back : (bytes : List ℕ) → Contains others bytes
+    → Contains delivered bytes = λ bytes. Contains-permutation others delivered bytes (IsPermutation-sym delivered others shuffled) in
     let posts : first_posts c others ≡ first_posts c delivered = same-function (first_posts c others) (first_posts c delivered) (λ slot. posts-same c delivered others slot orderless into back) in
     let was = whole_course c delivered (consistent c delivered orderless) in
     let is = whole_course c others (consistent c others (reordered c delivered others orderless back)) in (

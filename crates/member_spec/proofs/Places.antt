@@ -24,11 +24,13 @@ any_slot : Slot
 any_slot = record { stage = 0; sender = 0 }
 
 -- what stands at a place
-pub place-is : (shape : Shape) (f : Slot → Option Post) (i : ℕ) (slot : Slot) → slot_at shape i ≡ Some slot → get_or (map f (slots_of shape)) i None ≡ f slot
+pub place-is : (shape : Shape) (f : Slot → Option Post) (i : ℕ) (slot : Slot) → slot_at shape i ≡ Some slot
+    → get_or (map f (slots_of shape)) i None ≡ f slot
 place-is shape f i slot at = get_or_from_slice_get (map f (slots_of shape)) i (f slot) None (slice_get-map f (slots_of shape) i ∙ ap (option_map f) at)
 
 -- each place is that of a slot
-pub slot-there : (shape : Shape) (i : ℕ) → i < length (slots_of shape) → (slot : Slot) × (slot_at shape i ≡ Some slot) × (is_slot shape slot.stage slot.sender ≡ true) × (slot_number shape slot.stage slot.sender ≡ i)
+pub slot-there : (shape : Shape) (i : ℕ) → i < length (slots_of shape)
+    → (slot : Slot) × (slot_at shape i ≡ Some slot) × (is_slot shape slot.stage slot.sender ≡ true) × (slot_number shape slot.stage slot.sender ≡ i)
 slot-there shape i lt =
     let slot : Slot = get_or (slots_of shape) i any_slot in
     let at : slot_at shape i ≡ Some slot = slice_get-get_or (slots_of shape) i any_slot lt in
@@ -36,25 +38,29 @@ slot-there shape i lt =
     (slot, at, is.0, is.1)
 
 -- the post of a slot
-pub kept-place : (shape : Shape) (f : Slot → Option Post) (slot : Slot) → is_slot shape slot.stage slot.sender ≡ true → kept_in (log_of_places shape f) slot ≡ f slot
+pub kept-place : (shape : Shape) (f : Slot → Option Post) (slot : Slot) → is_slot shape slot.stage slot.sender ≡ true
+    → kept_in (log_of_places shape f) slot ≡ f slot
 kept-place shape f slot speaks =
     let number : ℕ = slot_number shape slot.stage slot.sender in
     cond-true (is_slot shape slot.stage slot.sender) (option_flatten (slice_get (map f (slots_of shape)) number)) None speaks
     ∙ ap (λ (o : Option (Option Post)). option_flatten o) (slice_get-map f (slots_of shape) number ∙ ap (option_map f) (slot_at-number shape slot.stage slot.sender speaks))
 
 -- two lists with the same values
-pub places-same : (shape : Shape) (f g : Slot → Option Post) → ((slot : Slot) → is_slot shape slot.stage slot.sender ≡ true → f slot ≡ g slot) → map f (slots_of shape) ≡ map g (slots_of shape)
+pub places-same : (shape : Shape) (f g : Slot → Option Post) → ((slot : Slot) → is_slot shape slot.stage slot.sender ≡ true → f slot ≡ g slot)
+    → map f (slots_of shape) ≡ map g (slots_of shape)
 places-same shape f g same =
     ext_get_or None (map f (slots_of shape)) (map g (slots_of shape)) (length-map (slots_of shape) f ∙ sym (length-map (slots_of shape) g)) (λ i lt.
     let there = slot-there shape i (omega (arith, length-map (slots_of shape) f)) in
     place-is shape f i there.0 there.1 ∙ same there.0 there.2 ∙ sym (place-is shape g i there.0 there.1))
 
 -- one slot was set
-pub places-set : (shape : Shape) (f g : Slot → Option Post) (slot : Slot) (post : Post) → is_slot shape slot.stage slot.sender ≡ true → g slot ≡ Some post
+pub places-set : (shape : Shape) (f g : Slot → Option Post) (slot : Slot) (post : Post) → is_slot shape slot.stage slot.sender ≡ true
+    → g slot ≡ Some post
     → ((other : Slot) → is_slot shape other.stage other.sender ≡ true → other ≢ slot → f other ≡ g other)
     → slice_set (map f (slots_of shape)) (slot_number shape slot.stage slot.sender) (Some post) ≡ map g (slots_of shape)
 places-set shape f g slot post speaks here others =
-    ext_get_or None (set (map f (slots_of shape)) number (Some post)) (map g (slots_of shape)) (long ∙ sym (length-map (slots_of shape) g)) (λ i lt. each i (omega (arith, long)) (apart i number))
+    ext_get_or None (set (map f (slots_of shape)) number (Some post)) (map g (slots_of shape)) (long
+    ∙ sym (length-map (slots_of shape) g)) (λ i lt. each i (omega (arith, long)) (apart i number))
   where
     number : ℕ
     number = slot_number shape slot.stage slot.sender
@@ -74,14 +80,18 @@ places-set shape f g slot post speaks here others =
       ]
     ]
 
-    each : (i : ℕ) → i < length (slots_of shape) → (i ≡ number) ⊎ (i ≢ number) → get_or (set (map f (slots_of shape)) number (Some post)) i None ≡ get_or (map g (slots_of shape)) i None
+    each : (i : ℕ) → i < length (slots_of shape) → (i ≡ number) ⊎ (i ≢ number)
+        → get_or (set (map f (slots_of shape)) number (Some post)) i None ≡ get_or (map g (slots_of shape)) i None
     each i lt (inl same) =
-        ap (λ (k : ℕ). get_or (set (map f (slots_of shape)) number (Some post)) k None) same ∙ get_or-set_same (map f (slots_of shape)) number (Some post) None most
-        ∙ sym here ∙ sym (place-is shape g number slot (slot_at-number shape slot.stage slot.sender speaks)) ∙ ap (λ (k : ℕ). get_or (map g (slots_of shape)) k None) (sym same)
+        ap (λ (k : ℕ). get_or (set (map f (slots_of shape)) number (Some post)) k None) same
+        ∙ get_or-set_same (map f (slots_of shape)) number (Some post) None most
+        ∙ sym here ∙ sym (place-is shape g number slot (slot_at-number shape slot.stage slot.sender speaks))
+        ∙ ap (λ (k : ℕ). get_or (map g (slots_of shape)) k None) (sym same)
     each i lt (inr other) =
         let there = slot-there shape i lt in
         let not_slot : there.0 ≢ slot = λ e. other (sym there.3 ∙ ap (λ (s : Slot). slot_number shape s.stage s.sender) e) in
-        get_or-set_other (map f (slots_of shape)) number i (Some post) None other ∙ place-is shape f i there.0 there.1 ∙ others there.0 there.2 not_slot ∙ sym (place-is shape g i there.0 there.1)
+        get_or-set_other (map f (slots_of shape)) number i (Some post) None other ∙ place-is shape f i there.0 there.1
+        ∙ others there.0 there.2 not_slot ∙ sym (place-is shape g i there.0 there.1)
 
 -- ---- one stage
 
@@ -127,7 +137,8 @@ stage-slots shape stage kind is = ext_get_or any_slot part made (count ∙ sym m
         get_or-take (slots_before shape (stage + 1) - a) (drop a (slots_of shape)) i any_slot (omega (arith, width))
         ∙ get_or-drop a (slots_of shape) i any_slot
         ∙ get_or_from_slice_get (slots_of shape) (a + i) (to_slot (get_or (senders_in shape kind) i 0)) any_slot at
-        ∙ sym (get_or_from_slice_get made i (to_slot (get_or (senders_in shape kind) i 0)) any_slot (slice_get-map to_slot (senders_in shape kind) i ∙ ap (option_map to_slot) there))
+        ∙ sym (get_or_from_slice_get made i (to_slot (get_or (senders_in shape kind) i 0)) any_slot (slice_get-map to_slot (senders_in shape kind) i
+        ∙ ap (option_map to_slot) there))
 
 -- the posts of a stage, by sender
 pub stage-places : (shape : Shape) (f : Slot → Option Post) (stage : ℕ) (kind : StageKind) → kind_of_stage shape stage ≡ Some kind
@@ -143,7 +154,8 @@ stage-places shape f stage kind is =
     map-map (x ∷ xs) = ap (λ (ys : List (Option Post)). f (record { stage = stage; sender = x }) ∷ ys) (map-map xs)
 
 -- a sender of a stage is among the senders of its kind
-pub place-of-sender : (shape : Shape) (stage sender : ℕ) (kind : StageKind) → kind_of_stage shape stage ≡ Some kind → is_slot shape stage sender ≡ true
+pub place-of-sender : (shape : Shape) (stage sender : ℕ) (kind : StageKind) → kind_of_stage shape stage ≡ Some kind
+    → is_slot shape stage sender ≡ true
     → (place : ℕ) × (slice_get (senders_in shape kind) place ≡ Some sender)
 place-of-sender shape stage sender kind is speaks =
     let within = slot_number-within shape stage sender speaks in
@@ -154,7 +166,8 @@ place-of-sender shape stage sender kind is speaks =
     let few : place < length (senders_in shape kind) = omega (arith, slots_next shape stage kind is, length-senders_in shape kind) in
     let other = slice_get-get_or (senders_in shape kind) place 0 few in
     let there = slot_at-place shape stage place (get_or (senders_in shape kind) place 0) kind is other in
-    let same : record { stage = stage; sender = get_or (senders_in shape kind) place 0 } ≡ record { stage = stage; sender = sender } = told_same _ _ (sym there ∙ ap (slot_at shape) (sym number) ∙ slot_at-number shape stage sender speaks) in
+    let same : record { stage = stage; sender = get_or (senders_in shape kind) place 0 } ≡ record { stage = stage; sender = sender } = told_same _ _ (sym there
+    ∙ ap (slot_at shape) (sym number) ∙ slot_at-number shape stage sender speaks) in
     (place, other ∙ ap (λ (s : Slot). Some s.sender) same)
   where
     told_same : (x y : Slot) → (let told : Slot → Option Slot = λ z. Some z in told x ≡ told y) → x ≡ y

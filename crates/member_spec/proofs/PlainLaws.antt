@@ -86,10 +86,15 @@ nothing-ends c = ending-none c [] refl
 start-agrees : (replies : Replies) (c : Configuration) → IsPlain replies → SaysGrammar c (first_posts c []) → Agrees c [] (actor_at_start replies c)
 unfolding Agrees least_ending
 start-agrees replies c plain grammar = elim (cases_Bool (is_open (stand_after c []).verdict)) [
-  | inl still ↦ inl (record { none = first_below-none (ending_at c []) 1 (λ j lt. ending-all c [] j (omega arith) ∙ ap (option_map (λ verdict. (j, verdict))) (nothing-ends c ∙ open-ending _ still)); rests = rests })
+  | inl still ↦ inl (record {
+    none = first_below-none (ending_at c []) 1 (λ j lt. ending-all c [] j (omega arith)
+        ∙ ap (option_map (λ verdict. (j, verdict))) (nothing-ends c ∙ open-ending _ still));
+    rests = rests;
+  })
   | inr ended ↦ inr (record {
     ending = (0, (stand_after c []).verdict);
-    least = first_below-some (ending_at c []) 1 0 (0, (stand_after c []).verdict) (omega arith) (λ j lt. absurd (omega (arith, lt))) (ending-all c [] 0 (omega arith) ∙ ap (option_map (λ verdict. (0, verdict))) (nothing-ends c ∙ closed-ending _ ended));
+    least = first_below-some (ending_at c []) 1 0 (0, (stand_after c []).verdict) (omega arith) (λ j lt. absurd (omega (arith, lt))) (ending-all c [] 0 (omega arith)
+        ∙ ap (option_map (λ verdict. (0, verdict))) (nothing-ends c ∙ closed-ending _ ended));
     within = omega arith;
     has = record {
       closed = ended;
@@ -106,7 +111,8 @@ start-agrees replies c plain grammar = elim (cases_Bool (is_open (stand_after c 
 
 -- ---- all deliveries
 
-agrees-on : (replies : Replies) (c : Configuration) (front rest : List (List ℕ)) (a : Actor) → IsPlain replies → AlwaysSaysGrammar c → All IsBytes front → All IsBytes rest → Agrees c front a
+agrees-on : (replies : Replies) (c : Configuration) (front rest : List (List ℕ)) (a : Actor) → IsPlain replies → AlwaysSaysGrammar c
+    → All IsBytes front → All IsBytes rest → Agrees c front a
     → Agrees c (front ++ rest) (fold (actor_behind_delivery replies c) a rest)
 agrees-on replies c front [] a plain grammar before later is = subst (λ (d : List (List ℕ)). Agrees c d a) (sym (append-nil front)) is
 agrees-on replies c front (bytes ∷ rest) a plain grammar before later is =
@@ -125,7 +131,8 @@ agrees-on replies c front (bytes ∷ rest) a plain grammar before later is =
     rest-all : (x : List ℕ) (xs : List (List ℕ)) → All IsBytes (x ∷ xs) → All IsBytes xs
     rest-all x xs all k d lt = all (suc k) d (omega (arith, lt))
 
-pub agrees-after : (replies : Replies) (c : Configuration) (delivered : List (List ℕ)) → IsPlain replies → AlwaysSaysGrammar c → All IsBytes delivered → Agrees c delivered (actor_after replies c delivered)
+pub agrees-after : (replies : Replies) (c : Configuration) (delivered : List (List ℕ)) → IsPlain replies → AlwaysSaysGrammar c → All IsBytes delivered
+    → Agrees c delivered (actor_after replies c delivered)
 unfolding actor_after
 agrees-after replies c delivered plain grammar are =
     agrees-on replies c [] delivered (actor_at_start replies c) plain grammar none are (start-agrees replies c plain (grammar [] none))
@@ -137,10 +144,12 @@ agrees-after replies c delivered plain grammar are =
 
 filter-members : (f g : ℕ → Bool) (xs : List ℕ) → ((i x : ℕ) → slice_get xs i ≡ Some x → f x ≡ g x) → filter f xs ≡ filter g xs
 filter-members f g [] same = refl
-filter-members f g (x ∷ xs) same = ap (λ (b : Bool). if b then x ∷ filter f xs else filter f xs) (same 0 x refl) ∙ ap (λ (ys : List ℕ). if g x then x ∷ ys else ys) (filter-members f g xs (λ i y e. same (suc i) y e))
+filter-members f g (x ∷ xs) same = ap (λ (b : Bool). if b then x ∷ filter f xs else filter f xs) (same 0 x refl)
+    ∙ ap (λ (ys : List ℕ). if g x then x ∷ ys else ys) (filter-members f g xs (λ i y e. same (suc i) y e))
 
 -- where the round is open it waits for those that the result names
-waits-same : (c : Configuration) (others : Others) (a : Actor) → WaitsAtFirst c others → a.log ≡ settled_log c others → a.stand ≡ course_of c others → Waiting a.stand.at (members_missing c a) ≡ waiting_outcome c others (course_of c others)
+waits-same : (c : Configuration) (others : Others) (a : Actor) → WaitsAtFirst c others → a.log ≡ settled_log c others → a.stand ≡ course_of c others
+    → Waiting a.stand.at (members_missing c a) ≡ waiting_outcome c others (course_of c others)
 waits-same c others a waits log stand =
     ap (λ (s : Stand). Waiting s.at (filter (is_missing a.log s.at) (senders_at c s.at))) stand
     ∙ ap (λ (l : Log). Waiting (course_of c others).at (filter (is_missing l (course_of c others).at) (senders_at c (course_of c others).at))) log
@@ -160,7 +169,8 @@ waits-same c others a waits log stand =
         ∙ sym (ap (λ (o : Option StageKind). filter (is_awaited c others (course_of c others).at) (option_map_or (senders_in (shape_in c)) o [])) e)
 
 -- a member that agrees has come to the result
-pub agrees-comes : (c : Configuration) (delivered : List (List ℕ)) (a : Actor) → c.round < 2 ^ 64 → 1 ≤ (shape_in c).members → All IsBytes delivered → Agrees c delivered a → ComesTo c delivered a
+pub agrees-comes : (c : Configuration) (delivered : List (List ℕ)) (a : Actor) → c.round < 2 ^ 64 → 1 ≤ (shape_in c).members → All IsBytes delivered
+    → Agrees c delivered a → ComesTo c delivered a
 unfolding Agrees result_of posts_of log_after
 agrees-comes c delivered a small least are (inl is) =
     let firsts : Others = first_posts c delivered in
@@ -170,7 +180,8 @@ agrees-comes c delivered a small least are (inl is) =
     let waits = open_rounds_wait c firsts small least (first_posts_name c delivered are) still in
     record {
       outcome =
-          cond-true (is_open a.ending) (Waiting a.stand.at (members_missing c a)) (outcome_ended c a.stand a.ending) (ap is_open (is.rests.follows.ending ∙ ap (λ (s : Stand). s.verdict) stand) ∙ still)
+          cond-true (is_open a.ending) (Waiting a.stand.at (members_missing c a)) (outcome_ended c a.stand a.ending) (ap is_open (is.rests.follows.ending
+          ∙ ap (λ (s : Stand). s.verdict) stand) ∙ still)
           ∙ waits-same c firsts a waits log stand ∙ sym (ap (outcome_by c delivered) is.none);
       posts = rests-made c firsts a is.rests ∙ sym (ap (λ (o : Option (ℕ × Verdict)). own_posts c (stand_after c (counted_part delivered o))) is.none);
       log = log ∙ sym (ap (λ (o : Option (ℕ × Verdict)). settled_log c (first_posts c (counted_part delivered o))) is.none);
@@ -216,10 +227,12 @@ plain_ends_once replies c delivered shuffle plain is are =
     subst (λ (made : List Post). EndsOnce c made shuffle) (sym comes.posts) (own-ends c others shuffle is (settled_run_is_honest c others is check))
 
 -- the own posts that a settled log keeps are those of its course
-said-there : (c : Configuration) (others : Others) (stage : ℕ) → own_post_at c (course_of c others) stage ≡ kept_in (settled_log c others) (own_slot (settled_run c others) stage)
+said-there : (c : Configuration) (others : Others) (stage : ℕ)
+    → own_post_at c (course_of c others) stage ≡ kept_in (settled_log c others) (own_slot (settled_run c others) stage)
 unfolding post_settled settled_log
 said-there c others stage = elim (cases_Bool (is_slot (shape_in c) stage c.number)) [
-  | inl speaks ↦ sym (settled-kept c others (own_slot (settled_run c others) stage) speaks ∙ cond-true (c.number == c.number) (own_post_at c (course_of c others) stage) _ (eq-eqb c.number c.number refl))
+  | inl speaks ↦ sym (settled-kept c others (own_slot (settled_run c others) stage) speaks
+      ∙ cond-true (c.number == c.number) (own_post_at c (course_of c others) stage) _ (eq-eqb c.number c.number refl))
   | inr silent ↦ cond-false (has_spoken c (course_of c others) stage) _ None (ap (λ (b : Bool). b && (nat_lt stage (course_of c others).at || (is_open (course_of c others).verdict && (stage == (course_of c others).at)))) silent)
       ∙ sym (cond-false (is_slot (shape_in c) stage c.number) _ None silent)
 ]
@@ -240,4 +253,5 @@ pub plain_posts_are_said : PlainPostsAreSaid
 unfolding posts_of log_after
 plain_posts_are_said replies c delivered plain is are =
     let comes = honest_comes_to_result replies c delivered plain is are in
-    comes.posts ∙ said-all c (first_posts c (delivered_counted c delivered)) ∙ sym (ap (λ (log : Log). posts_said (record { config = c; log = log })) comes.log)
+    comes.posts ∙ said-all c (first_posts c (delivered_counted c delivered))
+    ∙ sym (ap (λ (log : Log). posts_said (record { config = c; log = log })) comes.log)

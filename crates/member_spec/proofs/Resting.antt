@@ -25,12 +25,14 @@ stays-still f (suc n) a e = ap (iterate f n) e ∙ stays-still f n a e
 Moved : Replies → Configuration → Others → ℕ → Actor → Type 0
 Moved replies c others far a = Rests c others a ⊎ ((now : Bool) × (stages : ℕ) × Follows c others now stages a × (far ≤ 2 * stages + bit now))
 
-moved : (replies : Replies) (c : Configuration) (others : Others) (n : ℕ) (now : Bool) (stages : ℕ) (a : Actor) → IsPlain replies → SaysGrammar c others → Follows c others now stages a
+moved : (replies : Replies) (c : Configuration) (others : Others) (n : ℕ) (now : Bool) (stages : ℕ) (a : Actor) → IsPlain replies
+    → SaysGrammar c others → Follows c others now stages a
     → Moved replies c others (2 * stages + bit now + n) (iterate (actor_behind_step replies c) n a)
 unfolding Moved
 moved replies c others zero now stages a plain grammar f = inr (now, stages, f, omega arith)
 moved replies c others (suc n) now stages a plain grammar f = elim (step-leads replies c others now stages a plain grammar f) [
-  | inl still ↦ inl (subst (Rests c others) (sym (ap (iterate (actor_behind_step replies c) n) still.stays ∙ stays-still (actor_behind_step replies c) n a still.stays)) still.rests)
+  | inl still ↦ inl (subst (Rests c others) (sym (ap (iterate (actor_behind_step replies c) n) still.stays
+      ∙ stays-still (actor_behind_step replies c) n a still.stays)) still.rests)
   | inr on ↦ elim (moved replies c others n on.now on.stages (actor_behind_step replies c a) plain grammar on.follows) [
     | inl rests ↦ inl rests
     | inr far ↦ (let further = on.further in let least = far.3 in inr (far.0, far.1, far.2, omega arith))
@@ -38,7 +40,8 @@ moved replies c others (suc n) now stages a plain grammar f = elim (step-leads r
 ]
 
 -- where all stages were passed, nothing is left
-past-rests : (c : Configuration) (others : Others) (now : Bool) (stages : ℕ) (a : Actor) → Follows c others now stages a → stage_count (shape_in c) ≤ stages → Rests c others a
+past-rests : (c : Configuration) (others : Others) (now : Bool) (stages : ℕ) (a : Actor) → Follows c others now stages a
+    → stage_count (shape_in c) ≤ stages → Rests c others a
 unfolding stage_filled
 past-rests c others now stages a f le = record {
   now = now;
@@ -55,7 +58,8 @@ past-rests c others now stages a f le = record {
     none = stage-past (shape_in c) a.stand.at (let at = f.at in omega arith)
 
 -- all steps that there can be end at rest
-pub steps-rest : (replies : Replies) (c : Configuration) (others : Others) (now : Bool) (stages : ℕ) (a : Actor) → IsPlain replies → SaysGrammar c others → Follows c others now stages a → Rests c others (actor_behind_steps replies c a)
+pub steps-rest : (replies : Replies) (c : Configuration) (others : Others) (now : Bool) (stages : ℕ) (a : Actor) → IsPlain replies
+    → SaysGrammar c others → Follows c others now stages a → Rests c others (actor_behind_steps replies c a)
 unfolding Moved
 steps-rest replies c others now stages a plain grammar f = elim (moved replies c others (2 * stage_count (shape_in c)) now stages a plain grammar f) [
   | inl rests ↦ rests
@@ -81,13 +85,15 @@ rests-stand c others a rests =
     ∙ ap (course_from c others (stage_count (shape_in c) - rests.stages)) (sym f.stand) ∙ course-stays c others (stage_count (shape_in c) - rests.stages) a.stand rests.no_next)
 
 -- whether it has spoken is whether the round is open, where it is a sender
-spoken-open : (c : Configuration) (others : Others) (a : Actor) (rests : Rests c others a) → is_slot (shape_in c) a.stand.at c.number ≡ true → rests.now ≡ is_open a.stand.verdict
+spoken-open : (c : Configuration) (others : Others) (a : Actor) (rests : Rests c others a) → is_slot (shape_in c) a.stand.at c.number ≡ true
+    → rests.now ≡ is_open a.stand.verdict
 spoken-open c others a rests speaks = elim (cases_Bool (is_open a.stand.verdict)) [
   | inl still ↦ rests.spoken still speaks ∙ sym still
   | inr ended ↦ false_from_ne_true rests.now (λ spoken. (let both = sym (rests.follows.still spoken) ∙ ended in cc)) ∙ sym ended
 ]
 
-settled-is : (c : Configuration) (others : Others) → log_with c others (course_of c others) (is_open (course_of c others).verdict) ≡ settled_log c others
+settled-is : (c : Configuration) (others : Others)
+    → log_with c others (course_of c others) (is_open (course_of c others).verdict) ≡ settled_log c others
 unfolding log_with settled_log post_settled
 settled-is c others = refl
 

@@ -36,7 +36,8 @@ IsClosing (Final shuffle) = Unit {0}
 IsClosing Confirm = Unit {0}
 IsClosing kind = ⊥
 
-open-room : (shape : Shape) (x : Content) (kind : StageKind) → 1 ≤ shape.members → OfGrammar shape x → kind_of_stage shape x.header.stage ≡ Some kind → (IsClosing kind → ⊥)
+open-room : (shape : Shape) (x : Content) (kind : StageKind) → 1 ≤ shape.members → OfGrammar shape x → kind_of_stage shape x.header.stage ≡ Some kind
+    → (IsClosing kind → ⊥)
     → length (content_text x) ≤ 76 + greatest_body shape kind
 open-room shape x Keys some is at open_kind = omega (arith, fixed-length shape x Keys is at (omega arith))
 open-room shape x (Submit shuffle) some is at open_kind = omega (arith, fixed-length shape x (Submit shuffle) is at (layers (if shuffle == 1 then 36 + 2272 * shape.members else 34)))
@@ -54,14 +55,16 @@ open-room shape x (Final shuffle) some is at open_kind = absurd (open_kind tt)
 open-room shape x Confirm some is at open_kind = absurd (open_kind tt)
 
 -- a post that checks is no longer than the greatest one of its stage
-post-room : (c : Configuration) (slot : Slot) (post : Post) (kind : StageKind) → 1 ≤ (shape_in c).members → ChecksIn c slot post → kind_of_stage (shape_in c) slot.stage ≡ Some kind
+post-room : (c : Configuration) (slot : Slot) (post : Post) (kind : StageKind) → 1 ≤ (shape_in c).members → ChecksIn c slot post
+    → kind_of_stage (shape_in c) slot.stage ≡ Some kind
     → length (post_spelling post) ≤ greatest_post (shape_in c) kind
 post-room c slot post kind some checks kind_is = by_kind kind kind_is
   where
     limit : length (post_spelling post) ≤ 16777216
     limit = (let admitted = checks-admitted c slot post checks in let most = admitted.1.frame.most in omega (arith, spelled-long post, most))
 
-    open_kind : (k : StageKind) → kind_of_stage (shape_in c) slot.stage ≡ Some k → (IsClosing k → ⊥) → length (post_spelling post) ≤ 4 + 76 + greatest_body (shape_in c) k + 9324
+    open_kind : (k : StageKind) → kind_of_stage (shape_in c) slot.stage ≡ Some k → (IsClosing k → ⊥)
+        → length (post_spelling post) ≤ 4 + 76 + greatest_body (shape_in c) k + 9324
     open_kind k e not_closing =
         let said = said-there c slot post checks in
         let admitted = checks-admitted c slot post checks in
@@ -111,7 +114,8 @@ stage-sum shape stage kind (sender ∷ senders) e =
     one-more n w = omega arith
 
 -- the slots of all stages from one on
-slots-sum : (shape : Shape) (first : ℕ) (kinds : List StageKind) → ((i : ℕ) (kind : StageKind) → slice_get kinds i ≡ Some kind → kind_of_stage shape (first + i) ≡ Some kind)
+slots-sum : (shape : Shape) (first : ℕ) (kinds : List StageKind)
+    → ((i : ℕ) (kind : StageKind) → slice_get kinds i ≡ Some kind → kind_of_stage shape (first + i) ≡ Some kind)
     → sum_by (slot_room shape) (slots_from shape first kinds) ≡ sum_by (λ kind. senders_of shape kind * greatest_post shape kind) kinds
 slots-sum shape first [] are = refl
 slots-sum shape first (kind ∷ kinds) are =
@@ -119,7 +123,8 @@ slots-sum shape first (kind ∷ kinds) are =
     let rest = slots-sum shape (first + 1) kinds (λ i k e. (let next : first + 1 + i ≡ first + suc i = omega arith in ap (kind_of_stage shape) next ∙ are (suc i) k e)) in
     let now : List Slot = map (λ sender. record { stage = first; sender = sender }) (senders_in shape kind) in
     sum_by-append (slot_room shape) now (slots_from shape (first + 1) kinds)
-    ∙ ap (λ (n : ℕ). n + sum_by (slot_room shape) (slots_from shape (first + 1) kinds)) (stage-sum shape first kind (senders_in shape kind) here ∙ ap (λ (n : ℕ). n * greatest_post shape kind) (length-senders_in shape kind))
+    ∙ ap (λ (n : ℕ). n + sum_by (slot_room shape) (slots_from shape (first + 1) kinds)) (stage-sum shape first kind (senders_in shape kind) here
+    ∙ ap (λ (n : ℕ). n * greatest_post shape kind) (length-senders_in shape kind))
     ∙ ap (λ (n : ℕ). senders_of shape kind * greatest_post shape kind + n) rest
     ∙ sym (sum_by-cons (λ kind. senders_of shape kind * greatest_post shape kind) kind kinds)
 
@@ -133,12 +138,14 @@ places-room c places some whole checks =
     let sum = slots-sum shape 0 (stages shape) (λ i kind e. (let start : 0 + i ≡ i = omega arith in ap (kind_of_stage (shape_in c)) start ∙ e)) in
     omega (arith, bounded, sum)
   where
-    by_kind : (slot : Slot) (post : Post) → is_slot (shape_in c) slot.stage slot.sender ≡ true → ChecksIn c slot post → (kind : StageKind) → kind_of_stage (shape_in c) slot.stage ≡ Some kind
+    by_kind : (slot : Slot) (post : Post) → is_slot (shape_in c) slot.stage slot.sender ≡ true → ChecksIn c slot post → (kind : StageKind)
+        → kind_of_stage (shape_in c) slot.stage ≡ Some kind
         → length (post_spelling post) ≤ slot_room (shape_in c) slot
     by_kind slot post speaks checked kind e =
         subst (λ (n : ℕ). length (post_spelling post) ≤ n) (sym (ap (λ (o : Option StageKind). option_map_or (greatest_post (shape_in c)) o 0) e)) (post-room c slot post kind some checked e)
 
-    each : (i : ℕ) (place : Option Post) (slot : Slot) → slice_get places i ≡ Some place → slice_get (slots_of (shape_in c)) i ≡ Some slot → bytes_at place ≤ slot_room (shape_in c) slot
+    each : (i : ℕ) (place : Option Post) (slot : Slot) → slice_get places i ≡ Some place → slice_get (slots_of (shape_in c)) i ≡ Some slot
+        → bytes_at place ≤ slot_room (shape_in c) slot
     each i None slot at there = omega arith
     each i (Some post) slot at there =
         let is = slot_at-is (shape_in c) i slot there in

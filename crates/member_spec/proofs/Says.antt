@@ -39,7 +39,8 @@ behind-past : (c : Configuration) (stand : Stand) (posts : List Post) → (stand
 unfolding stand_behind
 behind-past c stand posts = refl
 
-next-later : (c : Configuration) (others : Others) (stand next later : Stand) → next_stand c others stand ≡ Some next → IsLater next later → IsLater stand later
+next-later : (c : Configuration) (others : Others) (stand next later : Stand) → next_stand c others stand ≡ Some next → IsLater next later
+    → IsLater stand later
 next-later c others stand next later e is =
     let parts = next-parts c others stand next e in
     let posts : List Post = parts.1.0 in
@@ -50,7 +51,8 @@ next-later c others stand next later e is =
     record {
       at = omega (arith, step);
       past = sym (take-take (length stand.past) (length next.past) later.past (omega (arith, more, length-append stand.past posts)))
-          ∙ ap (take (length stand.past)) (is.past ∙ longer) ∙ take-append-le (length stand.past) stand.past posts (omega arith) ∙ take_all (length stand.past) stand.past (omega arith);
+          ∙ ap (take (length stand.past)) (is.past ∙ longer) ∙ take-append-le (length stand.past) stand.past posts (omega arith)
+          ∙ take_all (length stand.past) stand.past (omega arith);
     }
 
 goes-later : (c : Configuration) (others : Others) (stages : ℕ) (stand : Stand) → IsLater stand (course_from c others stages stand)
@@ -62,12 +64,14 @@ goes-later c others (suc stages) stand = elim (cases_Some (next_stand c others s
 ]
 
 -- the end of the course is later than each of its stands
-end-later : (c : Configuration) (others : Others) (stages : ℕ) → next_stand c others (course_of c others) ≡ None → IsLater (course_from c others stages first_stand) (course_of c others)
+end-later : (c : Configuration) (others : Others) (stages : ℕ) → next_stand c others (course_of c others) ≡ None
+    → IsLater (course_from c others stages first_stand) (course_of c others)
 unfolding course_of
 end-later c others stages stops = elim (cases_lt stages (stage_count (shape_in c))) [
   | inl lt ↦
       let split : stage_count (shape_in c) ≡ stages + (stage_count (shape_in c) - stages) = omega arith in
-      subst (IsLater (course_from c others stages first_stand)) (sym (ap (λ (k : ℕ). course_from c others k first_stand) split ∙ course-adds c others stages (stage_count (shape_in c) - stages) first_stand))
+      subst (IsLater (course_from c others stages first_stand)) (sym (ap (λ (k : ℕ). course_from c others k first_stand) split
+      ∙ course-adds c others stages (stage_count (shape_in c) - stages) first_stand))
       (goes-later c others (stage_count (shape_in c) - stages) (course_from c others stages first_stand))
   | inr le ↦
       let split : stages ≡ stage_count (shape_in c) + (stages - stage_count (shape_in c)) = omega arith in
@@ -78,7 +82,8 @@ end-later c others stages stops = elim (cases_lt stages (stage_count (shape_in c
 
 -- ---- what it has to say at an open stand
 
-stand-goes : (c : Configuration) (others : Others) (stand : Stand) → IsReached c others stand → is_open stand.verdict ≡ true → AllGo c stand.past stand.at
+stand-goes : (c : Configuration) (others : Others) (stand : Stand) → IsReached c others stand → is_open stand.verdict ≡ true
+    → AllGo c stand.past stand.at
 stand-goes c others stand is still earlier lt = elim (cases_lt (earlier + 1) stand.at) [
   | inl before_it ↦ is.goes earlier before_it
   | inr now ↦
@@ -102,7 +107,8 @@ own-is c others stages stops still =
       said = refl;
     }
 
-ok-when : (c : Configuration) (past : List Post) (stage : ℕ) (content : Content) → content_read (shape_in c) (own_post c past stage).content ≡ Ok content → is_ok (content_read (shape_in c) (own_content c past stage)) ≡ true
+ok-when : (c : Configuration) (past : List Post) (stage : ℕ) (content : Content)
+    → content_read (shape_in c) (own_post c past stage).content ≡ Ok content → is_ok (content_read (shape_in c) (own_content c past stage)) ≡ true
 unfolding own_post
 ok-when c past stage content e = ap is_ok e
 

@@ -43,7 +43,8 @@ both : (a b : Bool) → a ≡ true → b ≡ true → (a && b) ≡ true
 both a b first second = ap (λ (t : Bool). t && b) first ∙ second
 
 -- a list that is full on a range is so with one place more filled
-set-full : (xs : List (Option Post)) (k m n : ℕ) (post : Post) → list_all is_some (take n (drop m xs)) ≡ true → list_all is_some (take n (drop m (slice_set xs k (Some post)))) ≡ true
+set-full : (xs : List (Option Post)) (k m n : ℕ) (post : Post) → list_all is_some (take n (drop m xs)) ≡ true
+    → list_all is_some (take n (drop m (slice_set xs k (Some post)))) ≡ true
 set-full [] k m n post e = e
 set-full (x ∷ xs) k zero zero post e = refl
 set-full (x ∷ xs) zero zero (suc n) post e = (and_parts (is_some x) (list_all is_some (take n xs)) e).1
@@ -53,7 +54,7 @@ set-full (x ∷ xs) (suc k) zero (suc n) post e =
 set-full (x ∷ xs) zero (suc m) n post e = e
 set-full (x ∷ xs) (suc k) (suc m) n post e = set-full xs k m n post e
 
-filled-complete : (log : Log) (slot : Slot) (post : Post) (stage : ℕ) → is_complete log stage ≡ true → is_complete (filled log slot post) stage ≡ true
+pub filled-complete : (log : Log) (slot : Slot) (post : Post) (stage : ℕ) → is_complete log stage ≡ true → is_complete (filled log slot post) stage ≡ true
 filled-complete log slot post stage e =
     set-full log.posts (slot_number log.shape slot.stage slot.sender) (slots_before log.shape stage) (slots_before log.shape (stage + 1) - slots_before log.shape stage) post e
 
@@ -102,7 +103,8 @@ there-complete c a posts e = elim (cases_Bool (nat_lt a.stand.at (stage_count (s
   | inr ge ↦ absurd (none-some posts (sym (cond-false (nat_lt a.stand.at (stage_count (shape_in c))) (all_some (posts_in a.log a.stand.at)) None ge) ∙ e))
 ]
 
-stage-comes : (c : Configuration) (a : Actor) (posts : List Post) → stage_posts c a ≡ Some posts → HasCome c a → HasCome c (actor_behind_stage c a (stand_behind c a.stand posts))
+stage-comes : (c : Configuration) (a : Actor) (posts : List Post) → stage_posts c a ≡ Some posts → HasCome c a
+    → HasCome c (actor_behind_stage c a (stand_behind c a.stand posts))
 stage-comes c a posts e has = record {
   shape = has.shape;
   complete = λ stage lt. elim (cases_lt stage a.stand.at) [
@@ -113,7 +115,8 @@ stage-comes c a posts e has = record {
   ];
 }
 
-with-comes : (replies : Replies) (c : Configuration) (a : Actor) (o : Option (List Post)) → stage_posts c a ≡ o → HasCome c a → HasCome c (actor_behind_step_with replies c a o)
+with-comes : (replies : Replies) (c : Configuration) (a : Actor) (o : Option (List Post)) → stage_posts c a ≡ o → HasCome c a
+    → HasCome c (actor_behind_step_with replies c a o)
 with-comes replies c a (Some posts) e has = stage-comes c a posts e has
 with-comes replies c a None e has = either c (actor_behind_question replies c a (content_to_say replies c a.stand)) a (is_due c a.stand a.mood) (answer-comes c a (speech_about replies c a (content_to_say replies c a.stand)) has) has
 
@@ -166,7 +169,8 @@ answer-further c a (Wait bytes) = refl
 answer-further c a Silent = refl
 
 -- a step changes nothing, or leads further
-step-further : (replies : Replies) (c : Configuration) (a : Actor) → (actor_behind_step replies c a ≡ a) ⊎ (way_of a < way_of (actor_behind_step replies c a))
+step-further : (replies : Replies) (c : Configuration) (a : Actor)
+    → (actor_behind_step replies c a ≡ a) ⊎ (way_of a < way_of (actor_behind_step replies c a))
 step-further replies c a = elim (cases_Bool (is_open a.ending)) [
   | inr ended ↦ inl (ended-step replies c a ended)
   | inl still ↦ elim (cases_Some (stage_posts c a)) [
@@ -200,7 +204,7 @@ past-still replies c a le = elim (cases_Bool (is_open a.ending)) [
 ]
 
 -- behind enough steps one more changes nothing
-steps-suffice : (replies : Replies) (c : Configuration) (n : ℕ) (a : Actor) → 2 * stage_count (shape_in c) ≤ way_of a + n
+pub steps-suffice : (replies : Replies) (c : Configuration) (n : ℕ) (a : Actor) → 2 * stage_count (shape_in c) ≤ way_of a + n
     → actor_behind_step replies c (iterate (actor_behind_step replies c) n a) ≡ iterate (actor_behind_step replies c) n a
 steps-suffice replies c zero a far = past-still replies c a (let least = asked-least a.mood in omega (arith, far, least))
 steps-suffice replies c (suc n) a far = elim (step-further replies c a) [
@@ -211,7 +215,8 @@ steps-suffice replies c (suc n) a far = elim (step-further replies c a) [
 ]
 
 -- where a step changes nothing and the round is open, the stage is not complete
-still-waits : (replies : Replies) (c : Configuration) (a : Actor) → actor_behind_step replies c a ≡ a → is_open a.ending ≡ true → stage_posts c a ≡ None
+still-waits : (replies : Replies) (c : Configuration) (a : Actor) → actor_behind_step replies c a ≡ a → is_open a.ending ≡ true
+    → stage_posts c a ≡ None
 still-waits replies c a same still = elim (cases_Some (stage_posts c a)) [
   | inl none ↦ none
   | inr there ↦ absurd (
@@ -244,7 +249,8 @@ heard-waits replies c a (Some heard) is = by_kept (is_some (kept_in a.log (slot_
     by_kept true = is
     by_kept false = steps-wait replies c (actor_behind_repeat replies c (actor_with_heard a heard) a.mood) (repeat-comes replies c (actor_with_heard a heard) a.mood kept)
 
-fault-waits : (replies : Replies) (c : Configuration) (a : Actor) (bytes : List ℕ) (o : Option Verdict) → is_open a.ending ≡ true → Waits c a → Waits c (actor_behind_fault replies c a bytes o)
+fault-waits : (replies : Replies) (c : Configuration) (a : Actor) (bytes : List ℕ) (o : Option Verdict) → is_open a.ending ≡ true → Waits c a
+    → Waits c (actor_behind_fault replies c a bytes o)
 fault-waits replies c a bytes (Some verdict) still is = record { has = record { shape = is.has.shape; complete = is.has.complete }; waits = λ _. is.waits still }
 fault-waits replies c a bytes None still is = heard-waits replies c a (heard_of c bytes) is
 
@@ -255,7 +261,8 @@ delivery-waits replies c a bytes is = elim (cases_Bool (is_open a.ending)) [
   | inr ended ↦ subst (Waits c) (sym (cond-false (is_open a.ending) (actor_behind_fault replies c a bytes (fault_shown c (kept_in a.log) bytes)) a ended)) is
 ]
 
-fold-waits : (replies : Replies) (c : Configuration) (a : Actor) (delivered : List (List ℕ)) → Waits c a → Waits c (fold (actor_behind_delivery replies c) a delivered)
+fold-waits : (replies : Replies) (c : Configuration) (a : Actor) (delivered : List (List ℕ)) → Waits c a
+    → Waits c (fold (actor_behind_delivery replies c) a delivered)
 fold-waits replies c a [] is = is
 fold-waits replies c a (bytes ∷ rest) is = fold-waits replies c (actor_behind_delivery replies c a bytes) rest (delivery-waits replies c a bytes is)
 
@@ -265,7 +272,8 @@ after-waits replies c delivered = fold-waits replies c (actor_at_start replies c
 
 -- ---- the law
 
-stands-first : (c : Configuration) (a : Actor) → Waits c a → is_open a.ending ≡ true → first_incomplete_of a.log ≡ (if nat_lt a.stand.at (stage_count (shape_in c)) then Some a.stand.at else None)
+stands-first : (c : Configuration) (a : Actor) → Waits c a → is_open a.ending ≡ true
+    → first_incomplete_of a.log ≡ (if nat_lt a.stand.at (stage_count (shape_in c)) then Some a.stand.at else None)
 stands-first c a is still = elim (cases_lt a.stand.at (stage_count (shape_in c))) [
   | inl lt ↦
       first_below-some (incomplete_stage a.log) (stage_count a.log.shape) a.stand.at a.stand.at (omega (arith, lt, count)) (λ j below. complete-none a.log j (is.has.complete j below))
@@ -285,5 +293,6 @@ open_stand_at_first replies c delivered still =
     let is = after-waits replies c delivered in
     record {
       first = stands-first c a is still;
-      bits = ap (λ (s : Shape). bits_of (filter (is_missing a.log a.stand.at) (option_map_or (senders_in s) (kind_of_stage s a.stand.at) []))) (sym is.has.shape) ∙ bits-missing a.log a.stand.at;
+      bits = ap (λ (s : Shape). bits_of (filter (is_missing a.log a.stand.at) (option_map_or (senders_in s) (kind_of_stage s a.stand.at) []))) (sym is.has.shape)
+          ∙ bits-missing a.log a.stand.at;
     }

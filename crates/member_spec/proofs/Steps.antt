@@ -49,7 +49,8 @@ pub record Rests (c : Configuration) (others : Others) (a : Actor) : Type 0 wher
   pub spoken : is_open a.stand.verdict ≡ true → is_slot (shape_in c) a.stand.at c.number ≡ true → now ≡ true
 
 -- the stand is one that the course reaches
-pub follows-reached : (c : Configuration) (others : Others) (now : Bool) (stages : ℕ) (a : Actor) → Follows c others now stages a → IsReached c others a.stand
+pub follows-reached : (c : Configuration) (others : Others) (now : Bool) (stages : ℕ) (a : Actor) → Follows c others now stages a
+    → IsReached c others a.stand
 follows-reached c others now stages a f = subst (IsReached c others) (sym f.stand) (stands_are_reached c others stages)
 
 -- ---- what it says
@@ -60,7 +61,8 @@ SaysGrammar c others = (stages : ℕ) → let stand = course_from c others stage
     IsTrue (is_open stand.verdict) → IsTrue (is_slot (shape_in c) stand.at c.number) →
     IsTrue (is_ok (content_read (shape_in c) (own_content c stand.past stand.at)))
 
-says-own : (replies : Replies) (c : Configuration) (stand : Stand) → IsPlain replies → content_to_say replies c stand ≡ own_content c stand.past stand.at
+says-own : (replies : Replies) (c : Configuration) (stand : Stand) → IsPlain replies
+    → content_to_say replies c stand ≡ own_content c stand.past stand.at
 unfolding content_to_say own_content own_descriptor
 says-own replies c stand plain =
     ap (λ (d : Description). content_text (content_with c (descriptor_text d) stand.past stand.at)) (plain.descriptor (own_description c (contents_of stand.past)))
@@ -80,7 +82,8 @@ having_said c a = record a {
   made = a.made ++ own_post c a.stand.past a.stand.at ∷ [];
 }
 
-question-says : (replies : Replies) (c : Configuration) (a : Actor) → IsPlain replies → is_ok (content_read (shape_in c) (own_content c a.stand.past a.stand.at)) ≡ true
+question-says : (replies : Replies) (c : Configuration) (a : Actor) → IsPlain replies
+    → is_ok (content_read (shape_in c) (own_content c a.stand.past a.stand.at)) ≡ true
     → actor_behind_question replies c a (content_to_say replies c a.stand) ≡ having_said c a
 unfolding own_post
 question-says replies c a plain reads =
@@ -94,7 +97,8 @@ pub ended-step : (replies : Replies) (c : Configuration) (a : Actor) → is_open
 unfolding actor_behind_step
 ended-step replies c a ended = cond-false (is_open a.ending) (actor_behind_step_with replies c a (stage_posts c a)) a ended
 
-pub open-step : (replies : Replies) (c : Configuration) (a : Actor) (o : Option (List Post)) → is_open a.ending ≡ true → stage_posts c a ≡ o → actor_behind_step replies c a ≡ actor_behind_step_with replies c a o
+pub open-step : (replies : Replies) (c : Configuration) (a : Actor) (o : Option (List Post)) → is_open a.ending ≡ true → stage_posts c a ≡ o
+    → actor_behind_step replies c a ≡ actor_behind_step_with replies c a o
 unfolding actor_behind_step
 open-step replies c a o still e = cond-true (is_open a.ending) (actor_behind_step_with replies c a (stage_posts c a)) a still ∙ ap (actor_behind_step_with replies c a) e
 
@@ -106,7 +110,8 @@ posts-past c a le = cond-false (nat_lt a.stand.at (stage_count (shape_in c))) (a
     (false_from_ne_true (nat_lt a.stand.at (stage_count (shape_in c))) (λ e. (let lt = ltb-true a.stand.at (stage_count (shape_in c)) e in omega arith)))
 
 -- it is to be asked exactly where it is a sender and has not spoken
-due-when : (c : Configuration) (stand : Stand) (now : Bool) (mood : Mood) → mood ≡ mood_when now → (is_slot (shape_in c) stand.at c.number ≡ true → now ≡ true) → is_due c stand mood ≡ false
+due-when : (c : Configuration) (stand : Stand) (now : Bool) (mood : Mood) → mood ≡ mood_when now
+    → (is_slot (shape_in c) stand.at c.number ≡ true → now ≡ true) → is_due c stand mood ≡ false
 due-when c stand true mood e said = ap (is_due c stand) e
 due-when c stand false mood e said = ap (is_due c stand) e ∙ false_from_ne_true (is_slot (shape_in c) stand.at c.number) (λ speaks. (let both = said speaks in cc))
 
@@ -123,8 +128,10 @@ pub record LeadsOn (c : Configuration) (others : Others) (from : ℕ) (a : Actor
   pub further : from < 2 * stages + bit now
 
 -- the step in which it speaks
-speaks-on : (replies : Replies) (c : Configuration) (others : Others) (stages : ℕ) (a : Actor) (kind : StageKind) → IsPlain replies → SaysGrammar c others → Follows c others false stages a
-    → is_open a.stand.verdict ≡ true → a.stand.at < stage_count (shape_in c) → kind_of_stage (shape_in c) a.stand.at ≡ Some kind → is_slot (shape_in c) a.stand.at c.number ≡ true
+speaks-on : (replies : Replies) (c : Configuration) (others : Others) (stages : ℕ) (a : Actor) (kind : StageKind) → IsPlain replies
+    → SaysGrammar c others → Follows c others false stages a
+    → is_open a.stand.verdict ≡ true → a.stand.at < stage_count (shape_in c) → kind_of_stage (shape_in c) a.stand.at ≡ Some kind
+    → is_slot (shape_in c) a.stand.at c.number ≡ true
     → LeadsOn c others (2 * stages) (actor_behind_step replies c a)
 speaks-on replies c others stages a kind plain grammar f still lt kind_is speaks =
     subst (LeadsOn c others (2 * stages)) (sym step) (record { now = true; stages = stages; follows = after; further = omega arith })
@@ -142,7 +149,9 @@ speaks-on replies c others stages a kind plain grammar f still lt kind_is speaks
     reads = subst (λ (s : Stand). is_open s.verdict ≡ true → is_slot (shape_in c) s.at c.number ≡ true → is_ok (content_read (shape_in c) (own_content c s.past s.at)) ≡ true) (sym f.stand) (grammar stages) still speaks
 
     step : actor_behind_step replies c a ≡ having_said c a
-    step = open-step replies c a None (ap is_open f.ending ∙ still) waits ∙ cond-true (is_due c a.stand a.mood) (actor_behind_question replies c a (content_to_say replies c a.stand)) a due ∙ question-says replies c a plain reads
+    step = open-step replies c a None (ap is_open f.ending ∙ still) waits
+        ∙ cond-true (is_due c a.stand a.mood) (actor_behind_question replies c a (content_to_say replies c a.stand)) a due
+        ∙ question-says replies c a plain reads
 
     after : Follows c others true stages (having_said c a)
     after = record {
@@ -156,25 +165,32 @@ speaks-on replies c others stages a kind plain grammar f still lt kind_is speaks
     }
 
 -- the stand behind a stage of the course that is filled
-next-of : (c : Configuration) (others : Others) (stand : Stand) (posts : List Post) → is_open stand.verdict ≡ true → stage_filled c others stand ≡ Some posts → next_stand c others stand ≡ Some (stand_behind c stand posts)
+next-of : (c : Configuration) (others : Others) (stand : Stand) (posts : List Post) → is_open stand.verdict ≡ true
+    → stage_filled c others stand ≡ Some posts → next_stand c others stand ≡ Some (stand_behind c stand posts)
 unfolding next_stand
 next-of c others stand posts still filled_is =
-    cond-true (is_open stand.verdict) (option_map (stand_behind c stand) (stage_filled c others stand)) None still ∙ ap (option_map (stand_behind c stand)) filled_is
+    cond-true (is_open stand.verdict) (option_map (stand_behind c stand) (stage_filled c others stand)) None still
+    ∙ ap (option_map (stand_behind c stand)) filled_is
 
-pub no-next-of : (c : Configuration) (others : Others) (stand : Stand) → is_open stand.verdict ≡ true → stage_filled c others stand ≡ None → next_stand c others stand ≡ None
+pub no-next-of : (c : Configuration) (others : Others) (stand : Stand) → is_open stand.verdict ≡ true → stage_filled c others stand ≡ None
+    → next_stand c others stand ≡ None
 unfolding next_stand
 no-next-of c others stand still none =
-    cond-true (is_open stand.verdict) (option_map (stand_behind c stand) (stage_filled c others stand)) None still ∙ ap (option_map (stand_behind c stand)) none
+    cond-true (is_open stand.verdict) (option_map (stand_behind c stand) (stage_filled c others stand)) None still
+    ∙ ap (option_map (stand_behind c stand)) none
 
 -- the course comes one stage further
-course-further : (c : Configuration) (others : Others) (stages : ℕ) (stand next : Stand) → stand ≡ course_from c others stages first_stand → next_stand c others stand ≡ Some next → next ≡ course_from c others (stages + 1) first_stand
+course-further : (c : Configuration) (others : Others) (stages : ℕ) (stand next : Stand) → stand ≡ course_from c others stages first_stand
+    → next_stand c others stand ≡ Some next → next ≡ course_from c others (stages + 1) first_stand
 unfolding course_from
 course-further c others stages stand next is e =
     sym (course-adds c others stages 1 first_stand ∙ ap (course_from c others 1) (sym is) ∙ course-next c others 0 stand next e)
 
 -- the step in which it passes a stage
-passes-on : (replies : Replies) (c : Configuration) (others : Others) (now : Bool) (stages : ℕ) (a : Actor) (kind : StageKind) (posts : List Post) → Follows c others now stages a
-    → is_open a.stand.verdict ≡ true → a.stand.at < stage_count (shape_in c) → kind_of_stage (shape_in c) a.stand.at ≡ Some kind → (is_slot (shape_in c) a.stand.at c.number ≡ true → now ≡ true)
+passes-on : (replies : Replies) (c : Configuration) (others : Others) (now : Bool) (stages : ℕ) (a : Actor) (kind : StageKind) (posts : List Post)
+    → Follows c others now stages a
+    → is_open a.stand.verdict ≡ true → a.stand.at < stage_count (shape_in c) → kind_of_stage (shape_in c) a.stand.at ≡ Some kind
+    → (is_slot (shape_in c) a.stand.at c.number ≡ true → now ≡ true)
     → stage_filled c others a.stand ≡ Some posts → LeadsOn c others (2 * stages + bit now) (actor_behind_step replies c a)
 passes-on replies c others now stages a kind posts f still lt kind_is said filled_is =
     subst (LeadsOn c others (2 * stages + bit now)) (sym step) (record { now = false; stages = stages + 1; follows = after; further = further now })
@@ -211,13 +227,15 @@ pub record IsStill (replies : Replies) (c : Configuration) (others : Others) (a 
   pub rests : Rests c others a
   pub stays : actor_behind_step replies c a ≡ a
 
-still-ended : (replies : Replies) (c : Configuration) (others : Others) (now : Bool) (stages : ℕ) (a : Actor) → Follows c others now stages a → is_open a.stand.verdict ≡ false → IsStill replies c others a
+still-ended : (replies : Replies) (c : Configuration) (others : Others) (now : Bool) (stages : ℕ) (a : Actor) → Follows c others now stages a
+    → is_open a.stand.verdict ≡ false → IsStill replies c others a
 still-ended replies c others now stages a f ended = record {
   rests = record { now = now; stages = stages; follows = f; no_next = next-ended c others a.stand ended; spoken = λ still. absurd (let both = sym still ∙ ended in cc) };
   stays = ended-step replies c a (ap is_open f.ending ∙ ended);
 }
 
-still-past : (replies : Replies) (c : Configuration) (others : Others) (now : Bool) (stages : ℕ) (a : Actor) → Follows c others now stages a → is_open a.stand.verdict ≡ true → kind_of_stage (shape_in c) a.stand.at ≡ None
+still-past : (replies : Replies) (c : Configuration) (others : Others) (now : Bool) (stages : ℕ) (a : Actor) → Follows c others now stages a
+    → is_open a.stand.verdict ≡ true → kind_of_stage (shape_in c) a.stand.at ≡ None
     → stage_count (shape_in c) ≤ a.stand.at → IsStill replies c others a
 unfolding stage_filled
 still-past replies c others now stages a f still none le = record {
@@ -229,18 +247,22 @@ still-past replies c others now stages a f still none le = record {
     silent : is_slot (shape_in c) a.stand.at c.number ≡ false
     silent = ap (λ (o : Option StageKind). speaks_in (shape_in c) o c.number) none
 
-still-waiting : (replies : Replies) (c : Configuration) (others : Others) (now : Bool) (stages : ℕ) (a : Actor) (kind : StageKind) → Follows c others now stages a
-    → is_open a.stand.verdict ≡ true → a.stand.at < stage_count (shape_in c) → kind_of_stage (shape_in c) a.stand.at ≡ Some kind → (is_slot (shape_in c) a.stand.at c.number ≡ true → now ≡ true)
+still-waiting : (replies : Replies) (c : Configuration) (others : Others) (now : Bool) (stages : ℕ) (a : Actor) (kind : StageKind)
+    → Follows c others now stages a
+    → is_open a.stand.verdict ≡ true → a.stand.at < stage_count (shape_in c) → kind_of_stage (shape_in c) a.stand.at ≡ Some kind
+    → (is_slot (shape_in c) a.stand.at c.number ≡ true → now ≡ true)
     → stage_filled c others a.stand ≡ None → IsStill replies c others a
 still-waiting replies c others now stages a kind f still lt kind_is said none = record {
   rests = record { now = now; stages = stages; follows = f; no_next = no-next-of c others a.stand still none; spoken = λ _. said };
   stays = open-step replies c a None (ap is_open f.ending ∙ still)
-      (posts-within c a lt ∙ ap (λ (log : Log). all_some (posts_in log a.stand.at)) f.log ∙ stage-filled c others a.stand now kind (follows-reached c others now stages a f) kind_is said ∙ none)
+      (posts-within c a lt ∙ ap (λ (log : Log). all_some (posts_in log a.stand.at)) f.log
+      ∙ stage-filled c others a.stand now kind (follows-reached c others now stages a f) kind_is said ∙ none)
       ∙ cond-false (is_due c a.stand a.mood) _ a (due-when c a.stand now a.mood f.mood said);
 }
 
 -- a step leads on, or the member rests
-pub step-leads : (replies : Replies) (c : Configuration) (others : Others) (now : Bool) (stages : ℕ) (a : Actor) → IsPlain replies → SaysGrammar c others → Follows c others now stages a
+pub step-leads : (replies : Replies) (c : Configuration) (others : Others) (now : Bool) (stages : ℕ) (a : Actor) → IsPlain replies
+    → SaysGrammar c others → Follows c others now stages a
     → IsStill replies c others a ⊎ LeadsOn c others (2 * stages + bit now) (actor_behind_step replies c a)
 step-leads replies c others now stages a plain grammar f = elim (cases_Bool (is_open a.stand.verdict)) [
   | inr ended ↦ inl (still-ended replies c others now stages a f ended)
@@ -253,15 +275,19 @@ step-leads replies c others now stages a plain grammar f = elim (cases_Bool (is_
   ]
 ]
   where
-    filled_or_not : (still : is_open a.stand.verdict ≡ true) → a.stand.at < stage_count (shape_in c) → (kind : StageKind) → kind_of_stage (shape_in c) a.stand.at ≡ Some kind
-        → (b : Bool) → Follows c others b stages a → (is_slot (shape_in c) a.stand.at c.number ≡ true → b ≡ true) → IsStill replies c others a ⊎ LeadsOn c others (2 * stages + bit b) (actor_behind_step replies c a)
+    filled_or_not : (still : is_open a.stand.verdict ≡ true) → a.stand.at < stage_count (shape_in c) → (kind : StageKind)
+        → kind_of_stage (shape_in c) a.stand.at ≡ Some kind
+        → (b : Bool) → Follows c others b stages a → (is_slot (shape_in c) a.stand.at c.number ≡ true → b ≡ true)
+        → IsStill replies c others a ⊎ LeadsOn c others (2 * stages + bit b) (actor_behind_step replies c a)
     filled_or_not still lt kind kind_is b f said = elim (cases_Some (stage_filled c others a.stand)) [
       | inl none ↦ inl (still-waiting replies c others b stages a kind f still lt kind_is said none)
       | inr posts ↦ inr (passes-on replies c others b stages a kind posts.0 f still lt kind_is said posts.1)
     ]
 
-    by_sender : (still : is_open a.stand.verdict ≡ true) → a.stand.at < stage_count (shape_in c) → (kind : StageKind) → kind_of_stage (shape_in c) a.stand.at ≡ Some kind
-        → (is_slot (shape_in c) a.stand.at c.number ≡ true) ⊎ (is_slot (shape_in c) a.stand.at c.number ≡ false) → (b : Bool) → Follows c others b stages a
+    by_sender : (still : is_open a.stand.verdict ≡ true) → a.stand.at < stage_count (shape_in c) → (kind : StageKind)
+        → kind_of_stage (shape_in c) a.stand.at ≡ Some kind
+        → (is_slot (shape_in c) a.stand.at c.number ≡ true) ⊎ (is_slot (shape_in c) a.stand.at c.number ≡ false) → (b : Bool)
+        → Follows c others b stages a
         → IsStill replies c others a ⊎ LeadsOn c others (2 * stages + bit b) (actor_behind_step replies c a)
     by_sender still lt kind kind_is (inl speaks) true f = filled_or_not still lt kind kind_is true f (λ _. refl)
     by_sender still lt kind kind_is (inl speaks) false f =

@@ -20,8 +20,8 @@ pub fn eight_keep_at_most()
 
 /// A member of a plain conduct whose key is the roster's comes to the result of its deliveries: how the round stands, the
 /// posts that it has made and the log that it keeps; and its run is honest, with just these posts of its own. Among its posts
-/// at most one ends a shuffle, and shows the inner seed, or the outer seed and the outer opening. What it keeps has at most the bytes of the greatest post
-/// in each slot, and of all of these together.
+/// at most one ends a shuffle, and shows the inner seed, or the outer seed and the outer opening. What it keeps has at most
+/// the bytes of the greatest post in each slot, and of all of these together.
 pub fn plain_members()
     ensures result { HonestComesToResult }
     ensures honest { PlainRunIsHonest }
@@ -40,8 +40,9 @@ pub fn posts_only_grow()
     ensures { PostsGrow }
 {}
 
-/// As long as a member's round is open, it stands at the first stage of its log that is not complete, and the bits of those
-/// for whom it waits are the bits of the posts that its log lacks there, whatever its conduct is.
+/// As long as a member's round is open, it stands at the first stage of its log that is not complete, or behind the last one
+/// where all are, and the bits of those for whom it waits are the bits of the posts that its log lacks there, whatever its
+/// conduct is.
 pub fn open_members_wait()
     ensures { OpenStandAtFirst }
 {}
