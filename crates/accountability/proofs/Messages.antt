@@ -255,13 +255,13 @@ record AtEnd (c : Configuration) (delivered : List (List ℕ)) (runs : List Run)
   pub round : run.config.round ≡ c.round
 
 -- what a run has by them
-record RunFacts (c : Configuration) (run : Run) : Type 0 where
+pub record RunFacts (c : Configuration) (run : Run) : Type 0 where
   pub honest : HonestRun run
   pub shape_is : shape_in run.config ≡ shape_in c
   pub least : 1 ≤ run.config.number
   pub most : run.config.number ≤ (shape_in c).members
 
-run-facts : (c : Configuration) (runs : List Run) (run : Run) → AreHonest c.roster runs → Contains runs run → RunFacts c run
+pub run-facts : (c : Configuration) (runs : List Run) (run : Run) → AreHonest c.roster runs → Contains runs run → RunFacts c run
 run-facts c runs run honest listed =
     let its = run-honest c.roster runs run honest listed in
     let shape_is : shape_in run.config ≡ shape_in c = ap (λ (r : Roster). shape_of_roster r) (run-roster c.roster runs run honest listed) in
