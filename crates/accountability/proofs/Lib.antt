@@ -18,3 +18,4 @@ pub mod Messages
 pub mod SameList
 pub mod Lengths
 pub mod AllHonest
+pub mod AllDone

@@ -1,7 +1,7 @@
 //! Laws of how a round ends. Nobody calls these functions: the contract of each states a law.
 
 ghost use Rattle.accountability.specs.Agreed.{PlaceOpens, PlacesDiffer, SamePast};
-ghost use Rattle.accountability.specs.AllHonest.{NothingButPads};
+ghost use Rattle.accountability.specs.AllHonest.{AllHonest, NothingButPads};
 ghost use Rattle.accountability.specs.Evidence.{AcceptedFor, EvidenceAccepted, EvidenceIsBytes, FaultAccepted, VerdictAccepted};
 ghost use Rattle.accountability.specs.Faulty.{AccusedFaulty};
 ghost use Rattle.accountability.specs.Lengths.{EvidenceShort, ReplayShort};
@@ -99,4 +99,11 @@ pub fn evidence_short()
 /// in what was delivered, and no two strings of the runs have one hash.
 pub fn nothing_but_pads()
     ensures { NothingButPads }
+{}
+
+/// Where all members have runs of the round, and a string was delivered for each slot of the others up to where the checks
+/// are closed, the round is done, with the message of each member; where no signature was forged in what was delivered,
+/// and no two strings of the runs have one hash.
+pub fn all_honest()
+    ensures { AllHonest }
 {}
