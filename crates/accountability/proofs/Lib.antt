@@ -16,3 +16,6 @@ pub mod Rows
 pub mod Ciphertexts
 pub mod Messages
 pub mod SameList
+pub mod Lengths
+pub mod AllHonest
+pub mod AllDone

@@ -86,12 +86,12 @@ use Rattle.go_nogo.specs.Votes.{votes_agree}
 -- ---- what a member made
 
 -- the keys, and what a run made of them, by what the member kept
-can-make-there : (run : Run) (shape : Shape) (past : List (List ℕ)) → HonestRun run → shape_in run.config ≡ shape
+pub can-make-there : (run : Run) (shape : Shape) (past : List (List ℕ)) → HonestRun run → shape_in run.config ≡ shape
     → CanMake shape.members (keys_said shape past bulk_place) (own_pad_seeds run.config) run.config.number run.config.message
 can-make-there run shape past honest shape_is =
     subst (λ (s : Shape). CanMake s.members (keys_said s past bulk_place) (own_pad_seeds run.config) run.config.number run.config.message) shape_is (can-make run past honest)
 
-made-there : (run : Run) (shape : Shape) (past : List (List ℕ)) → shape_in run.config ≡ shape
+pub made-there : (run : Run) (shape : Shape) (past : List (List ℕ)) → shape_in run.config ≡ shape
     → own_descriptor run.config past ≡ descriptor_text (made_descriptor (keys_said shape past bulk_place) (own_pad_seeds run.config) run.config.number run.config.message)
 unfolding own_descriptor
 made-there run shape past shape_is =
@@ -128,7 +128,7 @@ state-at shape past place o at =
     ∙ ap (option_map (λ (p : ℕ × Option Description). slot_state p.1 (pads_for (pads_sent shape past) p.0))) (numbered-at (descriptors_opened shape past) 0 place o at)
     ∙ ap (λ (k : ℕ). Some (slot_state o (pads_for (pads_sent shape past) k))) zero_is
 
-not-bad : (d : Description) (message : List ℕ) (first : ℕ) → joined_state d message ≡ Bad first → ⊥
+pub not-bad : (d : Description) (message : List ℕ) (first : ℕ) → joined_state d message ≡ Bad first → ⊥
 unfolding joined_state
 not-bad d message first e = by_test (bytes_eq (hash_of OfMessage (message ∷ [])) d.message_hash) e
   where
@@ -137,7 +137,7 @@ not-bad d message first e = by_test (bytes_eq (hash_of OfMessage (message ∷ []
     by_test false e = absurd cc
 
 -- a slot whose state is not bad has pads that all fit
-fits-or-bad : (d : Description) (pads : List (List ℕ)) → ((first_unfit d pads ≡ None) × ((first : ℕ) → slot_state (Some d) pads ≡ Bad first → ⊥)) ⊎ ((first : ℕ) × (first_unfit d pads ≡ Some first) × (slot_state (Some d) pads ≡ Bad first))
+pub fits-or-bad : (d : Description) (pads : List (List ℕ)) → ((first_unfit d pads ≡ None) × ((first : ℕ) → slot_state (Some d) pads ≡ Bad first → ⊥)) ⊎ ((first : ℕ) × (first_unfit d pads ≡ Some first) × (slot_state (Some d) pads ≡ Bad first))
 unfolding slot_state
 fits-or-bad d pads = by_first (first_unfit d pads) refl
   where
@@ -218,7 +218,7 @@ pad-at shape past member place pads least most said =
     ∙ ap (option_map (λ (row : List (List ℕ)). slice_index_or row place [])) (by-member (λ m. pads_in (said_in shape past (pad_stage shape) m)) shape.members member least most)
     ∙ ap (λ (b : Body). Some (slice_index_or (pads_in b) place [])) said
 
-pads-count : (shape : Shape) (past : List (List ℕ)) (place : ℕ) → length (pads_for (pads_sent shape past) place) ≡ shape.members
+pub pads-count : (shape : Shape) (past : List (List ℕ)) (place : ℕ) → length (pads_for (pads_sent shape past) place) ≡ shape.members
 unfolding pads_sent
 pads-count shape past place =
     length-map (by_member shape (λ m. pads_in (said_in shape past (pad_stage shape) m))) (λ (row : List (List ℕ)). slice_index_or row place [])
@@ -248,33 +248,33 @@ slot-strings c delivered stage place posts end late within =
 -- ---- own slots fit
 
 -- where everything that a run needs is at hand
-record AtEnd (c : Configuration) (delivered : List (List ℕ)) (runs : List Run) (stage : ℕ) (posts : List Post) (run : Run) : Type 0 where
+pub record AtEnd (c : Configuration) (delivered : List (List ℕ)) (runs : List Run) (stage : ℕ) (posts : List Post) (run : Run) : Type 0 where
   pub end : IsAgreedEnd c delivered runs stage posts
   pub late : (shape_in c).members + 4 < stage
   pub listed : Contains runs run
   pub round : run.config.round ≡ c.round
 
 -- what a run has by them
-record RunFacts (c : Configuration) (run : Run) : Type 0 where
+pub record RunFacts (c : Configuration) (run : Run) : Type 0 where
   pub honest : HonestRun run
   pub shape_is : shape_in run.config ≡ shape_in c
   pub least : 1 ≤ run.config.number
   pub most : run.config.number ≤ (shape_in c).members
 
-run-facts : (c : Configuration) (runs : List Run) (run : Run) → AreHonest c.roster runs → Contains runs run → RunFacts c run
+pub run-facts : (c : Configuration) (runs : List Run) (run : Run) → AreHonest c.roster runs → Contains runs run → RunFacts c run
 run-facts c runs run honest listed =
     let its = run-honest c.roster runs run honest listed in
     let shape_is : shape_in run.config ≡ shape_in c = ap (λ (r : Roster). shape_of_roster r) (run-roster c.roster runs run honest listed) in
     let bounds = slot-bounds (shape_in run.config) 0 run.config.number (own-speaks run.config its.config) in
     record { honest = its; shape_is = shape_is; least = bounds.1; most = subst (λ (s : Shape). run.config.number ≤ s.members) shape_is bounds.2 }
 
--- the pad that a run sent for a slot which opened to its own descriptor is its own pad
-own-pad-there : (c : Configuration) (delivered : List (List ℕ)) (runs : List Run) (stage place : ℕ) (posts : List Post) (run : Run) → AtEnd c delivered runs stage posts run
-    → slice_get (items_opened (shape_in c) (contents_of posts) 1) place ≡ Some (Some (own_descriptor run.config (contents_of posts)))
-    → slice_get (pads_for (pads_sent (shape_in c) (contents_of posts)) place) (run.config.number - 1) ≡ Some (own_pad (own_pad_seeds run.config) run.config.number run.config.message)
-own-pad-there c delivered runs stage place posts run e at =
+-- the pads that a run sent are those that it has for the entries of the opened list
+pub run-pads : (c : Configuration) (delivered : List (List ℕ)) (runs : List Run) (stage place : ℕ) (posts : List Post) (run : Run) → AtEnd c delivered runs stage posts run
+    → slice_get (pads_for (pads_sent (shape_in c) (contents_of posts)) place) (run.config.number - 1)
+    ≡ Some (slice_index_or (map (pad_for run.config (own_descriptor run.config (contents_of posts))) (items_opened (shape_in c) (contents_of posts) 1)) place [])
+run-pads c delivered runs stage place posts run e =
     pad-at shape (contents_of posts) run.config.number place sent_pads.pads facts.least facts.most (said-in (run_after c delivered) posts (pad_stage shape) run.config.number sent_pads.kept ∙ sent_pads.is)
-    ∙ ap (λ (pads : List (List ℕ)). Some (slice_index_or pads place [])) pads_are ∙ ap (λ (pad : List ℕ). Some pad) pad_is_own
+    ∙ ap (λ (pads : List (List ℕ)). Some (slice_index_or pads place [])) pads_are
   where
     shape : Shape
     shape = shape_in c
@@ -339,20 +339,27 @@ own-pad-there c delivered runs stage place posts run e at =
     pads_are : sent_pads.pads ≡ map (pad_for run.config own_there) (items_opened shape (contents_of posts) 1)
     pads_are = pads-own run mine.row.read.header sent_pads.pads row_of facts.honest.config.message row_stage ∙ row_same
 
-    pad_is_own : slice_index_or (map (pad_for run.config own_there) (items_opened shape (contents_of posts) 1)) place [] ≡ own_pad (own_pad_seeds run.config) run.config.number run.config.message
-    pad_is_own =
-        get_or_from_slice_get (map (pad_for run.config own_there) (items_opened shape (contents_of posts) 1)) place (pad_for run.config own_there (Some own_there)) []
-        (slice_get-map (pad_for run.config own_there) (items_opened shape (contents_of posts) 1) place ∙ ap (option_map (pad_for run.config own_there)) at)
-        ∙ pad_row-own (shape_in run.config).members own_there (own_pad (own_pad_seeds run.config) run.config.number run.config.message) run.config.number
-        (own_key_seed run.config bulk_place) own_there ((bytes_eq-Decides own_there own_there).1 refl)
+-- for an entry that is its own descriptor it is its own pad
+own-pad-there : (c : Configuration) (delivered : List (List ℕ)) (runs : List Run) (stage place : ℕ) (posts : List Post) (run : Run) → AtEnd c delivered runs stage posts run
+    → slice_get (items_opened (shape_in c) (contents_of posts) 1) place ≡ Some (Some (own_descriptor run.config (contents_of posts)))
+    → slice_get (pads_for (pads_sent (shape_in c) (contents_of posts)) place) (run.config.number - 1) ≡ Some (own_pad (own_pad_seeds run.config) run.config.number run.config.message)
+own-pad-there c delivered runs stage place posts run e at =
+    run-pads c delivered runs stage place posts run e
+    ∙ ap (λ (pad : List ℕ). Some pad)
+    (get_or_from_slice_get (map (pad_for run.config (own_descriptor run.config (contents_of posts))) (items_opened (shape_in c) (contents_of posts) 1)) place
+    (pad_for run.config (own_descriptor run.config (contents_of posts)) (Some (own_descriptor run.config (contents_of posts)))) []
+    (slice_get-map (pad_for run.config (own_descriptor run.config (contents_of posts))) (items_opened (shape_in c) (contents_of posts) 1) place
+    ∙ ap (option_map (pad_for run.config (own_descriptor run.config (contents_of posts)))) at)
+    ∙ pad_row-own (shape_in run.config).members (own_descriptor run.config (contents_of posts)) (own_pad (own_pad_seeds run.config) run.config.number run.config.message) run.config.number
+    (own_key_seed run.config bulk_place) (own_descriptor run.config (contents_of posts)) ((bytes_eq-Decides (own_descriptor run.config (contents_of posts)) (own_descriptor run.config (contents_of posts))).1 refl))
 
 -- ---- the message
 
-made-of : (run : Run) → Shape → List (List ℕ) → Description
+unfoldable pub made-of : (run : Run) → Shape → List (List ℕ) → Description
 made-of run shape past = made_descriptor (keys_said shape past bulk_place) (own_pad_seeds run.config) run.config.number run.config.message
 
 -- the slot of a run
-slot-there : (c : Configuration) (runs : List Run) (place : ℕ) (posts : List Post) (run : Run) → AreHonest c.roster runs → Contains runs run
+pub slot-there : (c : Configuration) (runs : List Run) (place : ℕ) (posts : List Post) (run : Run) → AreHonest c.roster runs → Contains runs run
     → slice_get (items_opened (shape_in c) (contents_of posts) 1) place ≡ Some (Some (own_descriptor run.config (contents_of posts)))
     → slice_get (slots_of_past (shape_in c) (contents_of posts)) place
     ≡ Some (slot_state (Some (made-of run (shape_in c) (contents_of posts))) (pads_for (pads_sent (shape_in c) (contents_of posts)) place))
@@ -436,7 +443,7 @@ accused-parts own opened states seeds a e =
       seed = sym (ap (λ (x : Accusation). x.seed) parts.2) ∙ ap (λ (m : ℕ). slice_index_or seeds (m - 1) []) member;
     }
 
-states-count : (shape : Shape) (past : List (List ℕ)) → length (slots_of_past shape past) ≡ length (items_opened shape past 1)
+pub states-count : (shape : Shape) (past : List (List ℕ)) → length (slots_of_past shape past) ≡ length (items_opened shape past 1)
 unfolding slots_of_past descriptors_opened
 states-count shape past =
     length-map (enumerate_from 0 (map (option_and_then (descriptor_read shape.members)) (items_opened shape past 1))) (λ (p : ℕ × Option Description). slot_state p.1 (pads_for (pads_sent shape past) p.0))
@@ -543,7 +550,7 @@ second-seeds c delivered runs stage posts end at kind = record {
       (end.agree.seeds 2 member kind (record { least = least; most = most }));
 }
 
-second-end : (shape : Shape) (stage shuffle : ℕ) → kind_of_stage shape stage ≡ Some (AtFinal shuffle) → shuffle ≢ 1 → (shuffle ≡ 2) × (stage ≡ final_stage shape 2)
+pub second-end : (shape : Shape) (stage shuffle : ℕ) → kind_of_stage shape stage ≡ Some (AtFinal shuffle) → shuffle ≢ 1 → (shuffle ≡ 2) × (stage ≡ final_stage shape 2)
 second-end shape stage shuffle kind second = elim (ends_at shape stage shuffle kind) [
   | inl a ↦ absurd (second a.0)
   | inr b ↦ (let at = b.1 in let final : final_stage shape 2 ≡ shape.members + 7 + (shape.members + 2) = refl in (b.0, omega (arith, at, final)))
@@ -574,13 +581,13 @@ early-not shape stage e le =
       ]
     ]
 
-confirm-late : (shape : Shape) (stage : ℕ) → kind_of_stage shape stage ≡ Some AtConfirm → shape.members + 5 < stage
+pub confirm-late : (shape : Shape) (stage : ℕ) → kind_of_stage shape stage ≡ Some AtConfirm → shape.members + 5 < stage
 confirm-late shape stage e = elim (cases_lt (shape.members + 5) stage) [
   | inl late ↦ late
   | inr early ↦ absurd (early-not shape stage e early)
 ]
 
-item-first : (c : Configuration) (own : List ℕ) (past : List (List ℕ)) → own_item c own past 1 ≡ own
+pub item-first : (c : Configuration) (own : List ℕ) (past : List (List ℕ)) → own_item c own past 1 ≡ own
 unfolding own_item
 item-first c own past = refl
 
@@ -637,7 +644,7 @@ own-slot-fits c delivered runs stage place posts run e work at =
 
 -- ---- done
 
-items-count : (c : Configuration) (delivered : List (List ℕ)) (stage : ℕ) (posts : List Post) → IsKeptEnd (run_after c delivered) stage posts → (shape_in c).members + 4 < stage
+pub items-count : (c : Configuration) (delivered : List (List ℕ)) (stage : ℕ) (posts : List Post) → IsKeptEnd (run_after c delivered) stage posts → (shape_in c).members + 4 < stage
     → length (items_opened (shape_in c) (contents_of posts) 1) ≡ (shape_in c).members
 items-count c delivered stage posts end late =
     let past = end-past (run_after c delivered) stage posts end in

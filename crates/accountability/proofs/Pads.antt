@@ -74,7 +74,7 @@ pub record BeforeEnd (run : Run) (stage : ℕ) (posts : List Post) : Type 0 wher
   pub front : past ≡ take (slots_before (shape_in run.config) stage) posts
   pub goes : AllGo run.config past stage
 
-last-late : (shape : Shape) (stage shuffle : ℕ) → 1 ≤ shape.members → kind_of_stage shape stage ≡ Some (AtFinal shuffle) → shuffle ≢ 1 → shape.members + 8 < stage
+pub last-late : (shape : Shape) (stage shuffle : ℕ) → 1 ≤ shape.members → kind_of_stage shape stage ≡ Some (AtFinal shuffle) → shuffle ≢ 1 → shape.members + 8 < stage
 last-late shape stage shuffle some kind second = elim (ends_at shape stage shuffle kind) [
   | inl a ↦ absurd (second a.0)
   | inr b ↦ (let at = b.1 in omega (arith, at, some))

@@ -159,7 +159,7 @@ sent-few run stage place posts bytes end lt e =
     some-bytes bytes _ (sym e ∙ sym (ap (slice_get (by_member (shape_in run.config) (sent_in v stage))) place_is) ∙ at) ∙ sent-in run posts stage stage (place + 1) k in
     subst (λ (x : List ℕ). length x < 2 ^ 32) (sym same) (spelled-few run posts stage (place + 1) k)
 
-members-listed : (run : Run) (stage : ℕ) (posts : List Post) → length (by_member (shape_in run.config) (sent_in (closing_of run.config posts stage) stage)) ≡ (shape_in run.config).members
+pub members-listed : (run : Run) (stage : ℕ) (posts : List Post) → length (by_member (shape_in run.config) (sent_in (closing_of run.config posts stage) stage)) ≡ (shape_in run.config).members
 members-listed run stage posts =
     length-map (range_with_len 1 (shape_in run.config).members) (sent_in (closing_of run.config posts stage) stage) ∙ length-range_with_len 1 (shape_in run.config).members
 

@@ -4,3 +4,5 @@ pub mod Faulty
 pub mod Agreed
 pub mod Messages
 pub mod SameList
+pub mod Lengths
+pub mod AllHonest

@@ -1,8 +1,10 @@
 //! Laws of how a round ends. Nobody calls these functions: the contract of each states a law.
 
 ghost use Rattle.accountability.specs.Agreed.{PlaceOpens, PlacesDiffer, SamePast};
+ghost use Rattle.accountability.specs.AllHonest.{AllHonest, NothingButPads};
 ghost use Rattle.accountability.specs.Evidence.{AcceptedFor, EvidenceAccepted, EvidenceIsBytes, FaultAccepted, VerdictAccepted};
 ghost use Rattle.accountability.specs.Faulty.{AccusedFaulty};
+ghost use Rattle.accountability.specs.Lengths.{EvidenceShort, ReplayShort};
 ghost use Rattle.accountability.specs.Messages.{DoneHasMessages};
 ghost use Rattle.accountability.specs.Naming.{OpenNames};
 ghost use Rattle.accountability.specs.SameList.{SameList};
@@ -84,4 +86,24 @@ pub fn done_has_messages()
 /// what was delivered to one of them, and no two strings of the runs have one hash.
 pub fn same_list()
     ensures { SameList }
+{}
+
+/// The transcript of a round that ends by a conviction has fewer than 134,217,728 bytes, and at most 92,394,067 where it
+/// is a replay.
+pub fn evidence_short()
+    ensures whole { EvidenceShort }
+    ensures replay { ReplayShort }
+{}
+
+/// Where all members have runs of the round, nothing but a bad pad is shown of any of them; where no signature was forged
+/// in what was delivered, and no two strings of the runs have one hash.
+pub fn nothing_but_pads()
+    ensures { NothingButPads }
+{}
+
+/// Where all members have runs of the round, and a string was delivered for each slot of the others up to where the checks
+/// are closed, the round is done, with the message of each member; where no signature was forged in what was delivered,
+/// and no two strings of the runs have one hash.
+pub fn all_honest()
+    ensures { AllHonest }
 {}

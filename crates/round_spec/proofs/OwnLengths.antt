@@ -1,6 +1,6 @@
 -- What a member says is short enough for a post.
 use Rattle.std.proofs.Common.{◌≡◌, ℕ, zero, suc, ◌+◌, ◌-◌, ◌*◌, ◌<◌, ◌≤◌, true, List, [], ◌∷◌, ◌++◌, length, length-append, drop, take, Option, Some, None, ap, sym, ◌∙◌, refl, subst, arith, inl, inr}
-use Rattle.std.specs.Prelude.{◌⊎◌, ◌==◌, if◌then◌else◌}
+use Rattle.std.specs.Prelude.{◌⊎◌, ◌==◌, if◌then◌else◌, option_map}
 use Rattle.std.specs.Int.{to_be_bytes, w32}
 use Rattle.std.specs.List.{AllByRecursion, flat_map, slice_get}
 use Rattle.std.proofs.lemmas.Bool.{cases_Bool, cases_eq, cases_lt, cond-false, cond-true}
@@ -39,11 +39,13 @@ use Rattle.round_spec.specs.Runs.{AllGo, ChecksIn}
 use Rattle.round_spec.specs.Say.{Configuration, content_with, own_body_at, own_body_if, own_content, own_descriptor, own_key_seed, own_opening, shape_in}
 use Rattle.round_spec.specs.Slots.{inner_place}
 use Rattle.shuffle_blame.specs.Replay.{outer_place}
+use Rattle.round_spec.proofs.GoLists.{there}
 use Rattle.round_spec.proofs.AgreedClosings.{ClosingKind, agreed-there, confirm-closes, final-closes, votes-short}
 use Rattle.round_spec.proofs.OwnGrammar.{OwnBody, own-body, own_row_of_grammar}
 use Rattle.round_spec.proofs.OwnItems.{is-member}
 use Rattle.round_spec.proofs.PastForms.{IsSaidIn, checks-admitted, kind-body, said-there, stands-there}
 use Rattle.round_spec.proofs.SealedBytes.{all-from, all-map-from}
+use Rattle.std.proofs.lemmas.Option.{slice_get-map, slice_get_within}
 
 -- ---- how long a content is
 
@@ -253,31 +255,36 @@ take-get [] (suc n) k x e = absurd cc
 take-get (y ∷ ys) (suc n) zero x e = (omega arith, e)
 take-get (y ∷ ys) (suc n) (suc k) x e = let more = take-get ys n k x e in (omega (arith, more.0), more.1)
 
--- the posts of one stage
-part-long : (c : Configuration) (later stage : ℕ) (past : List Post) (kind : StageKind) → GoesOn c later past → stage < later
+-- items that stand for the posts of a past: as many, and each has at most 9,328 bytes beside the content of its post
+pub record StandFor (past : List Post) (items : List (List ℕ)) : Type 0 where
+  pub many : length items ≡ length past
+  pub short : (k : ℕ) (post : Post) (item : List ℕ) → slice_get past k ≡ Some post → slice_get items k ≡ Some item → length item ≤ 9328 + length post.content
+
+-- those of one stage
+part-long : (c : Configuration) (later stage : ℕ) (past : List Post) (items : List (List ℕ)) (kind : StageKind) → GoesOn c later past → StandFor past items → stage < later
     → kind_of_stage (shape_in c) stage ≡ Some kind
-    → length (flat_map prefixed (written (take (senders_of (shape_in c) kind) (drop (slots_before (shape_in c) stage) past)))) ≤ senders_of (shape_in c) kind * (9332 + longest (shape_in c) kind)
-part-long c later stage past kind on lt e =
-    let shape : Shape = shape_in c in
+    → length (flat_map prefixed (take (senders_of (shape_in c) kind) (drop (slots_before (shape_in c) stage) items))) ≤ senders_of (shape_in c) kind * (9332 + longest (shape_in c) kind)
+part-long c later stage past items kind on stand lt e =
     let a : ℕ = slots_before (shape_in c) stage in
     let m : ℕ = senders_of (shape_in c) kind in
     let next = slots_next (shape_in c) stage kind e in
     let rises = slots_before-rises (shape_in c) (stage + 1) later (omega arith) in
-    let part : List Post = take (senders_of (shape_in c) kind) (drop (slots_before (shape_in c) stage) past) in
-    let count : length part ≡ m = length-take-le m (drop a past) (let whole = on.is.whole in omega (arith, next, rises, whole, length-drop a past)) in
-    let each : AllByRecursion (λ item. length item + 4 ≤ 9332 + longest (shape_in c) kind) (written part) =
-    all-map-from (λ item. length item + 4 ≤ 9332 + longest (shape_in c) kind) post_spelling part (all-from (λ post. length (post_spelling post) + 4 ≤ 9332 + longest (shape_in c) kind) part (λ i post at. (
-    let found = take-get (drop a past) m i post at in
-    let there : slice_get past (a + i) ≡ Some post = sym (get_drop past a i) ∙ found.1 in
-    let stands = stands-there c later past (a + i) post on.is there in
+    let many = stand.many in
+    let part : List (List ℕ) = take (senders_of (shape_in c) kind) (drop (slots_before (shape_in c) stage) items) in
+    let count : length part ≡ m = length-take-le m (drop a items) (let whole = on.is.whole in omega (arith, next, rises, whole, many, length-drop a items)) in
+    let each : AllByRecursion (λ item. length item + 4 ≤ 9332 + longest (shape_in c) kind) part =
+    all-from (λ item. length item + 4 ≤ 9332 + longest (shape_in c) kind) part (λ i item at. (
+    let found = take-get (drop a items) m i item at in
+    let item_there : slice_get items (a + i) ≡ Some item = sym (get_drop items a i) ∙ found.1 in
+    let within = slice_get_within items (a + i) item item_there in
+    let post = there past (a + i) (omega (arith, within, many)) in
+    let stands = stands-there c later past (a + i) post.0 on.is post.1 in
     let small = found.0 in
     let its_stage : stands.slot.stage ≡ stage = stage-of (shape_in c) stands.slot stage (a + i) stands.at (omega arith) (omega (arith, small, next)) in
-    let long = post-length c later (a + i) past stands.slot post kind on stands.at there stands.checks (omega (arith, its_stage, lt)) (ap (kind_of_stage (shape_in c)) its_stage ∙ e) in
-    let admitted = checks-admitted c stands.slot post stands.checks in
-    omega (arith, long, posts_are_short c.roster c.round post admitted.0 admitted.1)))) in
-    let whole = items-long (9332 + longest (shape_in c) kind) (written part) each in
-    let written_count : length (written part) ≡ m = length-map part post_spelling ∙ count in
-    omega (arith, whole, ap (λ (n : ℕ). n * (9332 + longest (shape_in c) kind)) written_count)
+    let long = post-length c later (a + i) past stands.slot post.0 kind on stands.at post.1 stands.checks (omega (arith, its_stage, lt)) (ap (kind_of_stage (shape_in c)) its_stage ∙ e) in
+    omega (arith, long, stand.short (a + i) post.0 item post.1 item_there))) in
+    let whole = items-long (9332 + longest (shape_in c) kind) part each in
+    omega (arith, whole, ap (λ (n : ℕ). n * (9332 + longest (shape_in c) kind)) count)
 
 take-nil : {A : Type 0} (n : ℕ) → (let none : List A = [] in take n none ≡ none)
 take-nil {A} zero = refl
@@ -291,33 +298,29 @@ take-more {A} (x ∷ xs) (suc a) n =
     let e : suc a + n ≡ suc (a + n) = omega arith in
     ap (λ (k : ℕ). take k (x ∷ xs)) e ∙ ap (λ (ys : List A). x ∷ ys) (take-more xs a n)
 
--- all posts before a stage
-before-long : (c : Configuration) (later stage : ℕ) (past : List Post) → GoesOn c later past → stage ≤ later
-    → length (flat_map prefixed (written (take (slots_before (shape_in c) stage) past))) ≤ sum_before (shape_in c) stage
-before-long c later zero past on le = omega arith
-before-long c later (suc stage) past on le = by_kind (kind_of_stage (shape_in c) stage) refl (before-long c later stage past on (omega (arith, le)))
+-- those of all posts before a stage
+before-long : (c : Configuration) (later stage : ℕ) (past : List Post) (items : List (List ℕ)) → GoesOn c later past → StandFor past items → stage ≤ later
+    → length (flat_map prefixed (take (slots_before (shape_in c) stage) items)) ≤ sum_before (shape_in c) stage
+before-long c later zero past items on stand le = omega arith
+before-long c later (suc stage) past items on stand le = by_kind (kind_of_stage (shape_in c) stage) refl (before-long c later stage past items on stand (omega (arith, le)))
   where
-    embedded : ℕ → ℕ
-    embedded n = length (flat_map prefixed (written (take n past)))
-
     by_kind : (o : Option StageKind) → kind_of_stage (shape_in c) stage ≡ o
-        → length (flat_map prefixed (written (take (slots_before (shape_in c) stage) past))) ≤ sum_before (shape_in c) stage
-        → length (flat_map prefixed (written (take (slots_before (shape_in c) (suc stage)) past))) ≤ sum_before (shape_in c) stage + stage_sum (shape_in c) (kind_of_stage (shape_in c) stage)
+        → length (flat_map prefixed (take (slots_before (shape_in c) stage) items)) ≤ sum_before (shape_in c) stage
+        → length (flat_map prefixed (take (slots_before (shape_in c) (suc stage)) items)) ≤ sum_before (shape_in c) stage + stage_sum (shape_in c) (kind_of_stage (shape_in c) stage)
     by_kind None e less =
         let next : suc stage ≡ stage + 1 = omega arith in
         let same : slots_before (shape_in c) (suc stage) ≡ slots_before (shape_in c) stage = ap (slots_before (shape_in c)) next ∙ slots_past (shape_in c) stage e in
-        let whole = ap (λ (n : ℕ). length (flat_map prefixed (written (take n past)))) same in
+        let whole = ap (λ (n : ℕ). length (flat_map prefixed (take n items))) same in
         omega (arith, whole, less, ap (stage_sum (shape_in c)) e)
     by_kind (Some kind) e less =
         let next : suc stage ≡ stage + 1 = omega arith in
         let a : ℕ = slots_before (shape_in c) stage in
         let m : ℕ = senders_of (shape_in c) kind in
         let same : slots_before (shape_in c) (suc stage) ≡ a + m = ap (slots_before (shape_in c)) next ∙ slots_next (shape_in c) stage kind e in
-        let split : written (take (slots_before (shape_in c) (suc stage)) past) ≡ written (take a past) ++ written (take m (drop a past)) =
-        ap (λ (n : ℕ). written (take n past)) same ∙ ap written (take-more past a m) ∙ map-append post_spelling (take a past) (take m (drop a past)) in
-        let whole : length (flat_map prefixed (written (take (slots_before (shape_in c) (suc stage)) past))) ≡ length (flat_map prefixed (written (take a past)) ++ flat_map prefixed (written (take m (drop a past)))) =
-        ap (λ (items : List (List ℕ)). length (flat_map prefixed items)) split ∙ ap length (flat_map-append prefixed (written (take a past)) (written (take m (drop a past)))) in
-        omega (arith, whole, length-append (flat_map prefixed (written (take a past))) (flat_map prefixed (written (take m (drop a past)))), less, part-long c later stage past kind on (omega (arith, le)) e, ap (stage_sum (shape_in c)) e)
+        let split : take (slots_before (shape_in c) (suc stage)) items ≡ take a items ++ take m (drop a items) = ap (λ (n : ℕ). take n items) same ∙ take-more items a m in
+        let whole : length (flat_map prefixed (take (slots_before (shape_in c) (suc stage)) items)) ≡ length (flat_map prefixed (take a items) ++ flat_map prefixed (take m (drop a items))) =
+        ap (λ (parts : List (List ℕ)). length (flat_map prefixed parts)) split ∙ ap length (flat_map-append prefixed (take a items) (take m (drop a items))) in
+        omega (arith, whole, length-append (flat_map prefixed (take a items)) (flat_map prefixed (take m (drop a items))), less, part-long c later stage past items kind on stand (omega (arith, le)) e, ap (stage_sum (shape_in c)) e)
 
 -- ---- what that comes to
 
@@ -382,7 +385,7 @@ open-most shape Check few open_kind = omega arith
 open-most shape (Final shuffle) few open_kind = absurd (open_kind tt)
 open-most shape Confirm few open_kind = absurd (open_kind tt)
 
-take-less : (n : ℕ) (items : List (List ℕ)) → length (flat_map prefixed (take n items)) ≤ length (flat_map prefixed items)
+pub take-less : (n : ℕ) (items : List (List ℕ)) → length (flat_map prefixed (take n items)) ≤ length (flat_map prefixed items)
 take-less zero items = omega arith
 take-less (suc n) [] = omega arith
 take-less (suc n) (item ∷ items) = omega (arith, length-append (prefixed item) (flat_map prefixed (take n items)), length-append (prefixed item) (flat_map prefixed items), take-less n items)
@@ -444,15 +447,34 @@ closing-or-open Pad = inr (λ is. is)
 closing-or-open Check = inr (λ is. is)
 
 -- a past as a whole is what stands before its stage
-whole-past : (c : Configuration) (stage : ℕ) (past : List Post) → CanSay c stage past → AllGo c past stage
-    → length (flat_map prefixed (written past)) ≤ 11539784
-whole-past c stage past can goes =
+pub items-whole : (c : Configuration) (stage : ℕ) (past : List Post) (items : List (List ℕ)) → CanSay c stage past → AllGo c past stage → StandFor past items
+    → length (flat_map prefixed items) ≤ 11539784
+items-whole c stage past items can goes stand =
     let member = is-member c stage past can in
     let on : GoesOn c stage past = record { is = can.past_is; some = (let least = member.least in omega arith); goes = goes } in
-    let all : take (slots_before (shape_in c) stage) past ≡ past = take_all (slots_before (shape_in c) stage) past (let whole = can.past_is.whole in omega (arith, whole)) in
-    let long = before-long c stage stage past on (omega arith) in
+    let many = stand.many in
+    let all : take (slots_before (shape_in c) stage) items ≡ items = take_all (slots_before (shape_in c) stage) items (let whole = can.past_is.whole in omega (arith, whole, many)) in
+    let long = before-long c stage stage past items on stand (omega arith) in
     let most = sum-most (shape_in c) stage can.config.roster.version member.least member.most (slot-bounds (shape_in c) stage c.number can.speaks).0 in
-    omega (arith, long, most, ap (λ (posts : List Post). length (flat_map prefixed (written posts))) all)
+    omega (arith, long, most, ap (λ (parts : List (List ℕ)). length (flat_map prefixed parts)) all)
+
+item-same : (a b : List ℕ) → (let told : List ℕ → Option (List ℕ) = λ z. Some z in told a ≡ told b) → a ≡ b
+item-same a b e = cc
+
+-- the posts of a past as they are sent
+written-stand : (c : Configuration) (stage : ℕ) (past : List Post) → IsPastAt c stage past → StandFor past (written past)
+written-stand c stage past is = record {
+  many = length-map past post_spelling;
+  short = λ k post item at item_at. (
+      let stands = stands-there c stage past k post is at in
+      let admitted = checks-admitted c stands.slot post stands.checks in
+      let same : item ≡ post_spelling post = item-same item (post_spelling post) (sym item_at ∙ slice_get-map post_spelling past k ∙ ap (option_map post_spelling) at) in
+      omega (arith, ap length same, posts_are_short c.roster c.round post admitted.0 admitted.1));
+}
+
+pub whole-past : (c : Configuration) (stage : ℕ) (past : List Post) → CanSay c stage past → AllGo c past stage
+    → length (flat_map prefixed (written past)) ≤ 11539784
+whole-past c stage past can goes = items-whole c stage past (written past) can goes (written-stand c stage past can.past_is)
 
 pub own_content_is_short : OwnContentIsShort
 unfolding own_content content_with
