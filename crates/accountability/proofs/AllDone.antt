@@ -104,11 +104,14 @@ places-of P (suc n) each one = more (places-of P n (λ member least most. each m
         | inl here ↦ (suc n, omega arith, omega arith, subst (P (suc n)) here last.1)
         | inr later ↦ (let found = fewer.of place later in let most = found.2 in (found.0, found.1, omega (arith, most), found.3))
       ];
-      distinct = (apart-all last.0 fewer.list (λ other listed same. (
-          let found = fewer.of other listed in
-          let most = found.2 in
-          let numbers : suc n ≡ found.0 = one (suc n) found.0 other (subst (P (suc n)) same last.1) found.3 in
-          omega (arith, most, numbers))), fewer.distinct);
+      distinct = (
+        apart-all last.0 fewer.list (λ other listed same. (
+            let found = fewer.of other listed in
+            let most = found.2 in
+            let numbers : suc n ≡ found.0 = one (suc n) found.0 other (subst (P (suc n)) same last.1) found.3 in
+            omega (arith, most, numbers))),
+        fewer.distinct,
+      );
     }
 
 -- where these are below the number, each number below it is one of them

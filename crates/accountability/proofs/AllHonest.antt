@@ -166,9 +166,11 @@ run-dissents c delivered runs stage posts run among end faithful disagree listed
     shows shuffle kind =
         let kind_there : kind_of_stage (shape_in run.config) mine.row.stage ≡ Some (AtFinal shuffle) =
         ap (λ (s : Shape). kind_of_stage s mine.row.stage) facts.shape_is ∙ ap (kind_of_stage shape) mine.at ∙ kind in
-        let read : mine.row.read ≡ own_final run shuffle mine.row.past mine.row.stage = final-is run mine.kept.post.content mine.row shuffle facts.honest kind_there in
-        (written mine.row.past, said-in (run_after c delivered) posts stage run.config.number mine.kept ∙ ap (λ (x : Content). x.body) (sym read_is ∙ read)
-        ∙ row-dissents (shape_in run.config) mine.row.past mine.row.stage _ _ _ (sym (ap (λ (x : Content). is_assent x.body) read) ∙ dissents))
+        let read : mine.row.read ≡ own_final run shuffle mine.row.past mine.row.stage = final-is run mine.kept.post.content mine.row shuffle facts.honest kind_there in (
+          written mine.row.past,
+          said-in (run_after c delivered) posts stage run.config.number mine.kept ∙ ap (λ (x : Content). x.body) (sym read_is ∙ read)
+              ∙ row-dissents (shape_in run.config) mine.row.past mine.row.stage _ _ _ (sym (ap (λ (x : Content). is_assent x.body) read) ∙ dissents),
+        )
 
 -- ---- a replay blames nobody
 
@@ -190,8 +192,7 @@ own-shown c posts stage shuffle run d kind least most =
     let v : ClosedStage = closing_of c posts stage in
     let said = d.shows shuffle kind in
     let shown : slice_get (inquiry_into v).shown (run.config.number - 1) ≡ Some (record { outer_seed = own_key_seed run.config (outer_place shuffle); outer_opening = own_opening run.config shuffle 2 }) =
-    shown-there v shuffle run.config.number kind least most ∙ ap (λ (b : Body). Some (shown_in b)) said.1 in
-    (
+    shown-there v shuffle run.config.number kind least most ∙ ap (λ (b : Body). Some (shown_in b)) said.1 in (
       get_or_from_slice_get (map (λ (s : Shown). s.outer_seed) (inquiry_into v).shown) (run.config.number - 1) (own_key_seed run.config (outer_place shuffle)) []
           (slice_get-map (λ (s : Shown). s.outer_seed) (inquiry_into v).shown (run.config.number - 1) ∙ ap (option_map (λ (s : Shown). s.outer_seed)) shown),
       get_or_from_slice_get (map (λ (s : Shown). s.outer_opening) (inquiry_into v).shown) (run.config.number - 1) (own_opening run.config shuffle 2) []
