@@ -4,7 +4,7 @@ use Rattle.std.specs.Prelude.{map, Any, IfSome, IfOk, option_map}
 use Rattle.wire_core.specs.Answers.{◌>>=◌}
 use Rattle.outside.specs.Changes.{Change, Failed}
 use Rattle.dissent.specs.declared.words.Command.TheVariants.{Judge, Show, Keygen, Roster as MakeRoster}
-use Rattle.key_store.specs.Names.{Names, StoodStays}
+use Rattle.crash_disk.specs.Names.{Names, StoodStays}
 use Rattle.dissent.specs.Outside.{DiskTold, Held, Shows, IsMissing, Gains}
 use Rattle.dissent.specs.Command.{Request, written_name, requested}
 use Rattle.dissent.specs.Outcome.{Input, inputs_of, reads_of, Yields, YieldsOr, YieldsBy, Tells, MayTell, Stood, known_files, Misses, within, or_bad_roster, or_refused, judge_outcome, show_outcome, keygen_outcome, outcome_of, roster_outcome, TellsFiles, accepted_line, id_line}

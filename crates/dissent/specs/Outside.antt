@@ -1,6 +1,6 @@
 -- The outside of the program as its contracts see it: files by name, a sink of bytes, and counts of faults.
 use Rattle.std.specs.Prelude.{◌≡◌, ◌≢◌, ℕ, List, ◌++◌, ⊤, Option, Some, None, IsSome, IfSome, IsSomeAnd}
-use Rattle.key_store.specs.Names.{Names}
+use Rattle.crash_disk.specs.Names.{Names}
 use Rattle.dissent.specs.declared.interfaces.FileRead.{FileRead}
 use Rattle.dissent.specs.declared.interfaces.FileRead.TheVariants.{Bytes, TooLong, Failed, OutOfMemory}
 

@@ -22,7 +22,7 @@ use Rattle.lms_tree.specs.Secret.{own_public}
 use Rattle.lm_ots.specs.declared.types.OtsType.{OtsType}
 use Rattle.lms_tree.specs.declared.secrets.MadeHeight.{MadeHeight}
 use Rattle.key_store.specs.KeyFiles.{key_read, new_content}
-use Rattle.key_store.specs.Names.{KeepsOthers, Names, StoodStays}
+use Rattle.crash_disk.specs.Names.{KeepsOthers, Names, StoodStays}
 
 -- what the call was asked: the words, and the bytes that `keygen` makes a key of
 pub record Asked : Type 0 where

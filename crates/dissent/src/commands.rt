@@ -2,7 +2,7 @@
 ghost use Rattle.std.specs.Prelude.{◌≡◌, ◌⊎◌, ◌≤◌, ◌≢◌, OnOk, IfOk, IfErr, IfSome, IsSomeAnd, Some, Err, length, string_bytes};
 ghost use Rattle.outside.specs.Faults.{Rose};
 ghost use Rattle.outside.specs.Changes.{change_of};
-ghost use Rattle.key_store.specs.Names.{StoodStays};
+ghost use Rattle.crash_disk.specs.Names.{StoodStays};
 ghost use Rattle.dissent.specs.Outside.{Shows, HoldsNow, OthersStay, telling};
 ghost use Rattle.dissent.specs.Outcome.{Yields, YieldsOr, within, judge_outcome, show_outcome, keygen_outcome};
 ghost use Rattle.dissent.specs.Delivery.{answer_bytes};
@@ -12,9 +12,10 @@ use crate::delivery::{accepted_text, id_text, key_text};
 use crate::interfaces::{FileRead, FileWrite, Files};
 use crate::show::{check_file, shown_text};
 use crate::status::Status;
+use crash_disk::{Disk, DiskAnswer};
 use group_roster::{decode, from_toml};
 use judge_core::judge;
-use key_store::{Disk, DiskAnswer, StoreRefusal};
+use key_store::StoreRefusal;
 use lms_tree::{MadeHeight, OtsType};
 use std::alloc::Global;
 

@@ -4,7 +4,7 @@ ghost use Rattle.std.specs.Prelude.{◌≤◌, IfOk, None, length};
 ghost use Rattle.std.specs.Io.KnownBytes.{Keeps, ReadConsumes};
 ghost use Rattle.std.specs.Io.Seek.{MovesTo};
 
-use key_store::{Disk, DiskAnswer, DiskRead, nothing_is_torn};
+use crash_disk::{Disk, DiskAnswer, DiskRead, nothing_is_torn};
 use std::fs::{File, OpenFile, OpenOptions};
 use std::io::{ErrorKind, Read, Seek, SeekFrom, Write};
 use std::os::unix::fs::OpenOptionsExt;

@@ -10,7 +10,7 @@ use crate::delivery::print;
 use crate::interfaces::{Files, Sink};
 use crate::status::Status;
 use crate::words::{Command, read_words};
-use key_store::Disk;
+use crash_disk::Disk;
 use std::alloc::Global;
 use std::thread::Threads;
 

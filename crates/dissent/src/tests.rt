@@ -2,7 +2,7 @@
 
 use super::*;
 use crate::evidence::first_other_line;
-use key_store::{Disk, DiskAnswer, DiskRead, MemoryDisk};
+use crash_disk::{Disk, DiskAnswer, DiskRead, MemoryDisk};
 use std::alloc::Global;
 use std::os::unix::fs::PermissionsExt;
 use std::test::Fail;

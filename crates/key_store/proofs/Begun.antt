@@ -2,13 +2,13 @@
 use Rattle.std.proofs.Common.{◌≡◌, ℕ, ◌+◌, ◌<◌, ◌≤◌, ◌^◌, Bool, List, Option, Some, None, IfSome, Result, Ok, Err, IfOk, length, take, refl, sym, ap, ◌∙◌, subst, arith}
 use Rattle.lms_tree.specs.States.{SecretState, made_leaves}
 use Rattle.key_store.specs.declared.layout.KeyContent.{KeyContent}
-use Rattle.key_store.specs.Disk.{Every, LeavesOf}
+use Rattle.crash_disk.specs.Disk.{Every, LeavesOf}
 use Rattle.key_store.specs.KeyFiles.{IsAtRest, chosen, key_read, raised}
 use Rattle.key_store.specs.Crashes.{IsMidway, IsPaired, IsRise, Keeps, KeepsFront}
 use Rattle.key_store.specs.Store.{KeyState, leaves_of}
 use Rattle.key_store.proofs.Keys.{IsOf}
 use Rattle.key_store.proofs.Midway.{raised_paired}
-use Rattle.key_store.proofs.Moments.{started, torn_nowhere}
+use Rattle.crash_disk.proofs.Moments.{started, torn_nowhere}
 
 -- what a file says it keeps
 pub keeps_itself : (content : KeyContent) (file : List ℕ) → key_read file ≡ Ok content → IsPaired file → Keeps content file

@@ -4,13 +4,13 @@ use Rattle.std.specs.Prelude.{IsSome}
 use Rattle.lms_tree.specs.States.{RunState, SecretState, made_leaves}
 use Rattle.key_store.specs.declared.layout.Standing.{Standing}
 use Rattle.key_store.specs.declared.layout.KeyContent.{KeyContent}
-use Rattle.key_store.specs.Disk.{Every, LeavesOf, LeavesOnly}
+use Rattle.crash_disk.specs.Disk.{Every, LeavesOf, LeavesOnly}
 use Rattle.key_store.specs.Crashes.{IsMidway, IsPaired, IsRise, Keeps, KeepsFront}
 use Rattle.key_store.specs.History.{Handed, IsCall, IsKept, IsRaised, raised_to}
 use Rattle.key_store.specs.KeyFiles.{IsAtRest, chosen, key_read, parts_in}
 use Rattle.key_store.specs.Store.{IsCurrent, KeyState}
 use Rattle.key_store.proofs.Begun.{keeps_itself, rest_keeps}
-use Rattle.key_store.proofs.Moments.{started}
+use Rattle.crash_disk.proofs.Moments.{started}
 
 -- what is said where a file is told
 pub if_told : {X : Type 0} (o : Option (List ℕ)) → ((file : List ℕ) → o ≡ Some file → X) → IfSome o (λ _. X)

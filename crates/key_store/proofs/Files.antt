@@ -2,11 +2,10 @@
 use Rattle.std.proofs.Common.{◌≡◌, ◌≢◌, ℕ, ◌+◌, ◌<◌, ◌≤◌, List, [], ◌∷◌, ◌++◌, Option, Some, None, IfSome, IsSomeAnd, length, take, drop, slice_index, refl, sym, ap, ◌∙◌, subst, arith}
 use Rattle.std.specs.Prelude.{IsSome, option_map}
 use Rattle.std.proofs.lemmas.List.{get_or-take, length-take, take_at, take_more, take-append-drop}
-use Rattle.key_store.specs.Disk.{Elapses, ImagesTear, IsTorn, LeavesOf, Only, Tears, Writes, overwritten}
+use Rattle.crash_disk.specs.Disk.{Elapses, ImagesTear, IsTorn, LeavesOf, Only, Tears, Writes, overwritten}
 use Rattle.key_store.specs.KeyFiles.{IsAtRest, IsClosing, Mirrors, closed}
-use Rattle.key_store.proofs.Moments.{goes_on, started, torn_nowhere, torn_only, weaker}
-use Rattle.key_store.proofs.Overwrites.{length-overwritten, take-overwritten}
-use Rattle.key_store.proofs.Parts.{drop-after, take-before}
+use Rattle.crash_disk.proofs.Moments.{goes_on, started, torn_nowhere, torn_only, weaker}
+use Rattle.crash_disk.proofs.Overwrites.{overwritten_torn, length-overwritten, take-overwritten}
 
 -- the file is as long as the image
 pub mirror_length : (file image : List ℕ) → take 128 file ≡ image → length image ≡ 128 → 128 ≤ length file
@@ -24,17 +23,6 @@ mirrors-overwritten (Some file) image bytes at whole within mirrors =
     let long = mirror_length file image mirrors whole in
     take-overwritten file at bytes 128 128 (omega arith) (omega (arith, long)) (omega arith)
     ∙ ap (λ (l : List ℕ). overwritten l at bytes) mirrors
-
--- what is written as a whole is written as far as it goes
-pub overwritten_torn : (file : List ℕ) (at : ℕ) (bytes : List ℕ) → at ≤ length file → IsTorn file at (length bytes) (overwritten file at bytes)
-overwritten_torn file at bytes within =
-    let size = length-overwritten file at bytes within in
-    record {
-      before = take-before file at bytes at (omega arith) within;
-      after = drop-after file at bytes (at + length bytes) (omega arith) within;
-      no_shorter = omega (arith, size);
-      no_longer = omega (arith, size);
-    }
 
 pub tears-written : (old new : Option (List ℕ)) (at : ℕ) (bytes : List ℕ) → Writes old new at bytes → Tears old new at (length bytes)
 tears-written None new at bytes writes = writes

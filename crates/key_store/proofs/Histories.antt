@@ -4,7 +4,7 @@ use Rattle.std.specs.Prelude.{All, AllPairs}
 use Rattle.std.proofs.lemmas.List.Elements.{All-cons, All-nil}
 use Rattle.std.proofs.lemmas.List.Kept.{AllPairs-cons}
 use Rattle.key_store.specs.declared.layout.KeyContent.{KeyContent}
-use Rattle.key_store.specs.Disk.{Every}
+use Rattle.crash_disk.specs.Disk.{Every}
 use Rattle.key_store.specs.Crashes.{KeepsFront}
 use Rattle.key_store.specs.History.{Event, Handed, Happened, IsBefore, IsLeft, IsRaised, IsUsedOnce, all_handed, disk_after, raised_to, raised_to_last}
 use Rattle.key_store.specs.History.Event.{returned, cut_off, crashed}

@@ -7,7 +7,7 @@ use Rattle.lms_tree.specs.States.{made_leaves}
 use Rattle.key_store.specs.declared.layout.Slot.{Slot}
 use Rattle.key_store.specs.declared.layout.Standing.{Standing}
 use Rattle.key_store.specs.declared.layout.KeyContent.{KeyContent}
-use Rattle.key_store.specs.Disk.{IsTorn}
+use Rattle.crash_disk.specs.Disk.{IsTorn}
 use Rattle.key_store.specs.KeyFiles.{IsSlot, counted, greatest, head_read, is_valid, key_read, slot_at, slot_for, stands}
 use Rattle.key_store.specs.Crashes.{ArePaired, IsAbove, Keeps}
 use Rattle.key_store.proofs.Parts.{IsApart, apart_within}

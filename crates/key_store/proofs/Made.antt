@@ -13,11 +13,11 @@ use Rattle.lms_tree.specs.Tree.{tree_number}
 use Rattle.lms_tree.specs.States.{made_leaves, made_type}
 use Rattle.key_store.specs.declared.layout.Slot.{Slot}
 use Rattle.key_store.specs.declared.layout.KeyContent.{KeyContent}
-use Rattle.key_store.specs.Disk.{overwritten}
+use Rattle.crash_disk.specs.Disk.{overwritten}
 use Rattle.key_store.specs.KeyFiles.{Mirrors, content_of, counted, fields_written, greatest, head_of, head_read, is_valid, key_read, long_at, made, magic, opened, part, parts_in, slot_at, stands, word_at}
 use Rattle.key_store.specs.Crashes.{Keeps}
-use Rattle.key_store.proofs.Overwrites.{length-overwritten}
-use Rattle.key_store.proofs.Parts.{byte-by_part, byte-written, drop-after, part-apart, part-inside}
+use Rattle.crash_disk.proofs.Overwrites.{drop-after, length-overwritten}
+use Rattle.key_store.proofs.Parts.{byte-by_part, byte-written, part-apart, part-inside}
 use Rattle.key_store.proofs.Slots.{same_long, same_slot, same_word, slot_by_parts}
 use Rattle.key_store.proofs.Raised.{counted-open, read_raised, valid-open}
 

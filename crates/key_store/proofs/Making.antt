@@ -1,8 +1,8 @@
 -- What a crash leaves while a key file is made.
 use Rattle.std.proofs.Common.{◌≡◌, ℕ, List, Option, Some, None, IfSome, length, ◌∙◌, subst, arith}
-use Rattle.key_store.specs.Disk.{Elapses, ImagesTear, IsTorn, IsTornOf, LeavesOf, LeavesOnly, Writes, overwritten}
-use Rattle.key_store.proofs.Files.{overwritten_torn}
-use Rattle.key_store.proofs.Moments.{goes_on, joined, started, torn_nowhere, weaker}
+use Rattle.crash_disk.specs.Disk.{Elapses, ImagesTear, IsTorn, IsTornOf, LeavesOf, LeavesOnly, Writes, overwritten}
+use Rattle.crash_disk.proofs.Overwrites.{overwritten_torn}
+use Rattle.crash_disk.proofs.Moments.{goes_on, joined, started, torn_nowhere, weaker}
 use Rattle.key_store.proofs.Torn.{torn_wider}
 
 -- a file whose front was written, and in which a byte of the front may be torn

@@ -8,12 +8,13 @@ use Rattle.lms_tree.specs.States.{made_leaves}
 use Rattle.key_store.specs.declared.layout.Slot.{Slot}
 use Rattle.key_store.specs.declared.layout.Standing.{Standing}
 use Rattle.key_store.specs.declared.layout.KeyContent.{KeyContent}
-use Rattle.key_store.specs.Disk.{IsTorn, LeavesOf}
+use Rattle.crash_disk.specs.Disk.{IsTorn, LeavesOf}
 use Rattle.key_store.specs.KeyFiles.{IsClosing, IsSlot, Mirrors, closed, numbers, opened, raised, long_at, slot_at, stands, word_at, written, has_valid}
 use Rattle.key_store.specs.Crashes.{ArePaired, IsMidway, IsPaired, IsRise, Keeps}
-use Rattle.key_store.proofs.Files.{mirror_length, mirrors-overwritten, overwritten_torn}
+use Rattle.key_store.proofs.Files.{mirror_length, mirrors-overwritten}
+use Rattle.crash_disk.proofs.Overwrites.{overwritten_torn}
 use Rattle.key_store.proofs.Kept.{IsBeside, OtherShows, keeps-torn, other_shows}
-use Rattle.key_store.proofs.Moments.{joined, weaker}
+use Rattle.crash_disk.proofs.Moments.{joined, weaker}
 use Rattle.key_store.proofs.Parts.{byte-written}
 use Rattle.key_store.proofs.Raised.{kept_read, slot_within, was_read}
 use Rattle.key_store.proofs.Keys.{few_leaves}

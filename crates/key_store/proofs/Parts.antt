@@ -2,9 +2,9 @@
 use Rattle.std.proofs.Common.{◌≡◌, ℕ, ◌+◌, ◌-◌, ◌≤◌, ◌⊎◌, List, [], ◌∷◌, ◌++◌, length, take, drop, slice_index, refl, sym, ap, ◌∙◌, arith, append_assoc, inl, inr}
 use Rattle.std.proofs.lemmas.List.{drop_at, drop-drop, drop-take, get_or-drop, get_or-take, length-take-le, take-append-le, take-take}
 use Rattle.std.proofs.Math.Seq.{drop-append-add}
-use Rattle.key_store.specs.Disk.{overwritten}
+use Rattle.crash_disk.specs.Disk.{overwritten}
 use Rattle.key_store.specs.KeyFiles.{part}
-use Rattle.key_store.proofs.Overwrites.{front_length}
+use Rattle.crash_disk.proofs.Overwrites.{drop-after, take-before, front_length}
 
 -- n bytes from k on have none of the bytes from `at` on
 abbrev pub IsApart : (k n at size : ℕ) → Type 0
@@ -13,30 +13,6 @@ IsApart k n at size = (k + n ≤ at) ⊎ (at + size ≤ k)
 pub apart_within : (k n at size j m : ℕ) → IsApart k n at size → k ≤ j → j + m ≤ k + n → IsApart j m at size
 apart_within k n at size j m (inl before) low high = inl (omega arith)
 apart_within k n at size j m (inr after) low high = inr (omega arith)
-
--- the front before the bytes
-pub take-before : (file : List ℕ) (at : ℕ) (bytes : List ℕ) (n : ℕ) → n ≤ at → at ≤ length file
-    → take n (overwritten file at bytes) ≡ take n file
-unfolding overwritten
-take-before file at bytes n before within =
-    let front = front_length file at bytes within in
-    let size = length-take-le at file within in
-    take-append-le n (take at file ++ bytes) (drop (at + length bytes) file) (omega (arith, front))
-    ∙ take-append-le n (take at file) bytes (omega (arith, size))
-    ∙ take-take n at file before
-
--- the back behind the bytes
-pub drop-after : (file : List ℕ) (at : ℕ) (bytes : List ℕ) (k : ℕ) → at + length bytes ≤ k → at ≤ length file
-    → drop k (overwritten file at bytes) ≡ drop k file
-unfolding overwritten
-drop-after file at bytes k after within =
-    let front = front_length file at bytes within in
-    let e : k ≡ length (take at file ++ bytes) + (k - (at + length bytes)) = omega (arith, front) in
-    let back : at + length bytes + (k - (at + length bytes)) ≡ k = omega arith in
-    ap (λ (m : ℕ). drop m (take at file ++ bytes ++ drop (at + length bytes) file)) e
-    ∙ drop-append-add (take at file ++ bytes) (drop (at + length bytes) file) (k - (at + length bytes))
-    ∙ drop-drop (k - (at + length bytes)) (at + length bytes) file
-    ∙ ap (λ (m : ℕ). drop m file) back
 
 -- what stands elsewhere
 pub part-apart : (file : List ℕ) (at : ℕ) (bytes : List ℕ) (k n : ℕ) → at ≤ length file → IsApart k n at (length bytes)

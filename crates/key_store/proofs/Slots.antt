@@ -2,9 +2,9 @@
 use Rattle.std.proofs.Common.{◌≡◌, ℕ, ◌+◌, ◌<◌, ◌≤◌, ◌^◌, List, [], ◌∷◌, length, slice_index, refl, sym, ap, ◌∙◌, arith, inl, inr}
 use Rattle.std.specs.Int.{w32, w64, to_be_bytes, from_be_bytes}
 use Rattle.std.proofs.lemmas.Nat.{from_be_bytes-to_be_bytes_4, from_be_bytes-to_be_bytes_8}
-use Rattle.key_store.specs.Disk.{overwritten}
+use Rattle.crash_disk.specs.Disk.{overwritten}
 use Rattle.key_store.specs.KeyFiles.{closed, long_at, numbers, opened, part, raised, slot_at, word_at, written}
-use Rattle.key_store.proofs.Overwrites.{length-overwritten}
+use Rattle.crash_disk.proofs.Overwrites.{length-overwritten}
 use Rattle.key_store.proofs.Parts.{IsApart, apart_within, byte-apart, byte-by_part, byte-written, part-apart, part-inside}
 
 pub word-apart : (file : List ℕ) (at : ℕ) (bytes : List ℕ) (k : ℕ) → at ≤ length file → IsApart k 4 at (length bytes)

@@ -1,9 +1,9 @@
 -- Files of which a range may hold any bytes.
 use Rattle.std.proofs.Common.{◌≡◌, inl, inr, ℕ, ◌+◌, ◌-◌, ◌≤◌, List, length, take, drop, sym, ap, ◌∙◌, arith}
 use Rattle.std.proofs.lemmas.List.{drop-drop, drop-take, length-take, take-take}
-use Rattle.key_store.specs.Disk.{IsTorn}
+use Rattle.crash_disk.specs.Disk.{IsTorn}
 use Rattle.key_store.specs.KeyFiles.{part}
-use Rattle.key_store.proofs.Overwrites.{back_taken}
+use Rattle.crash_disk.proofs.Overwrites.{back_taken}
 use Rattle.key_store.proofs.Parts.{IsApart}
 
 -- a front before the range, and a back behind it

@@ -1,10 +1,11 @@
 -- What a raise changes of a file: the thirteen bytes of its slot alone.
 use Rattle.std.proofs.Common.{◌≡◌, [], ◌∷◌, ℕ, ◌+◌, ◌≤◌, List, Option, Some, None, length, refl, sym, ap, ◌∙◌, subst, arith}
 use Rattle.std.specs.Prelude.{option_map}
-use Rattle.key_store.specs.Disk.{IsTorn, LeavesOf}
+use Rattle.crash_disk.specs.Disk.{IsTorn, LeavesOf}
 use Rattle.key_store.specs.KeyFiles.{IsAtRest, IsClosing, IsSlot, Mirrors, closed, numbers, written}
-use Rattle.key_store.proofs.Files.{mirror_length, overwritten_torn}
-use Rattle.key_store.proofs.Moments.{joined, started, torn_nowhere, weaker}
+use Rattle.key_store.proofs.Files.{mirror_length}
+use Rattle.crash_disk.proofs.Overwrites.{overwritten_torn}
+use Rattle.crash_disk.proofs.Moments.{joined, started, torn_nowhere, weaker}
 use Rattle.key_store.proofs.Raised.{slot_within}
 use Rattle.key_store.proofs.Torn.{length-torn, torn_more, torn_wider}
 

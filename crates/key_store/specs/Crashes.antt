@@ -4,7 +4,7 @@ use Rattle.lms_tree.specs.States.{made_leaves}
 use Rattle.key_store.specs.declared.layout.Slot.{Slot}
 use Rattle.key_store.specs.declared.layout.Standing.{Standing}
 use Rattle.key_store.specs.declared.layout.KeyContent.{KeyContent}
-use Rattle.key_store.specs.Disk.{IsTorn}
+use Rattle.crash_disk.specs.Disk.{IsTorn}
 use Rattle.key_store.specs.KeyFiles.{chosen, key_read, slot_at}
 
 -- a slot has both the greater round and the greater next leaf

@@ -2,7 +2,7 @@
 -- two calls. A disk is of any type D, with the meanings that `Disk` gives it.
 use Rattle.std.specs.Prelude.{◌≡◌, ℕ, ◌+◌, ◌<◌, ◌≤◌, List, [], ◌∷◌, Option, Some, None, IfSome, AllPairs}
 use Rattle.key_store.specs.declared.layout.KeyContent.{KeyContent}
-use Rattle.key_store.specs.Disk.{Every, Only}
+use Rattle.crash_disk.specs.Disk.{Every, Only}
 use Rattle.key_store.specs.Crashes.{KeepsFront}
 
 -- leaves that a call handed out, and the round for which it did

@@ -24,7 +24,7 @@ use Rattle.lms_tree.specs.States.{made_leaves, made_type}
 use Rattle.key_store.specs.declared.layout.Slot.{Slot}
 use Rattle.key_store.specs.declared.layout.Standing.{Standing}
 use Rattle.key_store.specs.declared.layout.KeyContent.{KeyContent}
-use Rattle.key_store.specs.Disk.{IsTorn, Only, overwritten}
+use Rattle.crash_disk.specs.Disk.{IsTorn, Only, overwritten}
 
 -- ---- numbers and parts at their offsets
 

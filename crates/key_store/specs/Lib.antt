@@ -1,8 +1,3 @@
-pub mod Disk
-pub mod Names
-pub mod Naming
-pub mod Memory
-pub mod Picks
 pub mod KeyFiles
 pub mod Crashes
 pub mod Store

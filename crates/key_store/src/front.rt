@@ -2,12 +2,12 @@
 ghost use Rattle.std.specs.Prelude.{◌≡◌, ◌⊎◌, ℕ, List, ◌+◌, ◌-◌, ◌<◌, ◌≤◌, ◌++◌, length, take, drop, IfOk, IfErr, IfSome};
 ghost use Rattle.key_store.specs.declared.refusals.StoreRefusal.TheVariants.{DiskFault};
 ghost use Rattle.outside.specs.Faults.{Rose};
-ghost use Rattle.key_store.specs.Disk.{Elapses, IfRead, LeavesOnly};
-ghost use Rattle.key_store.specs.Names.{StaysBeside};
+ghost use Rattle.crash_disk.specs.Disk.{Elapses, IfRead, LeavesOnly};
+ghost use Rattle.crash_disk.specs.Names.{StaysBeside};
 ghost use Rattle.key_store.specs.Store.{IsFault};
 
-use crate::disk::{Disk, DiskRead};
 use crate::refusals::StoreRefusal;
+use crash_disk::{Disk, DiskRead};
 
 /// Reads the file's first 128 bytes, or all where there are fewer, and says how many there are.
 pub fn read_front<D: Disk>(disk: &mut D, image: &mut [u8; 128]) -> Result<u32, StoreRefusal>

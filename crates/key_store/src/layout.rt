@@ -4,7 +4,7 @@ ghost use Rattle.lm_ots.specs.OneTime.{type_of_number};
 ghost use Rattle.lms_tree.specs.States.{made_leaves};
 ghost use Rattle.key_store.specs.KeyFiles.{chosen, expected, field, fields_written, greatest, head_read, IsSlot, key_read, long_at, made, made_of_number, magic, part, parts_in, slot_at, word_at};
 
-use crate::room::overwrite;
+use crash_disk::overwrite;
 use lms_tree::{MadeHeight, OtsType};
 
 const MAGIC: u32 = 0x4453_4b46;

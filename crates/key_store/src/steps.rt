@@ -1,14 +1,13 @@
 //! The steps by which a key file is written: each changes the image in memory and the file alike.
 ghost use Rattle.std.specs.Prelude.{◌≡◌, ℕ, List, IsSome, IfSome, ◌+◌, ◌<◌, ◌≤◌, ◌∷◌, [], length, option_map};
 ghost use Rattle.outside.specs.Faults.{Rose};
-ghost use Rattle.key_store.specs.Disk.{Elapses, IsTorn, LeavesOf, Only, Tears, overwritten};
+ghost use Rattle.crash_disk.specs.Disk.{Elapses, IsTorn, LeavesOf, Only, Tears, overwritten};
 ghost use Rattle.key_store.specs.Crashes.{IsMidway, IsRise};
-ghost use Rattle.key_store.specs.Names.{StaysBeside};
+ghost use Rattle.crash_disk.specs.Names.{StaysBeside};
 ghost use Rattle.key_store.specs.declared.layout.KeyContent.{KeyContent};
 ghost use Rattle.key_store.specs.KeyFiles.{IsAtRest, IsClosing, IsSlot, closed, numbers, opened, raised, written};
 
-use crate::disk::{Disk, DiskAnswer};
-use crate::room::overwrite;
+use crash_disk::{Disk, DiskAnswer, overwrite};
 
 /// Writes bytes into the image and the file, and syncs.
 pub fn put<D: Disk>(disk: &mut D, image: &mut [u8; 128], at: u32, bytes: &[u8]) -> DiskAnswer

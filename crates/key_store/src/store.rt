@@ -5,16 +5,16 @@ ghost use Rattle.lms_tree.specs.States.{made_leaves, made_type};
 ghost use Rattle.key_store.specs.declared.refusals.StoreRefusal.TheVariants.{DiskFault, Memory};
 ghost use Rattle.outside.specs.Faults.{Rose};
 ghost use Rattle.key_store.specs.Crashes.{Keeps, KeepsFront};
-ghost use Rattle.key_store.specs.Disk.{Every, IsTornOf, LeavesOnly, Only};
+ghost use Rattle.crash_disk.specs.Disk.{Every, IsTornOf, LeavesOnly, Only};
 ghost use Rattle.key_store.specs.KeyFiles.{IsAtRest, Mirrors, key_read, made, new_content, opened, parts_in};
-ghost use Rattle.key_store.specs.Names.{StaysBeside};
+ghost use Rattle.crash_disk.specs.Names.{StaysBeside};
 ghost use Rattle.key_store.specs.Store.{FrontRefused, IsLoaded};
 
-use crate::disk::{Disk, DiskAnswer};
 use crate::front::read_front;
 use crate::layout::{self, KeyContent, Standing, read_key};
 use crate::refusals::StoreRefusal;
 use crate::steps::{put, raise};
+use crash_disk::{Disk, DiskAnswer};
 use lms_tree::{LeafRun, LmsPublic, LmsSecret, MadeHeight, OtsType, parts_of_master};
 use std::alloc::Global;
 use std::marker::Model;
@@ -151,10 +151,10 @@ impl KeyFile {
     ghost use Rattle.key_store.specs.declared.layout.KeyContent.{KeyContent};
     ghost use Rattle.key_store.specs.declared.refusals.StoreRefusal.TheVariants.{DiskFault, Exhausted, Memory, NotKeyFile, OldRound};
     ghost use Rattle.key_store.specs.Crashes.{IsMidway, IsPaired, Keeps, KeepsFront};
-    ghost use Rattle.key_store.specs.Disk.{Every, IsTorn, LeavesOf, LeavesOnly};
+    ghost use Rattle.crash_disk.specs.Disk.{Every, IsTorn, LeavesOf, LeavesOnly};
     ghost use Rattle.key_store.specs.History.{IsCall};
     ghost use Rattle.key_store.specs.KeyFiles.{chosen, key_read, raised};
-    ghost use Rattle.key_store.specs.Names.{StaysBeside};
+    ghost use Rattle.crash_disk.specs.Names.{StaysBeside};
     ghost use Rattle.key_store.specs.Store.{IsCurrent, IsFault, IsLoaded, LoadRefused, handed_by, kept_by, leaves_of};
 
     /// Reads a key file. `NotKeyFile` tells the first offset at which its bytes are none; `OldRound` and `Exhausted`

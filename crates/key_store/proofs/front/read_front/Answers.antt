@@ -1,8 +1,8 @@
 use Rattle.std.proofs.Common.{◌∙◌, ap, arith, refl}
-use Rattle.key_store.specs.declared.disk.DiskRead.TheVariants.{Read}
+use Rattle.crash_disk.specs.declared.disk.DiskRead.TheVariants.{Read}
 use Rattle.key_store.proofs.Fronts.{front_ended, front_more, none_read}
-use Rattle.key_store.proofs.Moments.{goes_on, started}
-use Rattle.key_store.proofs.Beside.{beside-trans, beside_itself}
+use Rattle.crash_disk.proofs.Moments.{goes_on, started}
+use Rattle.crash_disk.proofs.Beside.{beside-trans, beside_itself}
 use Rattle.key_store.proofs.front.read_front.Goals as goal
 
 pub returns-then-taken-eq0-clause-read : goal.returns-then-taken-eq0-clause-read

@@ -1,6 +1,6 @@
 use Rattle.std.proofs.Common.{◌≡◌, ℕ, List, ◌-◌, ◌≤◌, IfSome, length, take}
-use Rattle.key_store.specs.Disk.{LeavesOnly}
-use Rattle.key_store.specs.Names.{StaysBeside}
+use Rattle.crash_disk.specs.Disk.{LeavesOnly}
+use Rattle.crash_disk.specs.Names.{StaysBeside}
 use Rattle.key_store.proofs.front.read_front.Given as goal
 
 abbrev pub invariant-loop-size : goal.invariant-loop-size

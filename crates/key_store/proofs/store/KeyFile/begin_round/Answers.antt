@@ -1,7 +1,7 @@
 use Rattle.std.proofs.Common.{ℕ, ◌+◌, sym, refl, subst, arith}
 use Rattle.key_store.proofs.Keys.{HasBegun, IsOf, enough_left, has_begun, raised_state, reserved_run, is_of, not_enough, not_later, not_old, not_short, same_exhausted, same_old}
 use Rattle.key_store.specs.Crashes.{IsMidway, IsPaired, IsRise}
-use Rattle.key_store.specs.Disk.{IsTorn, LeavesOf}
+use Rattle.crash_disk.specs.Disk.{IsTorn, LeavesOf}
 use Rattle.key_store.proofs.Begun.{begun_paired, raised_midway, slot_is_chosen, still_midway}
 use Rattle.key_store.proofs.Calls.{handed_is, if_told, is_told, raise_hands, raise_keeps, rest_seen, rises}
 use Rattle.key_store.proofs.Midway.{raised_paired}

@@ -1,7 +1,0 @@
-use Rattle.key_store.proofs.Picked.{write_small, wrote_is}
-use Rattle.key_store.proofs.images.Images.step.Goals as goal
-
-pub returns-in-Wrote : goal.returns-in-Wrote
-returns-in-Wrote c =
-    wrote_is c.args.self.now _ _ c.args.step.now c.in-Wrote.at c.in-Wrote.size c.in-Wrote.bytes c.in-Wrote.is
-    (write_small c.args.self.now.file c.args.step.now c.in-Wrote.at c.in-Wrote.size c.in-Wrote.bytes c.in-Wrote.is c.requires.fits) c.write.ensures c.write-in-Wrote.ensures

@@ -1,8 +1,0 @@
-use Rattle.std.proofs.Common.{arith, ◌≡◌, ◌+◌, ◌-◌, length}
-use Rattle.key_store.proofs.Overwrites.{put_mid-overwritten}
-use Rattle.key_store.proofs.room.overwrite.Goals as goal
-
-pub returns : goal.returns
-returns c =
-    let n : c.args.at + length c.args.bytes.now - c.args.at ≡ length c.args.bytes.now = omega arith in
-    rw c.copy_from_slice.ensures.after (put_mid-overwritten c.args.all.now c.args.at _ c.args.bytes.now n)
