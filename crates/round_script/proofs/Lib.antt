@@ -1,0 +1,4 @@
+pub mod LineLemmas
+pub mod MadeLemmas
+pub mod NumberLemmas
+pub mod OptionalLemmas
