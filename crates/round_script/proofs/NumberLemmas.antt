@@ -10,7 +10,7 @@ use Rattle.std.proofs.lemmas.Str.Ascii.{IsAscii-nil, IsAscii-cons}
 use Rattle.std.proofs.lemmas.Str.Parse.{IsNumeralModel, numerals_by_value, tells_all_ascii_digits, parse_plain}
 use Rattle.round_script.specs.Forms.{number_of}
 
-own : IsNumeralModel (λ ds. all_ascii_digits ds ≡ true) (digits_value 10)
+pub own : IsNumeralModel (λ ds. all_ascii_digits ds ≡ true) (digits_value 10)
 own = numerals_by_value _ tells_all_ascii_digits
 
 all_hold : (a b c : Bool) (n : ℕ) → a ≡ true → b ≡ true → c ≡ true → (if a && b && c then Some n else None) ≡ Some n
@@ -22,7 +22,7 @@ one_fails false b c n never = refl
 one_fails true false c n never = refl
 one_fails true true false n never = refl
 
-not_empty : (text : List ℕ) → 48 < get_or text 0 0 → 0 < length text
+pub not_empty : (text : List ℕ) → 48 < get_or text 0 0 → 0 < length text
 not_empty [] first = absurd (omega arith)
 not_empty (x ∷ xs) first = omega arith
 

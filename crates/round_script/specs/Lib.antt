@@ -4,3 +4,4 @@ pub mod Given
 pub mod Lines
 pub mod Made
 pub mod Read
+pub mod Script

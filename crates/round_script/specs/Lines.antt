@@ -1,5 +1,6 @@
 -- The lines of a text, of which each is ended by a line feed, and forms of lines.
 use Rattle.std.specs.Prelude.{◌≡◌, ℕ, zero, suc, ◌+◌, ◌==◌, nat_le, ◌&&◌, List, [], ◌∷◌, ◌++◌, length, take, drop, bytes_eq, if◌then◌else◌, Option, Some, None, option_map, option_and_then, Result, Ok, Err}
+use Rattle.std.specs.Option.{ok_or}
 use Rattle.wire_core.specs.Reading.{Reading, reading_at, IsFault}
 use Rattle.round_script.specs.declared.refusal.ScriptRefusal.{ScriptRefusal}
 use Rattle.round_script.specs.declared.refusal.ScriptRefusal.TheVariants.{BadLine, Memory}
@@ -24,11 +25,7 @@ behind_line line before = reading_at (before.place + 1) (drop (length line + 1) 
 
 -- the next line, or its number where no line feed is to come
 unfoldable pub line_at : Reading → Result (List ℕ × Reading) ℕ
-line_at before = line_or before (line_of before.rest)
-  where
-    line_or : Reading → Option (List ℕ) → Result (List ℕ × Reading) ℕ
-    line_or before (Some line) = Ok (line, behind_line line before)
-    line_or before None = Err before.place
+line_at before = ok_or (option_map (λ line. (line, behind_line line before)) (line_of before.rest)) before.place
 
 -- what follows a front in a line that begins with it
 unfoldable pub behind : List ℕ → List ℕ → Option (List ℕ)
@@ -38,14 +35,16 @@ behind front line =
 
 -- ---- lines that may be missing
 
+-- the value that is read, or none, and the reading stays where it was
+abbrev pub value_or_none : {A : Type 0} → Reading → Option (A × Reading) → Option A × Reading
+value_or_none before (Some x) = (Some x.0, x.1)
+value_or_none before None = (None, before)
+
 -- the value of the next line by a form, and where the reading stands behind the line; where the line has no value it
 -- stays to be read
 unfoldable pub optional : {A : Type 0} → (List ℕ → Option A) → Reading → Option A × Reading
-optional form before = value_or before (option_and_then (λ line. option_map (λ x. (x, behind_line line before)) (form line)) (line_of before.rest))
-  where
-    value_or : {A : Type 0} → Reading → Option (A × Reading) → Option A × Reading
-    value_or before (Some x) = (Some x.0, x.1)
-    value_or before None = (None, before)
+optional form before =
+    value_or_none before (option_and_then (λ line. option_map (λ x. (x, behind_line line before)) (form line)) (line_of before.rest))
 
 -- the value as a list, which is empty where it is missing
 abbrev pub listed : {A : Type 0} → Option A → List A

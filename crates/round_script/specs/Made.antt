@@ -1,5 +1,5 @@
 -- Scripts that are made from a number.
-use Rattle.std.specs.Prelude.{ℕ, ◌+◌, ◌%◌, List, [], ◌∷◌, map, None}
+use Rattle.std.specs.Prelude.{◌≤◌, ◌<◌, ◌^◌, ℕ, ◌+◌, ◌%◌, List, [], ◌∷◌, map, None}
 use Rattle.std.specs.List.{range_with_len}
 use Rattle.std.specs.Int.{w64, to_be_bytes}
 use Rattle.pad_stream.specs.Stream.{stream_of}
@@ -9,6 +9,8 @@ use Rattle.round_script.specs.declared.fault.Fault.{Fault}
 use Rattle.round_script.specs.declared.fault.Fault.TheVariants.{None as Honest}
 use Rattle.round_script.specs.declared.script.FaultLine.{FaultLine}
 use Rattle.round_script.specs.declared.script.Script.{Script}
+use Rattle.round_script.specs.declared.script.TheConstants.{MESSAGE_LIMIT}
+use Rattle.round_script.specs.Script.{IsScript}
 
 -- the seed of the script of a number
 abbrev pub made_seed : ℕ → List ℕ
@@ -34,3 +36,9 @@ made_script number members size fault = record {
   drops = [];
   repeat = None;
 }
+
+-- what is made is a script
+abbrev pub MadeScriptsAreScripts : Type 0
+MadeScriptsAreScripts = (number members size : ℕ) (fault : Fault)
+    → number < 2 ^ 64 → 2 ≤ members → members ≤ 8 → size ≤ MESSAGE_LIMIT
+    → IsScript (made_script number members size fault)

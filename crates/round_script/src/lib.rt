@@ -11,7 +11,7 @@ mod refusal;
 mod script;
 
 pub use fault::Fault;
-pub use laws::faults_have_names;
+pub use laws::{faults_have_names, made_scripts_are_scripts, read_scripts_are_scripts};
 pub use making::make_script;
 pub use reading::parse_script;
 pub use refusal::ScriptRefusal;
