@@ -1,6 +1,6 @@
 -- What is read as a script is one.
 use Rattle.std.proofs.Common.{◌≡◌, ℕ, zero, suc, ◌+◌, ◌-◌, ◌*◌, ◌<◌, ◌≤◌, ◌^◌, ◌==◌, ◌&&◌, ◌||◌, Bool, true, false, not, List, [], ◌∷◌, ◌++◌, length, Option, Some, None, Result, Ok, Err, if◌then◌else◌, map, refl, sym, ap, subst, ◌∙◌, arith}
-use Rattle.std.specs.Prelude.{option_map, option_and_then, bytes_eq, codes, nat_le, nat_lt}
+use Rattle.std.specs.Prelude.{IfOk, option_map, option_and_then, bytes_eq, codes, nat_le, nat_lt}
 use Rattle.std.specs.Bool.{then_some}
 use Rattle.std.specs.List.{AllByRecursion, list_any}
 use Rattle.std.specs.Result.{result_ok}
@@ -11,14 +11,15 @@ use Rattle.phase_message.specs.Shape.{Shape}
 use Rattle.phase_message.specs.Stages.{is_slot}
 use Rattle.phase_message.specs.declared.stage.Slot.{Slot}
 use Rattle.wire_core.specs.Bytes.{IsBytes}
-use Rattle.wire_core.specs.Reading.{Reading, reading_at, repeated, unless, ◌>>=◌}
+use Rattle.wire_core.specs.Reading.{Gives, Reading, reading_at, repeated, unless, ◌>>=◌}
 use Rattle.wire_core.proofs.Readings.{bind_ok}
 use Rattle.round_script.specs.declared.script.FaultLine.{FaultLine}
+use Rattle.round_script.specs.declared.refusal.ScriptRefusal.{ScriptRefusal}
 use Rattle.round_script.specs.declared.script.Script.{Script}
 use Rattle.round_script.specs.declared.script.TheConstants.{MESSAGE_LIMIT}
 use Rattle.round_script.specs.Fault.{fault_of_name}
 use Rattle.round_script.specs.Forms.{behind_member, digit_of, drop_line, fault_line_of, is_message_length, is_upper_case, message_of, number_of, rank_of, repeat_of, seed_of, slot_dropped, slot_of_rank}
-use Rattle.round_script.specs.Lines.{behind, behind_line, line_of, listed, optional, optionals, value_or_none}
+use Rattle.round_script.specs.Lines.{bad_line, behind, behind_line, line_of, listed, optional, optionals, value_or_none}
 use Rattle.round_script.specs.Read.{Opening, drops_at, faults_at, further_of, message_at, message_in, opening_at, round_of, script_read, seed_in, shape_in, value_at, version_at}
 use Rattle.round_script.specs.Script.{IsMessage, IsRepeat, IsScript, IsSlotOf, Rise, shape_of_script}
 use Rattle.round_script.proofs.SpelledLemmas.{and_then_some, digit_is, map_some, number_is, value_at_is}
@@ -178,7 +179,7 @@ repeat_is (Some x) is =
 -- ---- a script
 
 -- what the lines say that each script has
-record IsOpening (opening : Opening) : Type 0 where
+pub record IsOpening (opening : Opening) : Type 0 where
   version : opening.shape.version ≡ 1
   least : 2 ≤ opening.shape.members
   most : opening.shape.members ≤ 8
@@ -189,7 +190,7 @@ record IsOpening (opening : Opening) : Type 0 where
   messages : AllByRecursion IsMessage opening.messages
   count : length opening.messages ≡ opening.shape.members
 
-opening_is : (r : Reading) (x : Opening × Reading) → opening_at r ≡ Ok x → IsOpening x.0
+pub opening_is : (r : Reading) (x : Opening × Reading) → opening_at r ≡ Ok x → IsOpening x.0
 unfolding opening_at
 opening_is r x e =
     let begun = bind_ok (version_at r) (λ begun. value_at shape_in begun >>= λ shape. value_at round_of shape.1 >>= λ round. value_at seed_in round.1 >>= λ seed. repeated shape.0.members message_at seed.1 >>= λ messages. Ok (made shape.0 round.0 seed.0 messages.0, messages.1)) x e in
@@ -220,7 +221,7 @@ opening_is r x e =
     made : Shape → ℕ → List ℕ → List (List ℕ) → Opening
     made shape round seed messages = record { shape = shape; round = round; seed = seed; messages = messages }
 
-further_is : (opening : Opening) (before : Reading) (script : Script) → IsOpening opening → further_of opening before ≡ Ok script → IsScript script
+pub further_is : (opening : Opening) (before : Reading) (script : Script) → IsOpening opening → further_of opening before ≡ Ok script → IsScript script
 unfolding further_of
 further_is opening before script is e =
     let faults = faults_at opening.shape.members before in
@@ -252,3 +253,9 @@ unfolding script_read
 read_is bytes script e =
     let opening = bind_ok (opening_at (reading_at 1 bytes)) (λ opening. further_of opening.0 opening.1) script e in
     further_is opening.0.0 opening.0.1 script (opening_is (reading_at 1 bytes) opening.0 opening.1) opening.2
+
+-- of a call that gives what is read, what it returned is a script
+pub found_of : (result : Result Script ScriptRefusal) (expected : Result Script ℕ) → ((script : Script) → expected ≡ Ok script → IsScript script)
+    → Gives bad_line (λ script. script) result expected → IfOk result (λ script. IsScript script)
+found_of (Ok script) expected each gives = each script gives
+found_of (Err refusal) expected each gives = tt {0}

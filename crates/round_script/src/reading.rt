@@ -8,6 +8,7 @@ ghost use Rattle.round_script.specs.Forms.{fault_line_of, repeat_of, slot_droppe
 ghost use Rattle.round_script.specs.Given.{opening_of};
 ghost use Rattle.round_script.specs.Lines.{bad_line, optional, optionals, preceded, ReadsAs};
 ghost use Rattle.round_script.specs.Read.{drops_at, faults_at, further_of, message_at, message_in, opening_at, round_of, script_read, seed_in, shape_in, value_at, version_at};
+ghost use Rattle.round_script.specs.Script.{IsScript};
 
 use crate::forms::{
     behind_member, digit_of, fault_line_of, message_of, number_of, repeat_of, seed_of, slot_dropped,
@@ -37,7 +38,8 @@ pub(crate) struct Opening {
 /// `BadLine` exactly where the bytes are no script: the number of the first line that is bad, from 1.
 #[tactic(auto, unfolding(crate::specs::Read::script_read))]
 pub fn parse_script(alloc: Global, bytes: &[u8]) -> Result<Script, ScriptRefusal>
-    ensures { Gives bad_line (λ script. script) result (script_read bytes.now) }
+    ensures exact { Gives bad_line (λ script. script) result (script_read bytes.now) }
+    ensures found { IfOk result (λ script. IsScript script) }
 {
     let mut lines = Lines::new(bytes);
     let opening = read_opening(alloc, &mut lines)?;
