@@ -1,12 +1,12 @@
 -- Where all members are honest, nothing but a bad pad is shown of any of them.
 use Rattle.std.proofs.Common.{arith, refl, All, Contains, List, Ok, Option, Result, Some, ap, false, inl, inr, length, map, slice_get, subst, sym, take, true, ◌≡◌, ◌∙◌, ◌∷◌, ◌≤◌, ◌+◌, ◌-◌, [], ℕ}
-use Rattle.std.proofs.lemmas.List.{take_all, length-map, take-map}
-use Rattle.phase_message.specs.declared.stage.StageKind.TheVariants.{Keys as AtKeys, Submit as AtSubmit, Shuffle as AtShuffle, Go as AtGo, Final as AtFinal, Pad as AtPad, Check as AtCheck, Confirm as AtConfirm}
+use Rattle.std.proofs.lemmas.List.{take_all}
+use Rattle.phase_message.specs.declared.stage.StageKind.TheVariants.{Final as AtFinal}
 use Rattle.phase_message.specs.declared.content.Body.TheVariants.{Dispute, Reveal}
 use Rattle.transcript_form.specs.declared.claim.Claim.TheVariants.{Equivocation, Malformed, WrongSeed, BadLog, Replay, Pad}
 use Rattle.stage_log.specs.Log.{before, contents_of}
 use Rattle.conviction.specs.Accepts.{Convicts as Shows}
-use Rattle.round_spec.specs.Verdict.{Convicts, Done, Goes, ClosedStage, Verdict, closing_body, inquiry_into, is_closing, shape_at, shown_at, shown_in, verdict_of}
+use Rattle.round_spec.specs.Verdict.{Convicts, Goes, ClosedStage, Verdict, closing_body, inquiry_into, is_closing, shape_at, shown_at, shown_in, verdict_of}
 use Rattle.std.proofs.lemmas.List.Elements.{All-take}
 use Rattle.accountability.specs.AllHonest.{AllHaveRuns, NothingButPads}
 use Rattle.round_spec.specs.Cases.{AreFaithful, ByBadLog, ByBadPad, ByEquivocation, ByReplay, ByWrongSeed, Case, Ends, GoesOn, IsFaithful, IsMemberOf, agree_before}
@@ -166,9 +166,11 @@ run-dissents c delivered runs stage posts run among end faithful disagree listed
     shows shuffle kind =
         let kind_there : kind_of_stage (shape_in run.config) mine.row.stage ≡ Some (AtFinal shuffle) =
         ap (λ (s : Shape). kind_of_stage s mine.row.stage) facts.shape_is ∙ ap (kind_of_stage shape) mine.at ∙ kind in
-        let read : mine.row.read ≡ own_final run shuffle mine.row.past mine.row.stage = final-is run mine.kept.post.content mine.row shuffle facts.honest kind_there in
-        (written mine.row.past, said-in (run_after c delivered) posts stage run.config.number mine.kept ∙ ap (λ (x : Content). x.body) (sym read_is ∙ read)
-        ∙ row-dissents (shape_in run.config) mine.row.past mine.row.stage _ _ _ (sym (ap (λ (x : Content). is_assent x.body) read) ∙ dissents))
+        let read : mine.row.read ≡ own_final run shuffle mine.row.past mine.row.stage = final-is run mine.kept.post.content mine.row shuffle facts.honest kind_there in (
+          written mine.row.past,
+          said-in (run_after c delivered) posts stage run.config.number mine.kept ∙ ap (λ (x : Content). x.body) (sym read_is ∙ read)
+              ∙ row-dissents (shape_in run.config) mine.row.past mine.row.stage _ _ _ (sym (ap (λ (x : Content). is_assent x.body) read) ∙ dissents),
+        )
 
 -- ---- a replay blames nobody
 
@@ -190,8 +192,7 @@ own-shown c posts stage shuffle run d kind least most =
     let v : ClosedStage = closing_of c posts stage in
     let said = d.shows shuffle kind in
     let shown : slice_get (inquiry_into v).shown (run.config.number - 1) ≡ Some (record { outer_seed = own_key_seed run.config (outer_place shuffle); outer_opening = own_opening run.config shuffle 2 }) =
-    shown-there v shuffle run.config.number kind least most ∙ ap (λ (b : Body). Some (shown_in b)) said.1 in
-    (
+    shown-there v shuffle run.config.number kind least most ∙ ap (λ (b : Body). Some (shown_in b)) said.1 in (
       get_or_from_slice_get (map (λ (s : Shown). s.outer_seed) (inquiry_into v).shown) (run.config.number - 1) (own_key_seed run.config (outer_place shuffle)) []
           (slice_get-map (λ (s : Shown). s.outer_seed) (inquiry_into v).shown (run.config.number - 1) ∙ ap (option_map (λ (s : Shown). s.outer_seed)) shown),
       get_or_from_slice_get (map (λ (s : Shown). s.outer_opening) (inquiry_into v).shown) (run.config.number - 1) (own_opening run.config shuffle 2) []

@@ -2,9 +2,9 @@
 use Rattle.shuffle_core.specs.declared.entry.Submission.{Submission}
 use Rattle.std.proofs.lemmas.Simd.{map-map}
 use Rattle.std.proofs.Common.{arith, refl, zero, suc, Contains, List, None, Option, Some, ap, eq-eqb, false, length, length-take-le, map, slice_get, slice_index_or, subst, sym, take, true, ◌≡◌, ◌∙◌, ◌∷◌, ◌<◌, ◌≤◌, ◌+◌, ◌-◌, ◌==◌, [], ℕ}
-use Rattle.std.proofs.lemmas.List.{take_all, length-map, take-take, take-map}
+use Rattle.std.proofs.lemmas.List.{length-map, take-take, take-map}
 use Rattle.std.proofs.lemmas.Map.Views.{Contains-from_any}
-use Rattle.phase_message.specs.declared.stage.StageKind.TheVariants.{Go as AtGo, Check as AtCheck, Final as AtFinal, Shuffle as AtShuffle}
+use Rattle.phase_message.specs.declared.stage.StageKind.TheVariants.{Go as AtGo, Final as AtFinal}
 use Rattle.wire_core.specs.declared.tag.Tag.TheVariants.{LayerSeed}
 use Rattle.stage_log.specs.Log.{before, all_some, contents_of}
 use Rattle.phase_message.specs.Stages.{speaks, is_slot, kind_of_stage, vote_of}
@@ -278,15 +278,17 @@ opens-at c posts shuffle run shape_is has there_is =
     length-map-range_with_len (λ m. seed_in (said_in (shape_in c) (contents_of posts) (final_stage (shape_in c) shuffle) m)) 1 (shape_in c).members
     ∙ sym (ap (λ (s : Shape). s.members) shape_is) ∙ sym layers.0 in
     let opened = ap (opened_item (seeds_revealed (shape_in c) (contents_of posts) shuffle)) (inner-wrapped c posts shuffle run shape_is has)
-    ∙ item-opened (seeds_revealed (shape_in c) (contents_of posts) shuffle) (own_layer_seeds run.config shuffle 1) (item_kept posts run shuffle) many layers.1 in
-    (at.0, record {
-      list = there_is.list;
-      said = there_is.said;
-      stands = at.1;
-      opens = ap (λ (items : List (Option (List ℕ))). slice_get items at.0) (items-are (shape_in c) (contents_of posts) shuffle there_is.list there_is.said)
-          ∙ slice_get-map (opened_item (seeds_revealed (shape_in c) (contents_of posts) shuffle)) there_is.list at.0
-          ∙ ap (option_map (opened_item (seeds_revealed (shape_in c) (contents_of posts) shuffle))) at.1 ∙ ap (λ (o : Option (List ℕ)). Some o) opened;
-    })
+    ∙ item-opened (seeds_revealed (shape_in c) (contents_of posts) shuffle) (own_layer_seeds run.config shuffle 1) (item_kept posts run shuffle) many layers.1 in (
+      at.0,
+      record {
+        list = there_is.list;
+        said = there_is.said;
+        stands = at.1;
+        opens = ap (λ (items : List (Option (List ℕ))). slice_get items at.0) (items-are (shape_in c) (contents_of posts) shuffle there_is.list there_is.said)
+            ∙ slice_get-map (opened_item (seeds_revealed (shape_in c) (contents_of posts) shuffle)) there_is.list at.0
+            ∙ ap (option_map (opened_item (seeds_revealed (shape_in c) (contents_of posts) shuffle))) at.1 ∙ ap (λ (o : Option (List ℕ)). Some o) opened;
+      },
+    )
 
 -- ---- each run's place
 

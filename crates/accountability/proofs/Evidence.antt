@@ -67,10 +67,13 @@ pub record IsClosed (c : Configuration) (others : Others) (stage : ℕ) (verdict
 
 pub stand-closed : (c : Configuration) (others : Others) (verdict : Verdict) → IsConfiguration c → OthersCheck c others
     → (course_of c others).verdict ≡ verdict → verdict ≢ Goes → (stage : ℕ) × IsClosed c others stage verdict
-stand-closed c others verdict is check e ends = (stage, record {
-  kept = record { honest = settled_run_is_honest c others is check; closing = closing; kept = kept };
-  verdict_is = given;
-})
+stand-closed c others verdict is check e ends = (
+  stage,
+  record {
+    kept = record { honest = settled_run_is_honest c others is check; closing = closing; kept = kept };
+    verdict_is = given;
+  },
+)
   where
     stand : Stand
     stand = course_of c others

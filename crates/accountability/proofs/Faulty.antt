@@ -1,6 +1,5 @@
 -- Whoever is accused by the member of an honest run is faulty.
 use Rattle.std.proofs.Common.{arith, refl, All, Contains, List, None, Ok, Option, Result, Some, ap, eq-eqb, inl, inr, subst, sym, take, true, ◌≡◌, ◌∙◌, ◌+◌, ◌==◌, ℕ}
-use Rattle.transcript_form.specs.declared.claim.Claim.TheVariants.{Equivocation, Malformed, WrongSeed, BadLog, Replay, Pad}
 use Rattle.round_spec.specs.Verdict.{Convicts, Done, Goes, Verdict, closing_content, verdict_of}
 use Rattle.transcript_form.specs.declared.accusation.Accusation.{Accusation}
 use Rattle.accountability.specs.Faulty.{AccusedFaulty}
@@ -73,10 +72,10 @@ unfolding log_after
 blame-of c delivered t e = elim (outcome-cases c delivered) [
   | inl open_end ↦ absurd (waits-not (first_posts c delivered) (stand_after c delivered) (sym e ∙ open_end.outcome_is))
   | inr ended ↦ record {
-      count = ended.count;
-      ends = ended.ends ∙ ap (λ (v : Verdict). Some v) (convicted (stand_after c (take ended.count delivered)) ended.verdict (sym e ∙ ended.outcome_is));
-      run_is = ap (λ (o : Option (ℕ × Verdict)). record { config = c; log = settled_log c (first_posts c (counted_part delivered o)) }) ended.least;
-    }
+    count = ended.count;
+    ends = ended.ends ∙ ap (λ (v : Verdict). Some v) (convicted (stand_after c (take ended.count delivered)) ended.verdict (sym e ∙ ended.outcome_is));
+    run_is = ap (λ (o : Option (ℕ × Verdict)). record { config = c; log = settled_log c (first_posts c (counted_part delivered o)) }) ended.least;
+  }
 ]
   where
     waits-not : (others : Others) (stand : Stand) → Blamed t ≡ waiting_outcome c others stand → ⊥

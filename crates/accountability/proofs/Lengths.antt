@@ -1,12 +1,12 @@
 -- How long evidence is.
-use Rattle.std.proofs.Common.{arith, refl, zero, suc, All, List, None, Ok, Option, Some, ap, false, inl, inr, length, length-take-le, map, slice_get, subst, sym, take, true, ◌≡◌, ◌≢◌, ◌∙◌, ◌∷◌, ◌++◌, ◌<◌, ◌≤◌, ◌+◌, ◌-◌, ◌*◌, [], ℕ}
+use Rattle.std.proofs.Common.{arith, refl, zero, suc, All, List, None, Ok, Option, Some, ap, false, inl, inr, length, length-take-le, map, slice_get, subst, sym, take, true, ◌≡◌, ◌∙◌, ◌∷◌, ◌++◌, ◌<◌, ◌≤◌, ◌+◌, ◌-◌, ◌*◌, [], ℕ}
 use Rattle.std.specs.Int.{to_be_bytes, w32, w64}
-use Rattle.std.proofs.lemmas.List.{length-append, length-map, take-map, take-take}
+use Rattle.std.proofs.lemmas.List.{length-append, take-map, take-take}
 use Rattle.phase_message.specs.declared.content.Body.TheVariants.{Keys, Submit, Shuffled, Abort, Go, Reveal, Dispute, Pads, Check, Confirm, Differ}
 use Rattle.phase_message.specs.declared.stage.StageKind.TheVariants.{Final as AtFinal, Confirm as AtConfirm}
 use Rattle.transcript_form.specs.declared.claim.Claim.TheVariants.{Equivocation, Malformed, WrongSeed, BadLog, Replay, Pad}
 use Rattle.stage_log.specs.Log.{before, contents_of}
-use Rattle.round_spec.specs.Verdict.{Convicts, Done, Goes, ClosedStage, Verdict, is_dissent, is_read_justified, sent_in, verdict_of, conviction}
+use Rattle.round_spec.specs.Verdict.{Convicts, Goes, ClosedStage, Verdict, is_dissent, is_read_justified, sent_in, verdict_of, conviction}
 use Rattle.transcript_form.specs.declared.accusation.Accusation.{Accusation}
 use Rattle.std.proofs.lemmas.List.Elements.{All-contains, All-take}
 use Rattle.std.specs.List.{AllByRecursion, AllZip, flat_map}
@@ -50,10 +50,9 @@ use Rattle.round_spec.specs.Embedded.{embedded_pairs, is_content_justified, slot
 use Rattle.accountability.proofs.Endings.{ending-cases}
 use Rattle.round_spec.proofs.Verdicts.{faithful, verdict_cases}
 use Rattle.std.proofs.lemmas.Grind.{flat_map-append}
-use Rattle.conviction.proofs.OwnFronts.{front}
 use Rattle.conviction.proofs.Closings.{is-past}
 use Rattle.go_nogo.specs.Closing.{is_assent, posts_embedded, slots_embedded}
-use Rattle.phase_message.specs.Stages.{is_slot, kind_of_stage, speaks}
+use Rattle.phase_message.specs.Stages.{is_slot, kind_of_stage}
 use Rattle.phase_message.specs.Offence.{item_at}
 use Rattle.accountability.proofs.Pads.{last-late}
 use Rattle.phase_message.proofs.SlotLists.{length-slots_of, slots_before-most, slots_before-rises}
@@ -88,8 +87,15 @@ spelling-long t =
     let round : List ℕ = to_be_bytes w64 t.round in
     let count : List ℕ = to_be_bytes w32 (length t.posts) in
     let magic : length transcript_magic ≡ 5 = refl in
-    omega (arith, magic, detail-long t.detail, length-append transcript_magic (head_spelling t ++ flat_map prefixed t.posts), length-append (head_spelling t) (flat_map prefixed t.posts),
-    length-append (to_be_bytes w64 t.round) (detail_spelling t.detail ++ to_be_bytes w32 (length t.posts)), length-append (detail_spelling t.detail) (to_be_bytes w32 (length t.posts)))
+    omega (
+      arith,
+      magic,
+      detail-long t.detail,
+      length-append transcript_magic (head_spelling t ++ flat_map prefixed t.posts),
+      length-append (head_spelling t) (flat_map prefixed t.posts),
+      length-append (to_be_bytes w64 t.round) (detail_spelling t.detail ++ to_be_bytes w32 (length t.posts)),
+      length-append (detail_spelling t.detail) (to_be_bytes w32 (length t.posts)),
+    )
 
 items-most : (w : ℕ) (items : List (List ℕ)) → AllByRecursion (λ item. length item + 4 ≤ w) items → length (flat_map prefixed items) ≤ length items * w
 items-most w [] all = omega arith
@@ -112,8 +118,18 @@ one-most t a none posts few =
 
 two-most : (t : Transcript) (a b : List ℕ) → t.detail ≡ None → t.posts ≡ a ∷ b ∷ [] → length a ≤ 16777216 → length b ≤ 16777216 → length (transcript_spelling t) ≤ 33554459
 two-most t a b none posts few more =
-    omega (arith, spelling-long t, ap detail_length none, ap (λ (ps : List (List ℕ)). length (flat_map prefixed ps)) posts, few, more,
-    length-append (to_be_bytes w32 (length a)) a, length-append (to_be_bytes w32 (length b)) b, length-append (prefixed a) (prefixed b ++ []), length-append (prefixed b) [])
+    omega (
+      arith,
+      spelling-long t,
+      ap detail_length none,
+      ap (λ (ps : List (List ℕ)). length (flat_map prefixed ps)) posts,
+      few,
+      more,
+      length-append (to_be_bytes w32 (length a)) a,
+      length-append (to_be_bytes w32 (length b)) b,
+      length-append (prefixed a) (prefixed b ++ []),
+      length-append (prefixed b) [],
+    )
 
 -- ---- what is embedded at the end
 
@@ -344,8 +360,12 @@ verdict-short run stage posts t end e = by_case (verdict_cases (closing_of run.c
     log-most : length (flat_map prefixed (written (take (slots_before shape (pad_stage shape)) b.past))) ≤ 11539784
     log-most =
         let whole = whole-past c stage b.past b.can b.goes in
-        omega (arith, whole, take-less (slots_before shape (pad_stage shape)) (written b.past),
-        ap (λ (items : List (List ℕ)). length (flat_map prefixed items)) (take-map post_spelling (slots_before shape (pad_stage shape)) b.past))
+        omega (
+          arith,
+          whole,
+          take-less (slots_before shape (pad_stage shape)) (written b.past),
+          ap (λ (items : List (List ℕ)). length (flat_map prefixed items)) (take-map post_spelling (slots_before shape (pad_stage shape)) b.past),
+        )
 
     by_case : Case (closing_of run.config posts stage) (verdict_of (closing_of run.config posts stage)) → IsShort t
     by_case (ByBadLog is) = few-one t _ _ _ BadLog _ is.verdict_is (sym e) (λ same. absurd cc) (at-end is.member is.is_member)
@@ -381,8 +401,18 @@ verdict-short run stage posts t end e = by_case (verdict_cases (closing_of run.c
         let same : t ≡ other = transcript-same t other (sym e ∙ is.verdict_is) in
         let long = spelling-long other in
         let few : length (transcript_spelling other) < 134217728 =
-        omega (arith, long, log, log-most, pads, form, ap length (flat_map-append prefixed listed (last ∷ [])), length-append (flat_map prefixed listed) (flat_map prefixed (last ∷ [])),
-        length-append (prefixed last) [], length-append (to_be_bytes w32 (length last)) last) in
+        omega (
+          arith,
+          long,
+          log,
+          log-most,
+          pads,
+          form,
+          ap length (flat_map-append prefixed listed (last ∷ [])),
+          length-append (flat_map prefixed listed) (flat_map prefixed (last ∷ [])),
+          length-append (prefixed last) [],
+          length-append (to_be_bytes w32 (length last)) last,
+        ) in
         subst IsShort (sym same) (record { whole = few; replay = λ claim. absurd (let c : Pad ≡ Replay = claim in cc) })
     by_case (GoesOn agree work goes) = absurd (convicts-not t (verdict_of (closing_of run.config posts stage)) (inl goes) (sym e))
     by_case (Ends agree done ends) = absurd (convicts-not t (verdict_of (closing_of run.config posts stage)) (inr ends) (sym e))

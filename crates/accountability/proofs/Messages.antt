@@ -8,7 +8,7 @@ use Rattle.bulk_descriptor.specs.declared.slot_state.SlotState.TheVariants.{Empt
 use Rattle.wire_core.specs.declared.tag.Tag.TheVariants.{Message as OfMessage}
 use Rattle.std.specs.Prelude.{if◌then◌else◌, bytes_eq, option_and_then, option_map, is_none}
 use Rattle.stage_log.specs.Log.{before, contents_of, posts_kept}
-use Rattle.phase_message.specs.Stages.{speaks, kind_of_stage}
+use Rattle.phase_message.specs.Stages.{kind_of_stage}
 use Rattle.round_spec.specs.Verdict.{Convicts, Done, Goes, is_bad, ClosedStage, Verdict, bad_pad, bad_pad_by, bad_pad_if, closing_body, first_bad_pad, is_held, past_at, shape_at, verdict_of}
 use Rattle.round_spec.specs.Runs.{AreHonest, HonestRun, Run, run_after, IsConfiguration}
 use Rattle.phase_message.specs.declared.content.Body.{Body}
@@ -660,9 +660,12 @@ run-message c delivered runs stage posts run e work =
     found.1.opens ∙ ap (λ (item : List ℕ). Some (Some item)) (item-first run.config (own_descriptor run.config (contents_of posts)) (contents_of posts)) in
     let fit = own-slot-fits c delivered runs stage found.0 posts run e work opens in
     let within = slice_get_within (items_opened (shape_in c) (contents_of posts) 1) found.0 _ opens in
-    let few : found.0 < (shape_in c).members = omega (arith, within, items-count c delivered stage posts e.end.kept e.late) in
-    (found.0, found.1, slot-there c runs found.0 posts run e.end.among.honest e.listed opens
-    ∙ ap (λ (s : SlotState). Some s) (fit-message c delivered runs stage found.0 posts run e few fit))
+    let few : found.0 < (shape_in c).members = omega (arith, within, items-count c delivered stage posts e.end.kept e.late) in (
+      found.0,
+      found.1,
+      slot-there c runs found.0 posts run e.end.among.honest e.listed opens
+          ∙ ap (λ (s : SlotState). Some s) (fit-message c delivered runs stage found.0 posts run e few fit),
+    )
 
 -- the end of a done round
 pub record IsDoneEnd (c : Configuration) (delivered : List (List ℕ)) (slots : List SlotState) : Type 0 where

@@ -1,11 +1,9 @@
 -- An accusation that holds at the end of shuffle B convicts whom it names.
 use Rattle.std.proofs.Common.{arith, refl, IsSome, List, None, Option, Some, ap, inl, inr, map, slice_get, slice_index_or, subst, sym, take, true, ◌≡◌, ◌≢◌, ◌∙◌, ◌<◌, ◌≤◌, ◌+◌, ◌-◌, [], ℕ}
 use Rattle.go_nogo.specs.Votes.{votes_agree}
-use Rattle.std.proofs.lemmas.List.{length-map, length-take-le, take-map, take-take}
-use Rattle.phase_message.specs.declared.stage.StageKind.TheVariants.{Go as AtGo, Final as AtFinal, Pad as AtPad}
-use Rattle.phase_message.specs.declared.content.Body.TheVariants.{Dispute, Reveal, Pads}
-use Rattle.transcript_form.specs.declared.claim.Claim.TheVariants.{Pad}
-use Rattle.round_spec.specs.Verdict.{Convicts}
+use Rattle.std.proofs.lemmas.List.{length-map, take-map, take-take}
+use Rattle.phase_message.specs.declared.stage.StageKind.TheVariants.{Go as AtGo, Final as AtFinal}
+use Rattle.phase_message.specs.declared.content.Body.TheVariants.{Dispute, Reveal}
 use Rattle.round_spec.specs.Runs.{AllGo, HonestRun, Run}
 use Rattle.round_spec.proofs.AgreedClosings.{ClosingKind, agreed-there, final-closes}
 use Rattle.phase_message.specs.declared.content.Content.{Content}
@@ -231,4 +229,3 @@ pad-log run stage posts end b = record { kept = kept; is = is; reveals = reveals
         ∙ take-take (slots_before shape (shape.members + 2)) (slots_before shape (final_stage shape 1)) (contents_of log) (slots_before-rises shape (shape.members + 2) (final_stage shape 1) (omega (arith, final_is))) in
         ap (λ (o : Option (List (List ℕ))). is_some o) (sym (list-front shape (contents_of log) (shape.members + 2) shape.members (omega arith) (omega arith)))
         ∙ ap (λ (p : List (List ℕ)). is_some (list_said shape p 1 shape.members)) (sym front_row) ∙ there
-

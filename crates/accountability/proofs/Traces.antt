@@ -1,7 +1,7 @@
 -- Where the posts that are listed as evidence come from: they were delivered, or embedded in what was, or are the member's
 -- own.
 use Rattle.std.proofs.Common.{arith, refl, All, Contains, List, None, Ok, Option, Some, ap, eqb-true, false, inl, inr, map, slice_get, subst, suc, sym, take, true, zero, ◌≡◌, ◌∙◌, ◌⊎◌, ◌∷◌, ◌++◌, ◌<◌, ◌≤◌, ◌+◌, ◌==◌, [], ℕ}
-use Rattle.round_spec.specs.Verdict.{Convicts, Done, Goes, ClosedStage, Verdict, closing_content, is_closing, is_read_justified, sent_in, verdict_of}
+use Rattle.round_spec.specs.Verdict.{Convicts, ClosedStage, Verdict, closing_content, is_closing, is_read_justified, sent_in, verdict_of}
 use Rattle.std.proofs.lemmas.List.Elements.{All-contains}
 use Rattle.std.specs.List.{AllZip, range_with_len}
 use Rattle.round_spec.specs.Cases.{ByBadLog, ByBadPad, ByEquivocation, ByReplay, ByWrongSeed, Case, Ends, GoesOn, IsBadPad, IsMemberOf}
@@ -306,14 +306,18 @@ embedded-traced c delivered stage member posts content pair all end is reads lis
         ∙ sym (settled-kept c (first_posts c delivered) (record { stage = stage; sender = member }) speaks_there) ∙ kept in
         let found = first_posts_delivered c delivered (record { stage = stage; sender = member }) k.post all first in
         let stage_is : content.header.stage ≡ stage = ap (λ (x : Content). x.header.stage) (sym content_is) ∙ content-stage run posts stage member k in
-        Given (inr (found.bytes, found.listed, record {
-          post = k.post;
-          content = content;
-          spelled = found.spelled;
-          reads = content-reads run posts stage member k ∙ ap (λ (x : Content). Ok x) content_is;
-          closing = ap (is_closing (shape_in c)) stage_is ∙ end.closing;
-          embedded = zip-second (slots_embedded (shape_in c) content) (posts_embedded content.body) pair listed;
-        }))
+        Given (inr (
+          found.bytes,
+          found.listed,
+          record {
+            post = k.post;
+            content = content;
+            spelled = found.spelled;
+            reads = content-reads run posts stage member k ∙ ap (λ (x : Content). Ok x) content_is;
+            closing = ap (is_closing (shape_in c)) stage_is ∙ end.closing;
+            embedded = zip-second (slots_embedded (shape_in c) content) (posts_embedded content.body) pair listed;
+          },
+        ))
 
 -- what is traced in some of the deliveries is in all
 pub widened : (run : Run) (part delivered : List (List ℕ)) → ((bytes : List ℕ) → Contains part bytes → Contains delivered bytes) → (bytes : List ℕ)
