@@ -2,12 +2,12 @@
 use Rattle.std.proofs.Common.{arith, refl, zero, suc, All, Bool, Contains, List, Option, Some, ap, eqb-true, false, inl, inr, length, map, slice_get, slice_index_or, subst, sym, true, ◌≡◌, ◌∙◌, ◌∷◌, ◌<◌, ◌≤◌, ◌+◌, ◌-◌, ◌||◌, ◌==◌, [], ℕ, None, take}
 use Rattle.std.specs.List.{IsDistinct, list_any, AllByRecursion, range_with_len}
 use Rattle.std.proofs.lemmas.Map.Steps.{length-le_from_distinct_below}
-use Rattle.std.proofs.lemmas.Map.Views.{Contains-from_any, list_any-from_Contains}
-use Rattle.std.proofs.lemmas.List.{take-map, take-take, take_all}
-use Rattle.phase_message.specs.declared.stage.StageKind.TheVariants.{Pad as AtPad, Final as AtFinal, Confirm as AtConfirm}
+use Rattle.std.proofs.lemmas.Map.Views.{Contains-from_any}
+use Rattle.std.proofs.lemmas.List.{take_all}
+use Rattle.phase_message.specs.declared.stage.StageKind.TheVariants.{Final as AtFinal, Confirm as AtConfirm}
 use Rattle.bulk_descriptor.specs.declared.slot_state.SlotState.{SlotState}
 use Rattle.bulk_descriptor.specs.declared.slot_state.SlotState.TheVariants.{Empty, Bad, Message, Mismatched}
-use Rattle.transcript_form.specs.declared.claim.Claim.TheVariants.{Equivocation, Malformed, WrongSeed, BadLog, Replay, Pad}
+use Rattle.transcript_form.specs.declared.claim.Claim.TheVariants.{Pad}
 use Rattle.phase_message.specs.declared.content.Body.TheVariants.{Keys as KeysBody}
 use Rattle.stage_log.specs.Log.{before, contents_of}
 use Rattle.round_spec.specs.Verdict.{Convicts, Done, Goes, is_bad, Verdict, verdict_of}
@@ -23,7 +23,6 @@ use Rattle.phase_message.specs.declared.post.Post.{Post}
 use Rattle.round_spec.specs.Runs.{Run, run_after}
 use Rattle.phase_message.specs.Shape.{Shape}
 use Rattle.round_spec.proofs.SealedBytes.{all-map, all-places}
-use Rattle.lms_tree.specs.Tree.{below}
 use Rattle.round_spec.specs.Slots.{bulk_place, items_opened, key_said, keys_in, keys_said, pads_sent, said_in, slots_of_past, final_stage}
 use Rattle.conviction.proofs.Replays.{by-member, not_both}
 use Rattle.std.proofs.lemmas.Bool.{cases_Bool, cases_eq, false_from_ne_true, cases_lt}
@@ -63,7 +62,6 @@ use Rattle.round_spec.proofs.Settling.{before-settled, reached-end}
 use Rattle.phase_message.proofs.Table.{confirm_is}
 use Rattle.accountability.proofs.Evidence.{convicts-not, firsts-check, stand-closed}
 use Rattle.accountability.proofs.Endings.{ending-cases, outcome-cases}
-use Rattle.phase_message.proofs.Spelled.{given}
 use Rattle.accountability.proofs.AllHonest.{nothing_but_pads}
 use Rattle.round_spec.proofs.Reached.{open-goes}
 use Rattle.accountability.proofs.Naming.{open_names}

@@ -1,12 +1,12 @@
 -- Where all members are honest, nothing but a bad pad is shown of any of them.
 use Rattle.std.proofs.Common.{arith, refl, All, Contains, List, Ok, Option, Result, Some, ap, false, inl, inr, length, map, slice_get, subst, sym, take, true, ◌≡◌, ◌∙◌, ◌∷◌, ◌≤◌, ◌+◌, ◌-◌, [], ℕ}
-use Rattle.std.proofs.lemmas.List.{take_all, length-map, take-map}
-use Rattle.phase_message.specs.declared.stage.StageKind.TheVariants.{Keys as AtKeys, Submit as AtSubmit, Shuffle as AtShuffle, Go as AtGo, Final as AtFinal, Pad as AtPad, Check as AtCheck, Confirm as AtConfirm}
+use Rattle.std.proofs.lemmas.List.{take_all}
+use Rattle.phase_message.specs.declared.stage.StageKind.TheVariants.{Final as AtFinal}
 use Rattle.phase_message.specs.declared.content.Body.TheVariants.{Dispute, Reveal}
 use Rattle.transcript_form.specs.declared.claim.Claim.TheVariants.{Equivocation, Malformed, WrongSeed, BadLog, Replay, Pad}
 use Rattle.stage_log.specs.Log.{before, contents_of}
 use Rattle.conviction.specs.Accepts.{Convicts as Shows}
-use Rattle.round_spec.specs.Verdict.{Convicts, Done, Goes, ClosedStage, Verdict, closing_body, inquiry_into, is_closing, shape_at, shown_at, shown_in, verdict_of}
+use Rattle.round_spec.specs.Verdict.{Convicts, Goes, ClosedStage, Verdict, closing_body, inquiry_into, is_closing, shape_at, shown_at, shown_in, verdict_of}
 use Rattle.std.proofs.lemmas.List.Elements.{All-take}
 use Rattle.accountability.specs.AllHonest.{AllHaveRuns, NothingButPads}
 use Rattle.round_spec.specs.Cases.{AreFaithful, ByBadLog, ByBadPad, ByEquivocation, ByReplay, ByWrongSeed, Case, Ends, GoesOn, IsFaithful, IsMemberOf, agree_before}

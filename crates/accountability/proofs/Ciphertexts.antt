@@ -2,9 +2,9 @@
 use Rattle.shuffle_core.specs.declared.entry.Submission.{Submission}
 use Rattle.std.proofs.lemmas.Simd.{map-map}
 use Rattle.std.proofs.Common.{arith, refl, zero, suc, Contains, List, None, Option, Some, ap, eq-eqb, false, length, length-take-le, map, slice_get, slice_index_or, subst, sym, take, true, ◌≡◌, ◌∙◌, ◌∷◌, ◌<◌, ◌≤◌, ◌+◌, ◌-◌, ◌==◌, [], ℕ}
-use Rattle.std.proofs.lemmas.List.{take_all, length-map, take-take, take-map}
+use Rattle.std.proofs.lemmas.List.{length-map, take-take, take-map}
 use Rattle.std.proofs.lemmas.Map.Views.{Contains-from_any}
-use Rattle.phase_message.specs.declared.stage.StageKind.TheVariants.{Go as AtGo, Check as AtCheck, Final as AtFinal, Shuffle as AtShuffle}
+use Rattle.phase_message.specs.declared.stage.StageKind.TheVariants.{Go as AtGo, Final as AtFinal}
 use Rattle.wire_core.specs.declared.tag.Tag.TheVariants.{LayerSeed}
 use Rattle.stage_log.specs.Log.{before, all_some, contents_of}
 use Rattle.phase_message.specs.Stages.{speaks, is_slot, kind_of_stage, vote_of}

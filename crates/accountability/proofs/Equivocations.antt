@@ -1,7 +1,7 @@
 -- A closing post that embeds another content than was kept for a slot convicts the sender of the slot.
-use Rattle.std.proofs.Common.{arith, refl, Contains, List, Ok, ap, inl, inr, length, subst, sym, true, w32, ◌≡◌, ◌∙◌, ◌∷◌, ◌++◌, ◌<◌, ◌+◌, [], ℕ}
+use Rattle.std.proofs.Common.{arith, Contains, List, Ok, ap, inl, inr, length, subst, sym, true, w32, ◌≡◌, ◌∙◌, ◌∷◌, ◌++◌, ◌<◌, ◌+◌, [], ℕ}
 use Rattle.phase_message.specs.declared.content.Body.TheVariants.{Keys, Submit, Shuffled, Abort, Go, Reveal, Dispute, Pads, Check, Confirm, Differ}
-use Rattle.round_spec.specs.Verdict.{Convicts, closing_content, content_of_post, is_closing, is_read_justified}
+use Rattle.round_spec.specs.Verdict.{closing_content, content_of_post, is_closing, is_read_justified}
 use Rattle.accountability.specs.Evidence.{AcceptedFor, IsAccepted, IsKeptEnd}
 use Rattle.std.specs.List.{AllByRecursion, AllZip, flat_map}
 use Rattle.phase_message.specs.declared.content.Body.{Body}
@@ -25,7 +25,7 @@ use Rattle.round_spec.specs.Embedded.{embedded_pairs, is_content_justified}
 use Rattle.signed_post.specs.Frame.{frame_of}
 use Rattle.signed_post.proofs.Frames.{framed-again}
 use Rattle.go_nogo.specs.Closing.{is_assent, posts_embedded, slots_embedded}
-use Rattle.phase_message.specs.Stages.{is_slot, speaks}
+use Rattle.phase_message.specs.Stages.{is_slot}
 use Rattle.round_spec.proofs.Justified.{justified_exactly}
 use Rattle.phase_message.specs.Post.{post_spelling}
 use Rattle.signed_post.proofs.Lengths.{posts_are_short}

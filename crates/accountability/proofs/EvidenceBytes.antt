@@ -6,7 +6,6 @@ use Rattle.phase_message.specs.declared.stage.StageKind.TheVariants.{Shuffle as 
 use Rattle.shuffle_blame.proofs.Endings.{EndsAt, ends_at}
 use Rattle.round_spec.specs.Slots.{submit_stage, entries_opened, items_opened, list_said, seeds_revealed}
 use Rattle.transcript_form.specs.declared.claim.Claim.TheVariants.{Equivocation, Malformed, WrongSeed, BadLog, Replay, Pad}
-use Rattle.round_spec.specs.Verdict.{Convicts, Done, Goes}
 use Rattle.std.specs.List.{AllByRecursion, flat_map}
 use Rattle.phase_message.specs.declared.content.Body.{Body}
 use Rattle.transcript_form.specs.declared.claim.Claim.{Claim}

@@ -1,6 +1,5 @@
 -- Whoever is accused by the member of an honest run is faulty.
 use Rattle.std.proofs.Common.{arith, refl, All, Contains, List, None, Ok, Option, Result, Some, ap, eq-eqb, inl, inr, subst, sym, take, true, ◌≡◌, ◌∙◌, ◌+◌, ◌==◌, ℕ}
-use Rattle.transcript_form.specs.declared.claim.Claim.TheVariants.{Equivocation, Malformed, WrongSeed, BadLog, Replay, Pad}
 use Rattle.round_spec.specs.Verdict.{Convicts, Done, Goes, Verdict, closing_content, verdict_of}
 use Rattle.transcript_form.specs.declared.accusation.Accusation.{Accusation}
 use Rattle.accountability.specs.Faulty.{AccusedFaulty}

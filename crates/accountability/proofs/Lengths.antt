@@ -1,12 +1,12 @@
 -- How long evidence is.
-use Rattle.std.proofs.Common.{arith, refl, zero, suc, All, List, None, Ok, Option, Some, ap, false, inl, inr, length, length-take-le, map, slice_get, subst, sym, take, true, ◌≡◌, ◌≢◌, ◌∙◌, ◌∷◌, ◌++◌, ◌<◌, ◌≤◌, ◌+◌, ◌-◌, ◌*◌, [], ℕ}
+use Rattle.std.proofs.Common.{arith, refl, zero, suc, All, List, None, Ok, Option, Some, ap, false, inl, inr, length, length-take-le, map, slice_get, subst, sym, take, true, ◌≡◌, ◌∙◌, ◌∷◌, ◌++◌, ◌<◌, ◌≤◌, ◌+◌, ◌-◌, ◌*◌, [], ℕ}
 use Rattle.std.specs.Int.{to_be_bytes, w32, w64}
-use Rattle.std.proofs.lemmas.List.{length-append, length-map, take-map, take-take}
+use Rattle.std.proofs.lemmas.List.{length-append, take-map, take-take}
 use Rattle.phase_message.specs.declared.content.Body.TheVariants.{Keys, Submit, Shuffled, Abort, Go, Reveal, Dispute, Pads, Check, Confirm, Differ}
 use Rattle.phase_message.specs.declared.stage.StageKind.TheVariants.{Final as AtFinal, Confirm as AtConfirm}
 use Rattle.transcript_form.specs.declared.claim.Claim.TheVariants.{Equivocation, Malformed, WrongSeed, BadLog, Replay, Pad}
 use Rattle.stage_log.specs.Log.{before, contents_of}
-use Rattle.round_spec.specs.Verdict.{Convicts, Done, Goes, ClosedStage, Verdict, is_dissent, is_read_justified, sent_in, verdict_of, conviction}
+use Rattle.round_spec.specs.Verdict.{Convicts, Goes, ClosedStage, Verdict, is_dissent, is_read_justified, sent_in, verdict_of, conviction}
 use Rattle.transcript_form.specs.declared.accusation.Accusation.{Accusation}
 use Rattle.std.proofs.lemmas.List.Elements.{All-contains, All-take}
 use Rattle.std.specs.List.{AllByRecursion, AllZip, flat_map}
@@ -50,10 +50,9 @@ use Rattle.round_spec.specs.Embedded.{embedded_pairs, is_content_justified, slot
 use Rattle.accountability.proofs.Endings.{ending-cases}
 use Rattle.round_spec.proofs.Verdicts.{faithful, verdict_cases}
 use Rattle.std.proofs.lemmas.Grind.{flat_map-append}
-use Rattle.conviction.proofs.OwnFronts.{front}
 use Rattle.conviction.proofs.Closings.{is-past}
 use Rattle.go_nogo.specs.Closing.{is_assent, posts_embedded, slots_embedded}
-use Rattle.phase_message.specs.Stages.{is_slot, kind_of_stage, speaks}
+use Rattle.phase_message.specs.Stages.{is_slot, kind_of_stage}
 use Rattle.phase_message.specs.Offence.{item_at}
 use Rattle.accountability.proofs.Pads.{last-late}
 use Rattle.phase_message.proofs.SlotLists.{length-slots_of, slots_before-most, slots_before-rises}

@@ -8,7 +8,7 @@ use Rattle.bulk_descriptor.specs.declared.slot_state.SlotState.TheVariants.{Empt
 use Rattle.wire_core.specs.declared.tag.Tag.TheVariants.{Message as OfMessage}
 use Rattle.std.specs.Prelude.{if◌then◌else◌, bytes_eq, option_and_then, option_map, is_none}
 use Rattle.stage_log.specs.Log.{before, contents_of, posts_kept}
-use Rattle.phase_message.specs.Stages.{speaks, kind_of_stage}
+use Rattle.phase_message.specs.Stages.{kind_of_stage}
 use Rattle.round_spec.specs.Verdict.{Convicts, Done, Goes, is_bad, ClosedStage, Verdict, bad_pad, bad_pad_by, bad_pad_if, closing_body, first_bad_pad, is_held, past_at, shape_at, verdict_of}
 use Rattle.round_spec.specs.Runs.{AreHonest, HonestRun, Run, run_after, IsConfiguration}
 use Rattle.phase_message.specs.declared.content.Body.{Body}

@@ -33,17 +33,15 @@ use Rattle.std.proofs.lemmas.Bool.{cases_Bool, cond-false, cond-true}
 use Rattle.phase_message.proofs.Whole.{content-is_read}
 use Rattle.phase_message.specs.Offence.{content_read}
 use Rattle.stage_log.specs.Log.{contents_of}
-use Rattle.round_spec.specs.Slots.{final_stage, inner_place, key_said, keys_in, said_in, seed_in}
+use Rattle.round_spec.specs.Slots.{inner_place, key_said, keys_in, said_in, seed_in}
 use Rattle.signed_post.specs.Frame.{frame_of}
 use Rattle.signed_post.proofs.Frames.{framed-bytes, framed-found}
 use Rattle.conviction.specs.Accepts.{inner_key}
 use Rattle.go_nogo.specs.Closing.{is_assent}
 use Rattle.phase_message.specs.Stages.{is_member, kind_of_stage}
 use Rattle.ring_encrypt.specs.Capsule.{key_of_seed}
-use Rattle.round_spec.specs.Beginnings.{keys_post}
 use Rattle.std.proofs.lemmas.Option.{none-some}
 use Rattle.conviction.proofs.Replays.{not_both}
-use Rattle.std.specs.Prelude.{option_and_then}
 use Rattle.signed_post.proofs.Lengths.{posts_are_short}
 use Rattle.std.specs.Result.{result_ok}
 use Rattle.round_spec.proofs.PastForms.{spelled-short}

@@ -6,7 +6,7 @@ use Rattle.phase_message.specs.declared.stage.StageKind.TheVariants.{Keys as AtK
 use Rattle.phase_message.specs.declared.content.Body.TheVariants.{Pads}
 use Rattle.transcript_form.specs.declared.claim.Claim.TheVariants.{Pad}
 use Rattle.shuffle_blame.specs.declared.fault.Cause.TheVariants.{View}
-use Rattle.round_spec.specs.Verdict.{Convicts, is_held}
+use Rattle.round_spec.specs.Verdict.{is_held}
 use Rattle.accountability.specs.Evidence.{AcceptedFor, IsAccepted, IsKeptEnd}
 use Rattle.transcript_form.specs.declared.accusation.Accusation.{Accusation}
 use Rattle.std.specs.List.{AllByRecursion}

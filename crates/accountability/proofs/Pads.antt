@@ -1,11 +1,9 @@
 -- An accusation that holds at the end of shuffle B convicts whom it names.
 use Rattle.std.proofs.Common.{arith, refl, IsSome, List, None, Option, Some, ap, inl, inr, map, slice_get, slice_index_or, subst, sym, take, true, ◌≡◌, ◌≢◌, ◌∙◌, ◌<◌, ◌≤◌, ◌+◌, ◌-◌, [], ℕ}
 use Rattle.go_nogo.specs.Votes.{votes_agree}
-use Rattle.std.proofs.lemmas.List.{length-map, length-take-le, take-map, take-take}
-use Rattle.phase_message.specs.declared.stage.StageKind.TheVariants.{Go as AtGo, Final as AtFinal, Pad as AtPad}
-use Rattle.phase_message.specs.declared.content.Body.TheVariants.{Dispute, Reveal, Pads}
-use Rattle.transcript_form.specs.declared.claim.Claim.TheVariants.{Pad}
-use Rattle.round_spec.specs.Verdict.{Convicts}
+use Rattle.std.proofs.lemmas.List.{length-map, take-map, take-take}
+use Rattle.phase_message.specs.declared.stage.StageKind.TheVariants.{Go as AtGo, Final as AtFinal}
+use Rattle.phase_message.specs.declared.content.Body.TheVariants.{Dispute, Reveal}
 use Rattle.round_spec.specs.Runs.{AllGo, HonestRun, Run}
 use Rattle.round_spec.proofs.AgreedClosings.{ClosingKind, agreed-there, final-closes}
 use Rattle.phase_message.specs.declared.content.Content.{Content}

@@ -4,7 +4,7 @@ use Rattle.std.proofs.Common.{arith, refl, Err, List, None, Ok, Option, Result, 
 use Rattle.phase_message.specs.declared.stage.StageKind.TheVariants.{Keys as AtKeys, Submit as AtSubmit, Shuffle as AtShuffle, Go as AtGo, Final as AtFinal, Pad as AtPad, Check as AtCheck, Confirm as AtConfirm}
 use Rattle.phase_message.specs.declared.content.Body.TheVariants.{Abort}
 use Rattle.transcript_form.specs.declared.claim.Claim.TheVariants.{Replay}
-use Rattle.round_spec.specs.Verdict.{Convicts, ClosedStage, closing_body, closing_content, inquiry_into, no_post, past_at, sent_in, shape_at, shown_at, shown_in}
+use Rattle.round_spec.specs.Verdict.{ClosedStage, closing_body, closing_content, inquiry_into, no_post, past_at, sent_in, shape_at, shown_at, shown_in}
 use Rattle.accountability.specs.Evidence.{AcceptedFor, IsAccepted, IsKeptEnd}
 use Rattle.round_spec.specs.Cases.{AreFaithful, IsMemberOf, IsReplay, agree_before}
 use Rattle.phase_message.specs.declared.content.Content.{Content}
@@ -19,7 +19,7 @@ use Rattle.phase_message.specs.declared.stage.StageKind.{StageKind}
 use Rattle.transcript_form.specs.declared.transcript.Transcript.{Transcript}
 use Rattle.accountability.proofs.Kept.{accept, content-is, content-sender, content-stage, file-of, kept-end, member-is, sent-in, spelled-few, transcript-same}
 use Rattle.round_spec.proofs.SealedBytes.{all-from}
-use Rattle.shuffle_blame.specs.Replay.{body_of, culprit_of, fault}
+use Rattle.shuffle_blame.specs.Replay.{body_of, culprit_of}
 use Rattle.conviction.proofs.Replays.{by-member}
 use Rattle.round_spec.specs.Slots.{by_member, said_in}
 use Rattle.round_spec.specs.Course.{closing_of}

@@ -1,5 +1,5 @@
 -- Two members that are done have one list of slots.
-use Rattle.std.proofs.Common.{arith, refl, List, Option, Some, ap, sym, take, ◌≡◌, ◌∙◌, ◌<◌, ◌+◌, ◌-◌, ℕ}
+use Rattle.std.proofs.Common.{arith, List, Option, Some, ap, sym, take, ◌≡◌, ◌∙◌, ◌<◌, ◌+◌, ◌-◌, ℕ}
 use Rattle.std.proofs.lemmas.List.{take-take, take-map}
 use Rattle.stage_log.specs.Log.{before, contents_of}
 use Rattle.accountability.specs.Agreed.{HasSamePast, IsAgreedEnd}

@@ -1,7 +1,7 @@
 -- Where the posts that are listed as evidence come from: they were delivered, or embedded in what was, or are the member's
 -- own.
 use Rattle.std.proofs.Common.{arith, refl, All, Contains, List, None, Ok, Option, Some, ap, eqb-true, false, inl, inr, map, slice_get, subst, suc, sym, take, true, zero, ◌≡◌, ◌∙◌, ◌⊎◌, ◌∷◌, ◌++◌, ◌<◌, ◌≤◌, ◌+◌, ◌==◌, [], ℕ}
-use Rattle.round_spec.specs.Verdict.{Convicts, Done, Goes, ClosedStage, Verdict, closing_content, is_closing, is_read_justified, sent_in, verdict_of}
+use Rattle.round_spec.specs.Verdict.{Convicts, ClosedStage, Verdict, closing_content, is_closing, is_read_justified, sent_in, verdict_of}
 use Rattle.std.proofs.lemmas.List.Elements.{All-contains}
 use Rattle.std.specs.List.{AllZip, range_with_len}
 use Rattle.round_spec.specs.Cases.{ByBadLog, ByBadPad, ByEquivocation, ByReplay, ByWrongSeed, Case, Ends, GoesOn, IsBadPad, IsMemberOf}

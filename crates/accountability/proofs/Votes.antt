@@ -1,10 +1,8 @@
 -- Where votes are unanimous, each of them is yes and all carry one view; and what a member's own yes means.
 use Rattle.std.proofs.Common.{arith, refl, Bool, List, None, Option, Some, ap, drop, map, slice_get, slice_index_or, subst, sym, true, ◌≡◌, ◌∙◌, ◌<◌, ◌≤◌, ◌+◌, ◌-◌, ◌&&◌, ℕ}
 use Rattle.go_nogo.specs.Votes.{vote_of, AreUnanimous, are_unanimous, body_vote, has_unanimous, is_unanimous, vote_read, votes_agree, votes_of}
-use Rattle.std.proofs.lemmas.List.{length-drop}
 use Rattle.stage_log.proofs.Views.{slice_get-take}
-use Rattle.phase_message.specs.declared.stage.StageKind.TheVariants.{Keys as AtKeys, Submit as AtSubmit, Shuffle as AtShuffle, Go as AtGo, Final as AtFinal, Pad as AtPad, Check as AtCheck, Confirm as AtConfirm}
-use Rattle.phase_message.specs.declared.content.Body.TheVariants.{Go, Check}
+use Rattle.phase_message.specs.declared.stage.StageKind.TheVariants.{Go as AtGo, Check as AtCheck}
 use Rattle.phase_message.specs.declared.content.Body.{Body}
 use Rattle.round_spec.proofs.AgreedClosings.{ClosingKind}
 use Rattle.phase_message.specs.declared.content.Content.{Content}
@@ -21,7 +19,7 @@ use Rattle.go_nogo.specs.Rows.{all_right, check_row, go_row, lists_before, stand
 use Rattle.stage_log.proofs.Pasts.{all_some-is, option_map-some}
 use Rattle.std.proofs.lemmas.Bool.{and_parts}
 use Rattle.conviction.proofs.Bodies.{body_due, row-header, row-is, row-reads}
-use Rattle.stage_log.specs.Log.{carries, contents_at, contents_of, first_wrong, view_of}
+use Rattle.stage_log.specs.Log.{contents_at, contents_of, first_wrong, view_of}
 use Rattle.conviction.proofs.OwnVotes.{check-body, go-body}
 use Rattle.phase_message.proofs.Closings.{closing-follows}
 use Rattle.go_nogo.proofs.VoteSlots.{get_drop}

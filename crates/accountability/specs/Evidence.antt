@@ -6,7 +6,6 @@ use Rattle.group_roster.specs.Roster.{Roster, shape_of_roster}
 use Rattle.stage_log.specs.Log.{before}
 use Rattle.transcript_form.specs.declared.transcript.Transcript.{Transcript}
 use Rattle.transcript_form.specs.Transcript.{IsTranscript, transcript_spelling}
-use Rattle.round_spec.specs.Cases.{IsBadLog, IsBadPad, IsEquivocation, IsReplay, IsWrongSeed}
 use Rattle.round_spec.specs.Course.{Others, closing_of}
 use Rattle.round_spec.specs.Honesty.{OthersCheck}
 use Rattle.round_spec.specs.Result.{Blamed, fault_shown, result_of}
