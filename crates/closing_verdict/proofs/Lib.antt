@@ -1,0 +1,13 @@
+pub mod Charges
+pub mod ClosingPosts
+pub mod ClosingSaid
+pub mod PadPosts
+pub mod Readings
+pub mod ClosedStages
+pub mod Agreements
+pub mod SecondContents
+pub mod Carrying
+pub mod Culprits
+pub mod SeedVerdicts
+pub mod Accusings
+pub mod Dissents
