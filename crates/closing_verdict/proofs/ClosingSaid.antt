@@ -60,7 +60,7 @@ closing-read c is member least most shape post bytes kept are same =
     post-same : (a b : Post) → (let some : Post → Option Post = λ z. Some z in some a ≡ some b) → a ≡ b
     post-same a b e = cc
 
-content-same : (r : Result Content Offence) (a b : Content) → r ≡ Ok a → r ≡ Ok b → a ≡ b
+pub content-same : (r : Result Content Offence) (a b : Content) → r ≡ Ok a → r ≡ Ok b → a ≡ b
 content-same r a b one two = cc
 
 pub said-fault : (refusal : DecodeRefusal) (at rule : ℕ) (r : Result Content Offence) (content : Content) → refusal ≡ Malformed at rule → IsFault (fault refusal) r → r ≡ Ok content → ⊥
