@@ -47,4 +47,5 @@ closes shape stage e = ap (λ (o : Option StageKind). is_some (option_and_then v
 pub reached-earlier : (log : Log) (stage next : ℕ) → IsSome (before log next) → stage ≤ next → IsSome (before log stage)
 reached-earlier log stage next there le =
     let posts : List Post = posts_before log next in
-    some_is (before log stage) (take (slots_before log.shape stage) posts) (before-front log stage next posts le (complete-posts log next there))
+    some_is (before log stage) (take (slots_before log.shape stage) posts)
+        (before-front log stage next posts le (complete-posts log next there))

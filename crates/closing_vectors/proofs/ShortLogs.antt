@@ -33,15 +33,19 @@ nothing-there zero i x e = absurd cc
 nothing-there (suc n) zero x e = absurd cc
 nothing-there (suc n) (suc i) x e = nothing-there n i x e
 
-kept-entry : (log : Log) (slot : Slot) (post : Post) → kept_in log slot ≡ Some post → slice_get log.posts (slot_number log.shape slot.stage slot.sender) ≡ Some (Some post)
+kept-entry : (log : Log) (slot : Slot) (post : Post) → kept_in log slot ≡ Some post
+    → slice_get log.posts (slot_number log.shape slot.stage slot.sender) ≡ Some (Some post)
 kept-entry log slot post e =
     let entry : Option (Option Post) = slice_get log.posts (slot_number log.shape slot.stage slot.sender) in
-    flatten-some entry post (sym (cond-true (is_slot log.shape slot.stage slot.sender) (option_flatten entry) None (kept-slot log slot post e)) ∙ e)
+    flatten-some entry post (sym (cond-true (is_slot log.shape slot.stage slot.sender) (option_flatten entry) None
+        (kept-slot log slot post e)) ∙ e)
 
 pub short-empty : (shape : Shape) → KeepsShort (empty_log shape)
-short-empty shape = λ stage sender post e. absurd (nothing-there (slot_count shape) _ post (kept-entry (empty_log shape) (record { stage = stage; sender = sender }) post e))
+short-empty shape = λ stage sender post e. absurd (nothing-there (slot_count shape) _ post
+    (kept-entry (empty_log shape) (record { stage = stage; sender = sender }) post e))
 
-pub short-put : (log now : Log) (slot : Slot) (post : Post) → KeepsShort log → length (post_spelling post) < 2 ^ 32 → now ≡ put_log log slot post → KeepsShort now
+pub short-put : (log now : Log) (slot : Slot) (post : Post) → KeepsShort log → length (post_spelling post) < 2 ^ 32
+    → now ≡ put_log log slot post → KeepsShort now
 short-put log now slot post short here e = subst (λ (l : Log). KeepsShort l) (sym e) (by_kept (kept_in log slot) refl)
   where
     one-more : KeepsShort (filled log slot post)
@@ -49,8 +53,10 @@ short-put log now slot post short here e = subst (λ (l : Log). KeepsShort l) (s
         let other : Slot = record { stage = stage; sender = sender } in
         let there = kept-slot (filled log slot post) other kept e in
         let number : ℕ = slot_number log.shape stage sender in
-        elim (get-set log.posts (slot_number log.shape slot.stage slot.sender) number (Some post) (Some kept) (kept-entry (filled log slot post) other kept e)) [
-          | inl old ↦ short stage sender kept (cond-true (is_slot log.shape stage sender) (option_flatten (slice_get log.posts number)) None there ∙ ap option_flatten old)
+        elim (get-set log.posts (slot_number log.shape slot.stage slot.sender) number (Some post) (Some kept)
+            (kept-entry (filled log slot post) other kept e)) [
+          | inl old ↦ short stage sender kept (cond-true (is_slot log.shape stage sender) (option_flatten (slice_get log.posts number)) None
+              there ∙ ap option_flatten old)
           | inr new ↦ (let same : kept ≡ post = cc in subst (λ (p : Post). length (post_spelling p) < 2 ^ 32) (sym same) here)
         ]
 

@@ -35,11 +35,15 @@ closing-end shape stage closing = by_kind (kind_of_stage shape stage) refl
     by_kind (Some AtConfirm) e = inr e
     by_kind None e = absurd (let none = sym (ap (λ (o : Option StageKind). is_some (option_and_then vote_of o)) e) ∙ closing in cc)
     by_kind (Some AtKeys) e = absurd (let none = sym (ap (λ (o : Option StageKind). is_some (option_and_then vote_of o)) e) ∙ closing in cc)
-    by_kind (Some (AtSubmit shuffle)) e = absurd (let none = sym (ap (λ (o : Option StageKind). is_some (option_and_then vote_of o)) e) ∙ closing in cc)
-    by_kind (Some (AtShuffle shuffle k)) e = absurd (let none = sym (ap (λ (o : Option StageKind). is_some (option_and_then vote_of o)) e) ∙ closing in cc)
-    by_kind (Some (AtGo shuffle)) e = absurd (let none = sym (ap (λ (o : Option StageKind). is_some (option_and_then vote_of o)) e) ∙ closing in cc)
+    by_kind (Some (AtSubmit shuffle)) e = absurd (let none = sym (ap (λ (o : Option StageKind). is_some (option_and_then vote_of o)) e)
+        ∙ closing in cc)
+    by_kind (Some (AtShuffle shuffle k)) e = absurd (let none = sym (ap (λ (o : Option StageKind). is_some (option_and_then vote_of o)) e)
+        ∙ closing in cc)
+    by_kind (Some (AtGo shuffle)) e = absurd (let none = sym (ap (λ (o : Option StageKind). is_some (option_and_then vote_of o)) e)
+        ∙ closing in cc)
     by_kind (Some AtPad) e = absurd (let none = sym (ap (λ (o : Option StageKind). is_some (option_and_then vote_of o)) e) ∙ closing in cc)
-    by_kind (Some AtCheck) e = absurd (let none = sym (ap (λ (o : Option StageKind). is_some (option_and_then vote_of o)) e) ∙ closing in cc)
+    by_kind (Some AtCheck) e = absurd (let none = sym (ap (λ (o : Option StageKind). is_some (option_and_then vote_of o)) e)
+        ∙ closing in cc)
 
 -- ---- the stage is whole
 
@@ -51,23 +55,28 @@ whole-stage c is =
       posts = closed-long c is ∙ ap (λ (shape : Shape). slots_before shape (c.stage + 1)) is.shape;
       named = λ member content who reads. (
           let said = closing-said c is member who.least (let most = who.most in omega (arith, members)) in
-          let read : closing_content (stage_closed c) member ≡ Ok said.content = ap (λ (shape : Shape). content_read shape (post_in (stage_closed c) c.stage member).content) (sym is.shape) ∙ said.reads in
-          ap (λ (x : Content). x.header.stage) (content-same (closing_content (stage_closed c) member) content said.content reads read) ∙ said.stage_is);
+          let read : closing_content (stage_closed c) member ≡ Ok said.content = ap
+              (λ (shape : Shape). content_read shape (post_in (stage_closed c) c.stage member).content) (sym is.shape) ∙ said.reads in
+          ap (λ (x : Content). x.header.stage) (content-same (closing_content (stage_closed c) member) content said.content reads read)
+              ∙ said.stage_is);
     }
 
 -- ---- where the ends stand
 
 -- the end of a shuffle is that of the first or the second
-pub end-first : (shape : Shape) (stage shuffle : ℕ) → kind_of_stage shape stage ≡ Some (AtFinal shuffle) → shuffle ≡ 1 → stage ≡ final_stage shape 1
+pub end-first : (shape : Shape) (stage shuffle : ℕ) → kind_of_stage shape stage ≡ Some (AtFinal shuffle) → shuffle ≡ 1
+    → stage ≡ final_stage shape 1
 end-first shape stage shuffle kind first = elim (ends_at shape stage shuffle kind) [
   | inl a ↦ (let at = a.1 in let final : final_stage shape 1 ≡ 1 + (shape.members + 2) = refl in omega (arith, at, final))
   | inr b ↦ absurd (let is = b.0 in omega (arith, is, first))
 ]
 
-pub end-second : (shape : Shape) (stage shuffle : ℕ) → kind_of_stage shape stage ≡ Some (AtFinal shuffle) → (shuffle ≡ 1 → ⊥) → (shuffle ≡ 2) × (stage ≡ final_stage shape 2)
+pub end-second : (shape : Shape) (stage shuffle : ℕ) → kind_of_stage shape stage ≡ Some (AtFinal shuffle) → (shuffle ≡ 1 → ⊥)
+    → (shuffle ≡ 2) × (stage ≡ final_stage shape 2)
 end-second shape stage shuffle kind second = elim (ends_at shape stage shuffle kind) [
   | inl a ↦ absurd (second a.0)
-  | inr b ↦ (let at = b.1 in let final : final_stage shape 2 ≡ shape.members + 7 + (shape.members + 2) = refl in (b.0, omega (arith, at, final)))
+  | inr b ↦ (let at = b.1 in let final : final_stage shape 2 ≡ shape.members + 7 + (shape.members + 2) = refl in
+      (b.0, omega (arith, at, final)))
 ]
 
 -- the checks are closed at one stage
@@ -107,7 +116,8 @@ confirm-at shape stage e =
         | inr no8 ↦ elim (cases_eq stage (shape.members + shape.members + 9)) [
           | inl at ↦ (let is = sym (final_b_is shape stage at) ∙ e in cc)
           | inr no9 ↦ elim (cases_lt stage (shape.members + shape.members + 8)) [
-            | inl turn ↦ (let is = sym (turn_b shape stage (stage - (shape.members + 7)) (omega arith) (omega arith) (omega arith)) ∙ e in cc)
+            | inl turn ↦ (let is = sym (turn_b shape stage (stage - (shape.members + 7)) (omega arith) (omega arith) (omega arith))
+                ∙ e in cc)
             | inr past ↦ (let is = sym (nothing_is shape stage (omega arith)) ∙ e in cc)
           ]
         ]
@@ -129,7 +139,8 @@ closing-late shape stage closing = elim (closing-end shape stage closing) [
 ]
 
 -- one that ends no shuffle is behind the checks
-pub none-ended : (shape : Shape) (stage : ℕ) → is_closing shape stage ≡ true → shuffle_ended (kind_of_stage shape stage) ≡ None → kind_of_stage shape stage ≡ Some AtConfirm
+pub none-ended : (shape : Shape) (stage : ℕ) → is_closing shape stage ≡ true → shuffle_ended (kind_of_stage shape stage) ≡ None
+    → kind_of_stage shape stage ≡ Some AtConfirm
 none-ended shape stage closing none = elim (closing-end shape stage closing) [
   | inl final ↦ absurd (none-some final.0 (sym none ∙ ap shuffle_ended final.1))
   | inr confirm ↦ confirm

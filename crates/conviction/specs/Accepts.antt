@@ -98,7 +98,8 @@ abbrev pub post_listed : Transcript → ℕ → List ℕ
 post_listed t number = slice_index_or t.posts (number - 1) []
 
 -- a post of a member objects at a closing stage: its content is justified, and what it embeds has these contents
-pub record Objects (roster : Roster) (round stage : ℕ) (past : List (List ℕ)) (member : ℕ) (bytes : List ℕ) (content : Content) : Type 0 where
+pub record Objects (roster : Roster) (round stage : ℕ) (past : List (List ℕ)) (member : ℕ) (bytes : List ℕ) (content : Content) : Type 0
+    where
   pub file : IsPostFile roster round bytes content
   pub sender : content.header.sender ≡ member
   pub at : content.header.stage ≡ stage

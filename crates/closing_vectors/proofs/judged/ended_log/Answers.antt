@@ -7,7 +7,8 @@ use Rattle.closing_vectors.proofs.judged.ended_log.Goals as goal
 
 pub said-requires-clause-complete : goal.said-requires-clause-complete
 said-requires-clause-complete c =
-    reached-earlier c.args.log 1 c.in-Some.next (reached c.args.log c.in-Some.next (sym c.first_incomplete.ensures ∙ c.in-Some.is)) (omega (arith, c.if-next-shape.false))
+    reached-earlier c.args.log 1 c.in-Some.next (reached c.args.log c.in-Some.next (sym c.first_incomplete.ensures ∙ c.in-Some.is))
+        (omega (arith, c.if-next-shape.false))
 
 pub returns-clause-complete : goal.returns-clause-complete
 returns-clause-complete c =
@@ -19,5 +20,6 @@ returns-clause-complete c =
       stand = c.requires.stand;
       short = c.requires.short;
       closing = closes c.args.log.shape (c.args.log.shape.members + 3) refl;
-      there = subst (λ (k : ℕ). IsSome (before c.args.log k)) next (reached c.args.log c.in-Some.next (sym c.first_incomplete.ensures ∙ c.in-Some.is));
+      there = subst (λ (k : ℕ). IsSome (before c.args.log k)) next
+          (reached c.args.log c.in-Some.next (sym c.first_incomplete.ensures ∙ c.in-Some.is));
     }
