@@ -84,9 +84,11 @@ record Places (P : ℕ → ℕ → Type 0) (count : ℕ) : Type 0 where
 apart-all : (place : ℕ) (list : List ℕ) → ((other : ℕ) → Contains list other → place ≡ other → ⊥)
     → AllByRecursion (λ (y : ℕ). (place == y) ≡ false) list
 apart-all place [] apart = tt
-apart-all place (x ∷ xs) apart =
-    (false_from_ne_true (place == x) (λ same. apart x (contains-here x xs) (eqb-true place x same)), apart-all place xs
-        (λ other listed. apart other (contains-later x xs other listed)))
+apart-all place (x ∷ xs) apart = (
+  false_from_ne_true (place == x) (λ same. apart x (contains-here x xs) (eqb-true place x same)),
+  apart-all place xs
+      (λ other listed. apart other (contains-later x xs other listed)),
+)
 
 places-of : (P : ℕ → ℕ → Type 0) (count : ℕ) → ((member : ℕ) → 1 ≤ member → member ≤ count → (place : ℕ) × P member place)
     → ((a b place : ℕ) → P a place → P b place → a ≡ b) → Places P count
@@ -124,7 +126,7 @@ each-place P count places under place lt = elim (cases_Bool (list_any (λ (y : �
   | inl there_is ↦ places.of place (Contains-from_any (λ x y same. eqb-true x y same) place places.list there_is)
   | inr none ↦ absurd (
       let long = length-le_from_distinct_below (place ∷ places.list) count (none-apart places.list none, places.distinct)
-          (λ q listed. within q listed) in
+      (λ q listed. within q listed) in
       let many = places.long in
       omega (arith, long, many))
 ]
@@ -141,9 +143,9 @@ each-place P count places under place lt = elim (cases_Bool (list_any (λ (y : �
     within : (q : ℕ) → list_any (λ (y : ℕ). q == y) (place ∷ places.list) ≡ true → q < count
     within q listed = elim (contains-cases place places.list q (Contains-from_any (λ x y same. eqb-true x y same) q (place ∷ places.list)
         listed)) [
-      | inl here ↦ omega (arith, here, lt)
-      | inr later ↦ (let found = places.of q later in under found.0 q found.3)
-    ]
+          | inl here ↦ omega (arith, here, lt)
+          | inr later ↦ (let found = places.of q later in under found.0 q found.3)
+        ]
 
 -- ---- each slot is that of a run
 
@@ -161,10 +163,10 @@ run-at c delivered runs stage posts place end late all lt =
     each-place (StandsAt c runs posts) (shape_in c).members
     (places-of (StandsAt c runs posts) (shape_in c).members
     (λ member least most. (let run = all member least most in let found = place_opens c delivered runs stage posts run.0 end late
-        run.1.listed run.1.round in (found.0, record { run = run.0; is = run.1; opens = found.1 })))
+    run.1.listed run.1.round in (found.0, record { run = run.0; is = run.1; opens = found.1 })))
     one-number)
     (λ member place stands. (let within = slice_get_within (items_opened (shape_in c) (contents_of posts) 1) place _ stands.opens.opens in
-        omega (arith, within, items-count c delivered stage posts end.kept late)))
+    omega (arith, within, items-count c delivered stage posts end.kept late)))
     place lt
   where
     one-number : (a b place : ℕ) → StandsAt c runs posts a place → StandsAt c runs posts b place → a ≡ b
@@ -173,7 +175,7 @@ run-at c delivered runs stage posts place end late all lt =
       | inr apart ↦ absurd (places_differ c runs posts 1 mine.run other.run place place end.among.honest end.distinct mine.is.listed
           other.is.listed (contains-here 1 (2 ∷ []))
           (first-seeds c delivered runs stage posts end late) (λ numbers. apart (sym mine.is.number ∙ numbers ∙ other.is.number)) mine.opens
-              other.opens refl)
+          other.opens refl)
     ]
 
 -- ---- no pad is bad
@@ -189,7 +191,7 @@ own-keys-there run later posts own = own-body run posts 0 own ∙ keys-are run o
 bulk-there : (c : Configuration) (delivered : List (List ℕ)) (runs : List Run) (stage : ℕ) (posts : List Post) (run : Run)
     → AtEnd c delivered runs stage posts run
     → slice_index_or (keys_said (shape_in c) (contents_of posts) bulk_place) (run.config.number - 1) [] ≡ key_of_seed
-        (own_key_seed run.config bulk_place)
+    (own_key_seed run.config bulk_place)
 bulk-there c delivered runs stage posts run e =
     let facts = run-facts c runs run e.end.among.honest e.listed in
     let late = e.late in
@@ -197,13 +199,13 @@ bulk-there c delivered runs stage posts run e =
     let own = own-said run (stage - 1) 0 same.past facts.honest same.kept (own-speaks run.config facts.honest.config) (omega arith) in
     let keys = own-keys-there run (stage - 1) same.past own in
     let moved : said_in (shape_in c) (contents_of posts) 0 run.config.number ≡ said_in (shape_in run.config) (contents_of same.past) 0
-        run.config.number =
+    run.config.number =
     sym (said-front (shape_in c) (contents_of posts) (stage - 1) 0 run.config.number
-        (member-there (shape_in c).members run.config.number facts.least facts.most) (omega arith))
+    (member-there (shape_in c).members run.config.number facts.least facts.most) (omega arith))
     ∙ ap (λ (past : List (List ℕ)). said_in (shape_in c) past 0 run.config.number) (sym same.same)
     ∙ ap (λ (s : Shape). said_in s (contents_of same.past) 0 run.config.number) (sym facts.shape_is) in
     get_or_from_slice_get (keys_said (shape_in c) (contents_of posts) bulk_place) (run.config.number - 1) _ []
-        (by-member (key_said (shape_in c) (contents_of posts) bulk_place) (shape_in c).members run.config.number facts.least facts.most)
+    (by-member (key_said (shape_in c) (contents_of posts) bulk_place) (shape_in c).members run.config.number facts.least facts.most)
     ∙ ap (λ (b : Body). slice_index_or (keys_in b) bulk_place []) (moved ∙ keys)
 
 -- each pad for the descriptor of a run fits
@@ -217,9 +219,9 @@ unfolding made-of
 pad-fits c delivered runs stage place posts maker run e r at =
     ap (fits (made-of maker (shape_in c) (contents_of posts)) run.config.number) pad_is
     ∙ honest_pad_fits (shape_in c).members keys (own_pad_seeds maker.config) keys (own_pad_seeds run.config) maker.config.number
-        run.config.number maker.config.message run.config.message
+    run.config.number maker.config.message run.config.message
     (own_key_seed run.config bulk_place) (can-make-there maker (shape_in c) (contents_of posts) its.honest its.shape_is)
-        (can-make-there run (shape_in c) (contents_of posts) facts.honest facts.shape_is)
+    (can-make-there run (shape_in c) (contents_of posts) facts.honest facts.shape_is)
     messages (bulk-there c delivered runs stage posts run r) own_same
   where
     keys : List (List ℕ)
@@ -245,24 +247,24 @@ pad-fits c delivered runs stage place posts maker run e r at =
 
     pad_is : slice_index_or (pads_for (pads_sent (shape_in c) (contents_of posts)) place) (run.config.number - 1) []
         ≡ pad_row (shape_in c).members (descriptor_text (made_descriptor keys (own_pad_seeds run.config) run.config.number
-            run.config.message))
+        run.config.message))
         (own_pad (own_pad_seeds run.config) run.config.number run.config.message) run.config.number (own_key_seed run.config bulk_place)
         (descriptor_text (made_descriptor keys (own_pad_seeds maker.config) maker.config.number maker.config.message))
     pad_is =
         get_or_from_slice_get (pads_for (pads_sent (shape_in c) (contents_of posts)) place) (run.config.number - 1) _ []
-            (run-pads c delivered runs stage place posts run r)
+        (run-pads c delivered runs stage place posts run r)
         ∙ get_or_from_slice_get (map (pad_for run.config own) (items_opened (shape_in c) (contents_of posts) 1)) place
-            (pad_for run.config own (Some entry)) []
+        (pad_for run.config own (Some entry)) []
         (slice_get-map (pad_for run.config own) (items_opened (shape_in c) (contents_of posts) 1) place
-            ∙ ap (option_map (pad_for run.config own)) at)
+        ∙ ap (option_map (pad_for run.config own)) at)
         ∙ ap (λ (s : Shape). pad_row s.members own (own_pad (own_pad_seeds run.config) run.config.number run.config.message)
-            run.config.number (own_key_seed run.config bulk_place) entry) facts.shape_is
+        run.config.number (own_key_seed run.config bulk_place) entry) facts.shape_is
         ∙ ap (λ (o : List ℕ). pad_row (shape_in c).members o (own_pad (own_pad_seeds run.config) run.config.number run.config.message)
-            run.config.number (own_key_seed run.config bulk_place) entry) own_is
+        run.config.number (own_key_seed run.config bulk_place) entry) own_is
         ∙ ap (pad_row (shape_in c).members (descriptor_text (made_descriptor keys (own_pad_seeds run.config) run.config.number
-            run.config.message))
+        run.config.message))
         (own_pad (own_pad_seeds run.config) run.config.number run.config.message) run.config.number (own_key_seed run.config bulk_place))
-            entry_is
+        entry_is
 
     messages : All IsMessage (own_pad_seeds maker.config)
     messages = all-places IsMessage (own_pad_seeds maker.config)
@@ -274,7 +276,7 @@ pad-fits c delivered runs stage place posts maker run e r at =
         ≡ descriptor_text (made_descriptor keys (own_pad_seeds run.config) run.config.number run.config.message)
     own_same number =
         let one : maker ≡ run = run_unique c.roster runs maker.config.number c.round maker run e.end.among.honest
-            (record { listed = e.listed; number = refl; round = e.round })
+        (record { listed = e.listed; number = refl; round = e.round })
         (record { listed = r.listed; number = number; round = r.round }) in
         ap (λ (x : Run). descriptor_text (made_descriptor keys (own_pad_seeds x.config) x.config.number x.config.message)) one
 
@@ -304,36 +306,41 @@ none-bad-there c delivered runs stage posts end late all = none-is_bad (slots_of
     each : (k : ℕ) (state : SlotState) → slice_get states k ≡ Some state → is_bad state ≡ false
     each k state at =
         let within = slice_get_within states k state at in
-        let few : k < (shape_in c).members = omega (arith, within, states-count (shape_in c) (contents_of posts), items-count c delivered
-            stage posts end.kept late) in
+        let few : k < (shape_in c).members = omega (
+          arith,
+          within,
+          states-count (shape_in c) (contents_of posts),
+          items-count c delivered
+              stage posts end.kept late,
+        ) in
         of-run k state at (run-at c delivered runs stage posts k end late all few)
       where
         of-run : (k : ℕ) (state : SlotState) → slice_get states k ≡ Some state → (member : ℕ) × (1 ≤ member)
             × (member ≤ (shape_in c).members) × StandsAt c runs posts member k → is_bad state ≡ false
         of-run k state at (member, least, most, stands) =
             let e : AtEnd c delivered runs stage posts stands.run = record
-                { end = end; late = late; listed = stands.is.listed; round = stands.is.round } in
+            { end = end; late = late; listed = stands.is.listed; round = stands.is.round } in
             let opens : slice_get (items_opened (shape_in c) (contents_of posts) 1) k ≡ Some
-                (Some (own_descriptor stands.run.config (contents_of posts))) =
+            (Some (own_descriptor stands.run.config (contents_of posts))) =
             stands.opens.opens ∙ ap (λ (item : List ℕ). Some (Some item))
-                (item-first stands.run.config (own_descriptor stands.run.config (contents_of posts)) (contents_of posts)) in
+            (item-first stands.run.config (own_descriptor stands.run.config (contents_of posts)) (contents_of posts)) in
             let state_is = state-one state _ (sym at ∙ slot-there c runs k posts stands.run end.among.honest stands.is.listed opens) in
             elim (fits-or-bad (made-of stands.run (shape_in c) (contents_of posts))
-                (pads_for (pads_sent (shape_in c) (contents_of posts)) k)) [
+            (pads_for (pads_sent (shape_in c) (contents_of posts)) k)) [
               | inl fit ↦ good-state state (λ first bad. fit.1 first (sym state_is ∙ bad))
               | inr (first, unfit, bad) ↦
                   let parts = unfit_is (made-of stands.run (shape_in c) (contents_of posts))
-                      (pads_for (pads_sent (shape_in c) (contents_of posts)) k) first unfit in
+                  (pads_for (pads_sent (shape_in c) (contents_of posts)) k) first unfit in
                   let last = parts.1 in
                   let run = all first parts.0 (omega (arith, last, pads-count (shape_in c) (contents_of posts) k)) in
                   let r : AtEnd c delivered runs stage posts run.0 = record
-                      { end = end; late = late; listed = run.1.listed; round = run.1.round } in
+                  { end = end; late = late; listed = run.1.listed; round = run.1.round } in
                   let fit = pad-fits c delivered runs stage k posts stands.run run.0 e r opens in
                   absurd (not_both (fits (made-of stands.run (shape_in c) (contents_of posts)) first
-                      (slice_index_or (pads_for (pads_sent (shape_in c) (contents_of posts)) k) (first - 1) []))
+                  (slice_index_or (pads_for (pads_sent (shape_in c) (contents_of posts)) k) (first - 1) []))
                   (subst (λ (m : ℕ). fits (made-of stands.run (shape_in c) (contents_of posts)) m
-                      (slice_index_or (pads_for (pads_sent (shape_in c) (contents_of posts)) k) (m - 1) []) ≡ true) run.1.number fit)
-                      parts.2)
+                  (slice_index_or (pads_for (pads_sent (shape_in c) (contents_of posts)) k) (m - 1) []) ≡ true) run.1.number fit)
+                  parts.2)
             ]
 
 -- ---- the checks end the round
@@ -347,7 +354,7 @@ confirm-kind o confirm final = (let both = sym confirm ∙ final in cc)
 confirm-ends : (c : Configuration) (delivered : List (List ℕ)) (runs : List Run) (stage : ℕ) (posts : List Post) → IsAmong c delivered runs
     → NoRunsCollide runs → AllHaveRuns c runs
     → IsKeptEnd (run_after c delivered) stage posts → kind_of_stage (shape_in c) stage ≡ Some AtConfirm
-        → verdict_of (closing_of c posts stage) ≡ Goes → ⊥
+    → verdict_of (closing_of c posts stage) ≡ Goes → ⊥
 confirm-ends c delivered runs stage posts among distinct all end kind goes = by_case
     (verdict_cases (closing_of c posts stage) (whole-end (run_after c delivered) stage posts end))
   where
@@ -373,7 +380,7 @@ confirm-ends c delivered runs stage posts among distinct all end kind goes = by_
 confirm-passed : (c : Configuration) (delivered : List (List ℕ)) (runs : List Run) (past : List Post) → IsAmong c delivered runs
     → NoRunsCollide runs → AllHaveRuns c runs
     → before (run_after c delivered).log ((shape_in c).members + 6 + 1) ≡ Some past
-        → verdict_of (closing_of c past ((shape_in c).members + 6)) ≡ Goes → ⊥
+    → verdict_of (closing_of c past ((shape_in c).members + 6)) ≡ Goes → ⊥
 confirm-passed c delivered runs past among distinct all kept goes =
     let kind = confirm_is (shape_in c) ((shape_in c).members + 6) refl in
     confirm-ends c delivered runs ((shape_in c).members + 6) past among distinct all
@@ -411,7 +418,7 @@ pad-not c delivered runs stage posts t among distinct all end e claim = by_case
     passed later =
         confirm-passed c delivered runs (take (slots_before shape (shape.members + 6 + 1)) own.row.past) among distinct all
         (before-front (run_after c delivered).log (shape.members + 6 + 1) own.row.stage own.row.past (omega (arith, own_stage, later))
-            own.row.before
+        own.row.before
         ∙ ap (λ (s : Shape). Some (take (slots_before s (shape.members + 6 + 1)) own.row.past)) end.honest.shape)
         (own.row.goes (shape.members + 6) (omega (arith, own_stage, later)))
 
@@ -437,10 +444,10 @@ not-blamed c delivered runs t among distinct all e = elim (ending-cases c part (
   ]
   | inr course ↦
       let closed = stand-closed c (first_posts c part) (Convicts t) among.config (firsts-check c part part_bytes) course.1
-          (λ goes. convicts-not t Goes (inl refl) goes) in
+      (λ goes. convicts-not t Goes (inl refl) goes) in
       pad-not c delivered runs closed.0 (course_of c (first_posts c part)).past t among distinct all
       (subst (λ (run : Run). IsKeptEnd run closed.0 (course_of c (first_posts c part)).past) (sym blame.run_is) closed.1.kept)
-          closed.1.verdict_is claim
+      closed.1.verdict_is claim
 ]
   where
     blame : IsBlame c delivered t
@@ -467,7 +474,7 @@ goes-at c others stage reached still lt = elim (cases_lt (stage + 1) (course_of 
       ap (λ (posts : List Post). verdict_of (closing_of c posts stage))
       (ap (λ (s : ℕ). take (slots_before (shape_in c) s) (course_of c others).past) at
       ∙ take_all (slots_before (shape_in c) (course_of c others).at) (course_of c others).past
-          (let whole = reached.whole in omega (arith, whole)))
+      (let whole = reached.whole in omega (arith, whole)))
       ∙ reached.last stage at ∙ open-goes (course_of c others).verdict still
 ]
 
@@ -482,7 +489,7 @@ unfolding log_after waits-at
 not-waiting c delivered runs stage named among distinct all heard e = elim (cases_lt ((shape_in c).members + 6) stage) [
   | inr early ↦ (let given = heard stage names.somebody.0 missed.speaks early missed.other in
       file-heard c delivered (record { stage = stage; sender = names.somebody.0 }) given.0 given.1 missed.other given.2 given.3
-          missed.unheard)
+      missed.unheard)
   | inl later ↦ elim (outcome-cases c delivered) [
     | inl open_end ↦ by_course open_end.least open_end.goes_on (ap waits-at (sym open_end.outcome_is ∙ e)) later
     | inr ended ↦ closed ended.verdict (stand_after c (take ended.count delivered)) ended.closed (sym ended.outcome_is ∙ e)
@@ -509,9 +516,9 @@ not-waiting c delivered runs stage named among distinct all heard e = elim (case
         let reached = reached-end c (first_posts c delivered) in
         let early : (shape_in c).members + 6 < (course_of c (first_posts c delivered)).at = omega (arith, at, later) in
         confirm-passed c delivered runs (take (slots_before (shape_in c) ((shape_in c).members + 6 + 1))
-            (course_of c (first_posts c delivered)).past) among distinct all
+        (course_of c (first_posts c delivered)).past) among distinct all
         (ap (λ (run : Run). before run.log ((shape_in c).members + 6 + 1)) run_is
-            ∙ before-settled c (first_posts c delivered) ((shape_in c).members + 6 + 1) reached (omega (arith, early)))
+        ∙ before-settled c (first_posts c delivered) ((shape_in c).members + 6 + 1) reached (omega (arith, early)))
         (goes-at c (first_posts c delivered) ((shape_in c).members + 6) reached still early)
 
 -- ---- done

@@ -73,7 +73,7 @@ votes-behind : (shape : Shape) (past : List (List ℕ)) (stage : ℕ) → is_clo
 votes-behind shape past stage closing =
     sym (votes-front shape (front shape past (stage + 1)) stage closing)
     ∙ ap (λ (p : List (List ℕ)). votes_agree shape p stage) (take-take (slots_before shape stage) (slots_before shape (stage + 1)) past
-        (slots_before-rises shape stage (stage + 1) (omega arith)))
+    (slots_before-rises shape stage (stage + 1) (omega arith)))
     ∙ votes-front shape past stage closing
 
 -- so it is at the end of shuffle A
@@ -148,13 +148,13 @@ first-seeds c delivered runs stage posts end late = record { votes = votes; seed
         let speaks_keys : is_slot shape 0 member ≡ true = member-there shape.members member least most in
         let said_is : said_in shape (contents_of front_posts) final member ≡ said_in shape (contents_of posts) final member =
         ap (λ (past : List (List ℕ)). said_in shape past final member) contents
-            ∙ said-front shape (contents_of posts) (final + 1) final member speaks_final (omega arith) in
+        ∙ said-front shape (contents_of posts) (final + 1) final member speaks_final (omega arith) in
         let keys_are : said_in shape (contents_of front_posts) 0 member ≡ said_in shape (contents_of posts) 0 member =
         ap (λ (past : List (List ℕ)). said_in shape past 0 member) contents
-            ∙ said-front shape (contents_of posts) (final + 1) 0 member speaks_keys (omega arith) in
+        ∙ said-front shape (contents_of posts) (final + 1) 0 member speaks_keys (omega arith) in
         sym (ap (λ (b : Body). key_of_seed (seed_in b)) said_is)
         ∙ (bytes_eq-Decides (key_of_seed (seed_in (closing_body (closing_of c front_posts final) member)))
-            (key_said shape (contents_of front_posts) (inner_place 1) member)).0 (agree.seeds 1 member kind is)
+        (key_said shape (contents_of front_posts) (inner_place 1) member)).0 (agree.seeds 1 member kind is)
         ∙ ap (λ (b : Body). slice_index_or (keys_in b) (inner_place 1) []) keys_are
 
 -- ---- the last list
@@ -185,7 +185,7 @@ last-said : (f : ℕ → Option (List (List ℕ))) (n : ℕ) (lists : List (List
 last-said f n lists list some e at =
     let each = all_some-is (map f (range_with_len 1 n)) lists e in
     some-same (f n) (Some list) (sym (by-member f n n some (omega arith))
-        ∙ ap (λ (xs : List (Option (List (List ℕ)))). slice_get xs (n - 1)) each
+    ∙ ap (λ (xs : List (Option (List (List ℕ)))). slice_get xs (n - 1)) each
     ∙ slice_get-map (λ (l : List (List ℕ)). Some l) lists (n - 1) ∙ ap (option_map (λ (l : List (List ℕ)). Some l)) at)
   where
     some-same : (a b : Option (List (List ℕ))) → (let told : Option (List (List ℕ))
@@ -201,7 +201,7 @@ pub record InList (c : Configuration) (posts : List Post) (shuffle : ℕ) (entry
 go-row-in : (c : Configuration) (posts : List Post) (run : Run) (past : List Post) (shuffle go : ℕ) (view : List ℕ)
     → shape_in run.config ≡ shape_in c
     → 1 ≤ (shape_in c).members → Contains (1 ∷ 2 ∷ []) shuffle → go + 1 ≡ final_stage (shape_in c) shuffle
-        → ((shuffle == 1) ≡ false → (shape_in c).members + 4 < go)
+    → ((shuffle == 1) ≡ false → (shape_in c).members + 4 < go)
     → slots_before (shape_in c) go ≤ length posts
     → contents_of past ≡ front (shape_in c) (contents_of posts) go
     → IsGoYes run shuffle view past go → InList c posts shuffle (inner_kept posts run shuffle)
@@ -224,8 +224,12 @@ go-row-in c posts run past shuffle go view shape_is some is at far whole past_is
     last = in-parts entry (slice_get parts.0 (shape.members - 1)) parts.2
 
     long : slots_before shape go ≤ length (contents_of past)
-    long = omega (arith, ap length past_is, length-take-le (slots_before shape go) (contents_of posts)
-        (omega (arith, whole, length-map posts (λ (p : Post). p.content))))
+    long = omega (
+      arith,
+      ap length past_is,
+      length-take-le (slots_before shape go) (contents_of posts)
+          (omega (arith, whole, length-map posts (λ (p : Post). p.content))),
+    )
 
     said_past : list_said shape (contents_of past) shuffle shape.members ≡ Some last.0
     said_past = last-said (list_said shape (contents_of past) shuffle) shape.members parts.0 last.0 some
@@ -248,7 +252,7 @@ go-row-in c posts run past shuffle go view shape_is some is at far whole past_is
     entry_is =
         ap (λ (p : List (List ℕ)). (own_submission run.config (own_descriptor run.config p) p shuffle).inner_ciphertext) (sym fronts)
         ∙ ap (λ (s : Submission). s.inner_ciphertext) (submission-front run.config (contents_of posts) go shuffle
-            (omega (arith, turn_early, some)) (λ other. (let enough = far other in omega (arith, enough, members_are))))
+        (omega (arith, turn_early, some)) (λ other. (let enough = far other in omega (arith, enough, members_are))))
 
     found : InList c posts shuffle (inner_kept posts run shuffle)
     found = record { list = last.0; said = said; listed = subst (Contains last.0) entry_is last.2 }
@@ -263,19 +267,19 @@ inner-is c own past shuffle = refl
 
 seeds-keys : (c : Configuration) (posts : List Post) (shuffle : ℕ) → HasSeeds c posts shuffle
     → map key_of_seed (seeds_revealed (shape_in c) (contents_of posts) shuffle) ≡ keys_said (shape_in c) (contents_of posts)
-        (inner_place shuffle)
+    (inner_place shuffle)
 seeds-keys c posts shuffle has =
     map-map key_of_seed (λ (m : ℕ). seed_in (said_in (shape_in c) (contents_of posts) (final_stage (shape_in c) shuffle) m))
-        (range_with_len 1 (shape_in c).members)
+    (range_with_len 1 (shape_in c).members)
     ∙ map-range (λ m. key_of_seed (seed_in (said_in (shape_in c) (contents_of posts) (final_stage (shape_in c) shuffle) m)))
-        (key_said (shape_in c) (contents_of posts) (inner_place shuffle)) 1 (shape_in c).members
+    (key_said (shape_in c) (contents_of posts) (inner_place shuffle)) 1 (shape_in c).members
     (λ m least most. has.seeds m least (omega (arith, most)))
 
 -- the inner ciphertext in the seeds that were revealed
 inner-wrapped : (c : Configuration) (posts : List Post) (shuffle : ℕ) (run : Run) → shape_in run.config ≡ shape_in c
     → HasSeeds c posts shuffle
     → inner_kept posts run shuffle ≡ wrapping_of (map key_of_seed (seeds_revealed (shape_in c) (contents_of posts) shuffle))
-        (own_layer_seeds run.config shuffle 1) (item_kept posts run shuffle)
+    (own_layer_seeds run.config shuffle 1) (item_kept posts run shuffle)
 inner-wrapped c posts shuffle run shape_is has =
     inner-is run.config (own_descriptor run.config (contents_of posts)) (contents_of posts) shuffle
     ∙ ap (λ (keys : List (List ℕ)). wrapping_of keys (own_layer_seeds run.config shuffle 1) (item_kept posts run shuffle))
@@ -302,14 +306,14 @@ pub opens-at : (c : Configuration) (posts : List Post) (shuffle : ℕ) (run : Ru
 opens-at c posts shuffle run shape_is has there_is =
     let at = got-at there_is.list (inner_kept posts run shuffle) there_is.listed in
     let layers = seeds_are_messages (own_opening run.config shuffle 1) run.config.round shuffle 1 run.config.number
-        (shape_in run.config).members in
+    (shape_in run.config).members in
     let many : length (seeds_revealed (shape_in c) (contents_of posts) shuffle) ≡ length (own_layer_seeds run.config shuffle 1) =
     length-map-range_with_len (λ m. seed_in (said_in (shape_in c) (contents_of posts) (final_stage (shape_in c) shuffle) m)) 1
-        (shape_in c).members
+    (shape_in c).members
     ∙ sym (ap (λ (s : Shape). s.members) shape_is) ∙ sym layers.0 in
     let opened = ap (opened_item (seeds_revealed (shape_in c) (contents_of posts) shuffle)) (inner-wrapped c posts shuffle run shape_is has)
     ∙ item-opened (seeds_revealed (shape_in c) (contents_of posts) shuffle) (own_layer_seeds run.config shuffle 1)
-        (item_kept posts run shuffle) many layers.1 in (
+    (item_kept posts run shuffle) many layers.1 in (
       at.0,
       record {
         list = there_is.list;
@@ -319,7 +323,7 @@ opens-at c posts shuffle run shape_is has there_is =
             (items-are (shape_in c) (contents_of posts) shuffle there_is.list there_is.said)
             ∙ slice_get-map (opened_item (seeds_revealed (shape_in c) (contents_of posts) shuffle)) there_is.list at.0
             ∙ ap (option_map (opened_item (seeds_revealed (shape_in c) (contents_of posts) shuffle))) at.1
-                ∙ ap (λ (o : Option (List ℕ)). Some o) opened;
+            ∙ ap (λ (o : Option (List ℕ)). Some o) opened;
       },
     )
 
@@ -389,7 +393,7 @@ run-opens c delivered runs stage shuffle go posts run end listed round is has at
         (go-yes run mine.kept.post.content mine.row shuffle votes.view
         (ap (kind_of_stage (shape_in run.config)) mine.at ∙ ap (λ (s : Shape). kind_of_stage s go) shape_is ∙ go_kind)
         (subst (λ (s : Shape). IsYes s votes.view mine.kept.post.content) (sym shape_is)
-            (votes.each run.config.number mine.kept.post.content within.0 within.1 text_there)))
+        (votes.each run.config.number mine.kept.post.content within.0 within.1 text_there)))
 
     -- the run's past at its vote is the front of what the member kept
     past_front : mine.row.past ≡ take (slots_before run.log.shape go) same.past
@@ -405,7 +409,7 @@ run-opens c delivered runs stage shuffle go posts run end listed round is has at
         ∙ ap (λ (s : Shape). take (slots_before s go) (contents_of same.past)) log_shape
         ∙ ap (take (slots_before shape go)) same.same
         ∙ take-take (slots_before shape go) (slots_before shape (stage - 1)) (contents_of posts)
-            (slots_before-rises shape go (stage - 1) (omega (arith, early)))
+        (slots_before-rises shape go (stage - 1) (omega (arith, early)))
 
     whole : slots_before shape go ≤ length posts
     whole = (let long = (end-past (run_after c delivered) stage posts end.kept).long in omega
@@ -418,20 +422,20 @@ pub place_opens : PlaceOpens
 place_opens c delivered runs stage posts run end late listed round =
     let final_is : final_stage (shape_in c) 1 ≡ (shape_in c).members + 3 = omega arith in
     run-opens c delivered runs stage 1 ((shape_in c).members + 2) posts run end listed round (contains-here 1 (2 ∷ []))
-        (first-seeds c delivered runs stage posts end late)
+    (first-seeds c delivered runs stage posts end late)
     (omega (arith, final_is)) (omega (arith, late)) (λ other. absurd (let both = sym (eq-eqb 1 1 refl) ∙ other in cc))
-        (final_a_is (shape_in c) (final_stage (shape_in c) 1) final_is)
+    (final_a_is (shape_in c) (final_stage (shape_in c) 1) final_is)
 
 -- ---- two places
 
 first-wrapped : (n : ℕ) (f g h : ℕ → List ℕ) (a b : List ℕ) → 1 ≤ n → IsMessage (g 1) → IsMessage (h 1)
     → wrapping_of (map key_of_seed (map f (range_with_len 1 n))) (map g (range_with_len 1 n)) a ≡ wrapping_of
-        (map key_of_seed (map f (range_with_len 1 n))) (map h (range_with_len 1 n)) b
+    (map key_of_seed (map f (range_with_len 1 n))) (map h (range_with_len 1 n)) b
     → g 1 ≡ h 1
 first-wrapped zero f g h a b some message other e = absurd (omega (arith, some))
 first-wrapped (suc m) f g h a b some message other e =
     outermost_determined (f 1) (g 1) (h 1) (map key_of_seed (map f (range_with_len (1 + 1) m)))
-        (map key_of_seed (map f (range_with_len (1 + 1) m)))
+    (map key_of_seed (map f (range_with_len (1 + 1) m)))
     (map g (range_with_len (1 + 1) m)) (map h (range_with_len (1 + 1) m)) a b message other e
 
 lists-same : (a b : List (List ℕ)) → (let told : List (List ℕ) → Option (List (List ℕ)) = λ z. Some z in told a ≡ told b) → a ≡ b
@@ -447,7 +451,7 @@ own-layer runs run shuffle honest listed is =
     let least = bounds.1 in
     let most = bounds.2 in
     contains-flat-from strings_of_run runs run _ listed ((run_has_strings run).own_layers shuffle 1 1 is (contains-here 1 (2 ∷ []))
-        (omega arith) (omega (arith, least, most)))
+    (omega arith) (omega (arith, least, most)))
 
 pub places_differ : PlacesDiffer
 places_differ c runs posts shuffle run other place other_place honest distinct listed other_listed is has apart opens other_opens same_place
@@ -496,10 +500,10 @@ places_differ c runs posts shuffle run other place other_place honest distinct l
         ≡ wrapping_of (map key_of_seed (map f (range_with_len 1 n))) (map h (range_with_len 1 n)) (item_kept posts other shuffle)
     wrapped =
         ap (λ (s : Shape). wrapping_of (map key_of_seed (map f (range_with_len 1 n))) (map g (range_with_len 1 s.members))
-            (item_kept posts run shuffle)) (sym shape_is)
+        (item_kept posts run shuffle)) (sym shape_is)
         ∙ sym (inner-wrapped c posts shuffle run shape_is has) ∙ entry ∙ inner-wrapped c posts shuffle other other_shape has
         ∙ ap (λ (s : Shape). wrapping_of (map key_of_seed (map f (range_with_len 1 n))) (map h (range_with_len 1 s.members))
-            (item_kept posts other shuffle)) other_shape
+        (item_kept posts other shuffle)) other_shape
 
     message : (opening : List ℕ) (round member : ℕ) → IsMessage (layer_seed opening round shuffle 1 member 1)
     message opening round member = (let is_hash = hash_bytes LayerSeed (layer_seed_pieces opening round shuffle 1 member 1) in record
@@ -508,11 +512,11 @@ places_differ c runs posts shuffle run other place other_place honest distinct l
     seeds_same : g 1 ≡ h 1
     seeds_same = first-wrapped n f g h (item_kept posts run shuffle) (item_kept posts other shuffle) some
         (message (own_opening run.config shuffle 1) run.config.round run.config.number)
-            (message (own_opening other.config shuffle 1) other.config.round other.config.number) wrapped
+        (message (own_opening other.config shuffle 1) other.config.round other.config.number) wrapped
 
     number_same : run.config.number ≡ other.config.number
     number_same = (layer_seed_determines (strings_of_runs runs) (own_opening run.config shuffle 1) (own_opening other.config shuffle 1)
         run.config.round other.config.round shuffle shuffle 1 1
         run.config.number other.config.number 1 1 distinct (own-layer runs run shuffle its listed is)
-            (own-layer runs other shuffle others other_listed is)
+        (own-layer runs other shuffle others other_listed is)
         (hash_bytes _ _).0 (hash_bytes _ _).0 its.config.enter.round others.config.enter.round seeds_same).4

@@ -47,7 +47,7 @@ unfolding least_ending
 none-ends c delivered e =
     nothing_mapped (λ (verdict : Verdict). (length delivered, verdict)) (ending_of c delivered)
     (sym (ending-all c delivered (length delivered) (omega arith))
-        ∙ first_below-each (ending_at c delivered) (suc (length delivered)) e (length delivered) (omega arith))
+    ∙ first_below-each (ending_at c delivered) (suc (length delivered)) e (length delivered) (omega arith))
 
 -- ---- what a string shows
 
@@ -76,9 +76,9 @@ pub fault-cases : (c : Configuration) (firsts : Others) (bytes : List ℕ) (verd
     → IsMalformed c bytes verdict ⊎ IsContradiction c firsts bytes verdict
 fault-cases c firsts bytes verdict e =
     let heard = and-then-parts (λ (heard : Heard). first_some (malformed_conviction c bytes heard ∷ contradiction c firsts bytes heard ∷
-        [])) (heard_of c bytes) verdict e in
+    [])) (heard_of c bytes) verdict e in
     by_fault heard.0 heard.1 (first_some-some_parts (malformed_conviction c bytes heard.0) (contradiction c firsts bytes heard.0 ∷ [])
-        verdict heard.2)
+    verdict heard.2)
   where
     by_malformed : (heard : Heard) → heard_of c bytes ≡ Some heard → malformed_conviction c bytes heard ≡ Some verdict
         → IsMalformed c bytes verdict
@@ -108,7 +108,7 @@ fault-cases c firsts bytes verdict e =
 
     by_fault : (heard : Heard) → heard_of c bytes ≡ Some heard
         → (malformed_conviction c bytes heard ≡ Some verdict) ⊎
-            ((malformed_conviction c bytes heard ≡ None) × (first_some (contradiction c firsts bytes heard ∷ []) ≡ Some verdict))
+        ((malformed_conviction c bytes heard ≡ None) × (first_some (contradiction c firsts bytes heard ∷ []) ≡ Some verdict))
         → IsMalformed c bytes verdict ⊎ IsContradiction c firsts bytes verdict
     by_fault heard is (inl here) = inl (by_malformed heard is here)
     by_fault heard is (inr later) = elim (first_some-some_parts (contradiction c firsts bytes heard) [] verdict later.1) [
@@ -127,8 +127,12 @@ pub record EndsByLast (c : Configuration) (delivered : List (List ℕ)) (verdict
   pub shows : IsMalformed c bytes verdict ⊎ IsContradiction c (first_posts c delivered) bytes verdict
 
 last-listed : (delivered : List (List ℕ)) (bytes : List ℕ) → last_of delivered ≡ Some bytes → Contains delivered bytes
-last-listed delivered bytes e = (length delivered - 1, slice_get_within delivered (length delivered - 1) bytes e, get_or_from_slice_get
-    delivered (length delivered - 1) bytes bytes e)
+last-listed delivered bytes e = (
+  length delivered - 1,
+  slice_get_within delivered (length delivered - 1) bytes e,
+  get_or_from_slice_get
+      delivered (length delivered - 1) bytes bytes e,
+)
 
 -- or the course has come to a verdict that ends the round
 pub ending-cases : (c : Configuration) (delivered : List (List ℕ)) (verdict : Verdict) → ending_of c delivered ≡ Some verdict
@@ -136,11 +140,16 @@ pub ending-cases : (c : Configuration) (delivered : List (List ℕ)) (verdict : 
 unfolding ending_of
 ending-cases c delivered verdict e =
     elim (first_some-some_parts (option_and_then (fault_shown c (first_posts c delivered)) (last_of delivered))
-        (ending_verdict (stand_after c delivered).verdict ∷ []) verdict e) [
+    (ending_verdict (stand_after c delivered).verdict ∷ []) verdict e) [
       | inl here ↦
           let last = and-then-parts (fault_shown c (first_posts c delivered)) (last_of delivered) verdict here in
-          inl (record { bytes = last.0; listed = last-listed delivered last.0 last.1; shows_it = last.2; shows = fault-cases c
-              (first_posts c delivered) last.0 verdict last.2 })
+          inl (record {
+            bytes = last.0;
+            listed = last-listed delivered last.0 last.1;
+            shows_it = last.2;
+            shows = fault-cases c
+                (first_posts c delivered) last.0 verdict last.2;
+          })
       | inr later ↦ elim (first_some-some_parts (ending_verdict (stand_after c delivered).verdict) [] verdict later.1) [
         | inl here ↦ inr (ending-closed (stand_after c delivered).verdict verdict here)
         | inr nothing ↦ absurd (none-some verdict nothing.1)
@@ -181,7 +190,7 @@ outcome-cases c delivered = by_least (least_ending c delivered) refl
   where
     by_least : (o : Option (ℕ × Verdict)) → least_ending c delivered ≡ o
         → IsOpenEnd c delivered (outcome_by c delivered (least_ending c delivered))
-            ⊎ IsEnded c delivered (outcome_by c delivered (least_ending c delivered))
+        ⊎ IsEnded c delivered (outcome_by c delivered (least_ending c delivered))
     by_least None e = inl (record {
       least = e;
       goes_on = ending-open (stand_after c delivered).verdict (ending-parts c delivered (none-ends c delivered e));

@@ -106,7 +106,7 @@ stand-closed c others verdict is check e ends = (
     kept : before (settled_log c others) (stage + 1) ≡ Some stand.past
     kept = ap (before (settled_log c others)) at ∙ before-settled c others stand.at reached (omega arith)
         ∙ ap (λ (xs : List Post). Some xs) (take_all (slots_before (shape_in c) stand.at) stand.past
-            (let whole = reached.whole in omega (arith, whole)))
+        (let whole = reached.whole in omega (arith, whole)))
 
 pub firsts-check : (c : Configuration) (delivered : List (List ℕ)) → All IsBytes delivered → OthersCheck c (first_posts c delivered)
 firsts-check c delivered all slot post e = (first_posts_delivered c delivered slot post all e).checks
@@ -126,9 +126,9 @@ evidence_accepted c delivered t is all e = elim (outcome-cases c delivered) [
           (All-contains IsBytes part last.bytes bytes last.listed) last.shows_it
       | inr course ↦
           let closed = stand-closed c (first_posts c part) (Convicts t) is (firsts-check c part bytes) course.1
-              (λ goes. convicts-not t Goes (inl refl) goes) in
+          (λ goes. convicts-not t Goes (inl refl) goes) in
           verdict_accepted (settled_run c (first_posts c part)) closed.0 (course_of c (first_posts c part)).past t closed.1.kept
-              closed.1.verdict_is
+          closed.1.verdict_is
     ]
 
     convicted : (count : ℕ) (verdict : Verdict) → ending_of c (take count delivered) ≡ Some verdict

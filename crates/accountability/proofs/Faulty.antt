@@ -97,7 +97,7 @@ pub part-has : (P : List ℕ → Type 0) (c : Configuration) (part : List (List 
     → ((bytes : List ℕ) → Contains part bytes → P bytes)
     → ((slot : Slot) (post : Post) → kept_in (settled_log c (first_posts c part)) slot ≡ Some post → P (post_spelling post))
     → ((stage member : ℕ) (posts : List Post) (content : Content) (pair : Slot × List ℕ)
-        → IsKeptEnd (settled_run c (first_posts c part)) stage posts
+    → IsKeptEnd (settled_run c (first_posts c part)) stage posts
     → IsMemberOf (closing_of c posts stage) member → closing_content (closing_of c posts stage) member ≡ Ok content
     → Contains (embedded_pairs c.roster content) pair → P pair.1)
     → (bytes : List ℕ) → Contains t.posts bytes → P bytes
@@ -108,17 +108,17 @@ part-has P c part t is all ends delivered kept embedded = elim (ending-cases c p
         let first = first_posts_delivered c part (slot_named other.heard.header) other.first all other.kept in
         let spelled = (framed-found first.bytes other.first (All-contains IsBytes part first.bytes all first.listed) first.spelled).1 in
         in-posts P t _ _ other.verdict_is refl (two-have P (post_spelling other.first) last.bytes
-            (subst P spelled (delivered first.bytes first.listed)) (delivered last.bytes last.listed))
+        (subst P spelled (delivered first.bytes first.listed)) (delivered last.bytes last.listed))
   ]
   | inr course ↦
       let closed = stand-closed c (first_posts c part) (Convicts t) is (firsts-check c part all) course.1
-          (λ goes. convicts-not t Goes (inl refl) goes) in
+      (λ goes. convicts-not t Goes (inl refl) goes) in
       verdict-lists P (settled_run c (first_posts c part)) closed.0 (course_of c (first_posts c part)).past t closed.1.kept
-          closed.1.verdict_is
+      closed.1.verdict_is
       (λ post listed. (let at = past-slot (settled_run c (first_posts c part)) (closed.0 + 1) (course_of c (first_posts c part)).past post
-          closed.1.kept.honest closed.1.kept.kept listed in kept at.0 post at.1))
+      closed.1.kept.honest closed.1.kept.kept listed in kept at.0 post at.1))
       (λ member content pair member_is reads justified listed. embedded closed.0 member (course_of c (first_posts c part)).past content pair
-          closed.1.kept member_is reads listed)
+      closed.1.kept member_is reads listed)
 ]
 
 -- ---- evidence is bytes
@@ -130,9 +130,9 @@ embedded-is_bytes : (run : Run) (stage member : ℕ) (posts : List Post) (conten
 embedded-is_bytes run stage member posts content pair end is reads listed =
     let k = kept-end run stage member posts end is in
     let bytes = subst (λ (x : Content). IsBytes (body_text x.body)) (content-is run stage member posts content k reads)
-        (body-bytes run posts stage member k) in
+    (body-bytes run posts stage member k) in
     all-contained IsBytes (posts_embedded content.body) pair.1 (embedded-bytes content.body bytes)
-        (zip-second (slots_embedded (shape_in run.config) content) (posts_embedded content.body) pair listed)
+    (zip-second (slots_embedded (shape_in run.config) content) (posts_embedded content.body) pair listed)
 
 no-detail : (t other : Transcript) (v : Verdict) → v ≡ Convicts other → Convicts t ≡ v → other.detail ≡ None
     → IsBytes (detail_spelling t.detail)
@@ -165,9 +165,9 @@ part-detail c part t is all ends = elim (ending-cases c part (Convicts t) ends) 
   ]
   | inr course ↦
       let closed = stand-closed c (first_posts c part) (Convicts t) is (firsts-check c part all) course.1
-          (λ goes. convicts-not t Goes (inl refl) goes) in
+      (λ goes. convicts-not t Goes (inl refl) goes) in
       verdict-detail (settled_run c (first_posts c part)) closed.0 (course_of c (first_posts c part)).past t closed.1.kept
-          closed.1.verdict_is
+      closed.1.verdict_is
 ]
 
 -- one transcript has one spelling
@@ -176,7 +176,7 @@ pub transcript-one : (shape : Shape) (a b : Transcript) → IsShape shape.versio
     → IsTranscript shape b → a ≡ b
 transcript-one shape a b is form spelled other_form =
     told-same a b (sym (transcript_read-again shape a is form) ∙ ap (transcript_read shape) (sym spelled)
-        ∙ transcript_read-again shape b is other_form)
+    ∙ transcript_read-again shape b is other_form)
   where
     told-same : (x y : Transcript) → (let told : Transcript → Result Transcript FailedForm = λ z. Ok z in told x ≡ told y) → x ≡ y
     told-same x y e = cc
@@ -186,7 +186,7 @@ evidence_is_bytes c delivered t is all e =
     let blame = blame-of c delivered t e in
     let part_bytes = All-take IsBytes blame.count delivered all in
     let honest = settled_run_is_honest c (first_posts c (take blame.count delivered)) is
-        (firsts-check c (take blame.count delivered) part_bytes) in
+    (firsts-check c (take blame.count delivered) part_bytes) in
     let accepts = evidence_accepted c delivered t is all e in
     let few = (shape-is c is.enter).most in
     spelling-bytes (shape_of_roster c.roster) t few accepts.form (record {
@@ -194,7 +194,7 @@ evidence_is_bytes c delivered t is all e =
           (λ bytes listed. All-contains IsBytes (take blame.count delivered) bytes part_bytes listed)
           (λ slot post kept. spelled-bytes c slot post (checks-read c slot post (honest.posts slot post kept)))
           (λ stage member posts content pair end member_is reads listed. embedded-is_bytes
-              (settled_run c (first_posts c (take blame.count delivered))) stage member posts content pair end member_is reads listed);
+          (settled_run c (first_posts c (take blame.count delivered))) stage member posts content pair end member_is reads listed);
       detail = part-detail c (take blame.count delivered) t is part_bytes blame.ends;
     })
 
@@ -210,16 +210,16 @@ evidence-traced c delivered t is all e bytes listed =
     widened (run_after c delivered) (take blame.count delivered) delivered (λ b there. take-listed blame.count delivered b there) bytes
     (subst (λ (run : Run). IsTraced run (take blame.count delivered) bytes) (sym blame.run_is)
     (part-has (IsTraced (settled_run c (first_posts c (take blame.count delivered))) (take blame.count delivered)) c
-        (take blame.count delivered) t is part_bytes blame.ends
+    (take blame.count delivered) t is part_bytes blame.ends
     (λ b there. Given (inl there)) (λ slot post kept. kept-traced c (take blame.count delivered) slot post part_bytes kept)
     (λ stage member posts content pair end member_is reads there. embedded-traced c (take blame.count delivered) stage member posts content
-        pair part_bytes end member_is reads there) bytes listed))
+    pair part_bytes end member_is reads there) bytes listed))
 
 kept-sent : (run : Run) (stage : ℕ) (post : Post) → kept_in run.log (own_slot run stage) ≡ Some post → Contains (sent run) post.content
 unfolding sent
 kept-sent run stage post kept =
     let speaks_there : is_slot run.log.shape stage run.config.number ≡ true = elim
-        (cases_Bool (is_slot run.log.shape stage run.config.number)) [
+    (cases_Bool (is_slot run.log.shape stage run.config.number)) [
       | inl speaks_there ↦ speaks_there
       | inr silent ↦ absurd (none-some post (sym (cond-false (is_slot run.log.shape stage run.config.number) _ None silent) ∙ kept))
     ] in
@@ -234,7 +234,7 @@ unfolding contents_sent
 own-sent runs run content listed said =
     contains-flat-from sent (runs_of runs run.config.number) run content
     (contains-filter-from (λ (r : Run). r.config.number == run.config.number) runs run listed
-        (eq-eqb run.config.number run.config.number refl)) said
+    (eq-eqb run.config.number run.config.number refl)) said
 
 post-same : (a b : Post) (r : Result Post ℕ) → r ≡ Ok a → r ≡ Ok b → a ≡ b
 post-same a b r e e' = (let both = sym e ∙ e' in cc)
@@ -246,19 +246,19 @@ header-same a b r e e' = (let both = sym e ∙ e' in cc)
 pub traced-sent : (runs : List Run) (run : Run) (delivered : List (List ℕ)) (bytes : List ℕ) (post : Post) (header : Header) (round : ℕ)
     → HonestRun run → Contains runs run
     → NoForgery run.config.roster delivered runs → IsTraced run delivered bytes → frame_of bytes ≡ Ok post
-        → Admitted run.config.roster round post header
+    → Admitted run.config.roster round post header
     → HasNumber runs header.sender → Sent runs header.sender post.content
 traced-sent runs run delivered bytes post header round honest own unforged (Given given) spelled admitted has =
     unforged bytes post header given spelled (subst (λ (r : ℕ). Admitted run.config.roster r post header) (sym admitted.this_round)
-        admitted) has
+    admitted) has
 traced-sent runs run delivered bytes post header round honest own unforged (Own stage kept at is) spelled admitted has =
     let checks = honest.posts (own_slot run stage) kept at in
     let file = file-says run.config (own_slot run stage) kept checks in
     let framed : frame_of bytes ≡ Ok kept = ap frame_of is ∙ framed-again kept
-        (checks-admitted run.config (own_slot run stage) kept checks).1.frame in
+    (checks-admitted run.config (own_slot run stage) kept checks).1.frame in
     let same : kept ≡ post = post-same kept post (frame_of bytes) framed spelled in
     let head : checks.content.header ≡ header = header-same checks.content.header header (header_of kept.content) file.admitted.reads
-        (ap (λ (p : Post). header_of p.content) same ∙ admitted.reads) in
+    (ap (λ (p : Post). header_of p.content) same ∙ admitted.reads) in
     let number : run.config.number ≡ header.sender = sym (ap (λ (s : Slot). s.sender) checks.named) ∙ ap (λ (h : Header). h.sender) head in
     subst (λ (n : ℕ). Sent runs n post.content) number
     (own-sent runs run post.content own (subst (λ (p : Post). Contains (sent run) p.content) same (kept-sent run stage kept at)))
@@ -281,8 +281,8 @@ accused_faulty c delivered runs t among e none run listed number round =
     said : (other : Transcript) → other ≡ t → SaidBy c.roster runs t.accused other.round other.posts
     said other same bytes post header there spelled admitted sender =
         let traced = evidence-traced c delivered t among.config among.bytes e bytes
-            (subst (λ (x : Transcript). Contains x.posts bytes) same there) in
+        (subst (λ (x : Transcript). Contains x.posts bytes) same there) in
         subst (λ (n : ℕ). Sent runs n post.content) sender
         (traced-sent runs (run_after c delivered) delivered bytes post header other.round honest among.own among.unforged traced spelled
-            admitted
+        admitted
         (subst (HasNumber runs) (sym sender) has))

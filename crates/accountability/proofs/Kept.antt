@@ -54,7 +54,7 @@ checks-header c slot post is =
     let admitted = checks-admitted c slot post is in
     let parts = checks-parts c.roster c.round post is.content is.checks in
     let same = header-same admitted.0 is.content.header (header_of post.content) admitted.1.reads
-        (content-header (shape_of_roster c.roster) post.content is.content parts.2) in
+    (content-header (shape_of_roster c.roster) post.content is.content parts.2) in
     subst (Admitted c.roster c.round post) same admitted.1
 
 -- so it says its content
@@ -129,7 +129,7 @@ pub closing-reads : (run : Run) (posts : List Post) (stage member : ℕ) (k : Ke
     → closing_content (closing_of run.config posts stage) member ≡ Ok k.checks.content
 closing-reads run posts stage member k =
     ap (λ (p : Post). content_read (shape_in run.config) p.content) (post-in run posts stage stage member k)
-        ∙ content-reads run posts stage member k
+    ∙ content-reads run posts stage member k
 
 pub sent-in : (run : Run) (posts : List Post) (end stage member : ℕ) (k : KeptIn run posts stage member)
     → sent_in (closing_of run.config posts end) stage member ≡ post_spelling k.post
@@ -192,7 +192,7 @@ whole-end run stage posts end =
       named = λ member content one reads. (
           let k = kept-end run stage member posts end one in
           let same = contents-same content k.checks.content (closing_content (closing_of run.config posts stage) member) reads
-              (closing-reads run posts stage member k) in
+          (closing-reads run posts stage member k) in
           ap (λ (x : Content). x.header.stage) same ∙ content-stage run posts stage member k);
     }
 
@@ -215,16 +215,16 @@ pub content-grammar : (run : Run) (posts : List Post) (stage member : ℕ) (k : 
     → OfGrammar (shape_in run.config) k.checks.content
 content-grammar run posts stage member k =
     let said = said-there run.config (record { stage = stage; sender = member }) k.post
-        (checks-read run.config (record { stage = stage; sender = member }) k.post k.checks) in
+    (checks-read run.config (record { stage = stage; sender = member }) k.post k.checks) in
     subst (OfGrammar (shape_in run.config))
     (contents-same said.content k.checks.content (content_read (shape_in run.config) k.post.content) said.reads
-        (content-reads run posts stage member k)) said.grammar
+    (content-reads run posts stage member k)) said.grammar
 
 pub body-at : (run : Run) (posts : List Post) (stage member : ℕ) (k : KeptIn run posts stage member)
     → IsBody (shape_in run.config) stage k.checks.content.body
 body-at run posts stage member k =
     subst (λ (s : ℕ). IsBody (shape_in run.config) s k.checks.content.body) (content-stage run posts stage member k)
-        (content-grammar run posts stage member k).1
+    (content-grammar run posts stage member k).1
 
 -- by the kind of its stage
 pub body-of_kind : (run : Run) (posts : List Post) (stage member : ℕ) (kind : StageKind) (k : KeptIn run posts stage member)
@@ -238,14 +238,14 @@ pub body-bytes : (run : Run) (posts : List Post) (stage member : ℕ) (k : KeptI
     → IsBytes (body_text k.checks.content.body)
 body-bytes run posts stage member k =
     let said = said-there run.config (record { stage = stage; sender = member }) k.post
-        (checks-read run.config (record { stage = stage; sender = member }) k.post k.checks) in
+    (checks-read run.config (record { stage = stage; sender = member }) k.post k.checks) in
     subst (λ (c : Content). IsBytes (body_text c.body))
     (contents-same said.content k.checks.content (content_read (shape_in run.config) k.post.content) said.reads
-        (content-reads run posts stage member k)) said.body_bytes
+    (content-reads run posts stage member k)) said.body_bytes
 
 -- what was read at the closing stage is the content that is kept there
 pub content-is : (run : Run) (stage member : ℕ) (posts : List Post) (content : Content) (k : KeptIn run posts stage member)
     → closing_content (closing_of run.config posts stage) member ≡ Ok content → k.checks.content ≡ content
 content-is run stage member posts content k reads =
     contents-same k.checks.content content (closing_content (closing_of run.config posts stage) member)
-        (closing-reads run posts stage member k) reads
+    (closing-reads run posts stage member k) reads

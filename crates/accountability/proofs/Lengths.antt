@@ -102,8 +102,13 @@ items-most : (w : ℕ) (items : List (List ℕ)) → AllByRecursion (λ item. le
 items-most w [] all = omega arith
 items-most w (item ∷ items) all =
     let few : length item + 4 ≤ w = all.0 in
-    grind (arith, length-append (prefixed item) (flat_map prefixed items), length-append (to_be_bytes w32 (length item)) item, items-most w
-        items all.1)
+    grind (
+      arith,
+      length-append (prefixed item) (flat_map prefixed items),
+      length-append (to_be_bytes w32 (length item)) item,
+      items-most w
+          items all.1,
+    )
 
 -- ---- one post
 
@@ -119,8 +124,15 @@ heard-most c bytes heard is = (let frame = is.admitted.frame.most in let long = 
 one-most : (t : Transcript) (a : List ℕ) → t.detail ≡ None → t.posts ≡ a ∷ [] → length a ≤ 16777216
     → length (transcript_spelling t) ≤ 33554459
 one-most t a none posts few =
-    omega (arith, spelling-long t, ap detail_length none, ap (λ (ps : List (List ℕ)). length (flat_map prefixed ps)) posts, few,
-        length-append (to_be_bytes w32 (length a)) a, length-append (prefixed a) [])
+    omega (
+      arith,
+      spelling-long t,
+      ap detail_length none,
+      ap (λ (ps : List (List ℕ)). length (flat_map prefixed ps)) posts,
+      few,
+      length-append (to_be_bytes w32 (length a)) a,
+      length-append (prefixed a) [],
+    )
 
 two-most : (t : Transcript) (a b : List ℕ) → t.detail ≡ None → t.posts ≡ a ∷ b ∷ [] → length a ≤ 16777216 → length b ≤ 16777216
     → length (transcript_spelling t) ≤ 33554459
@@ -209,8 +221,11 @@ before-closing run stage posts end =
       can = record {
         enter = end.honest.config.enter;
         speaks = speaks_there;
-        past_is = record { whole = past.long; reads = λ number slot post at there. checks-read c slot post
-            (past.checks number slot post at there) };
+        past_is = record {
+          whole = past.long;
+          reads = λ number slot post at there. checks-read c slot post
+              (past.checks number slot post at there);
+        };
       };
       goes = subst (λ (s : ℕ). AllGo run.config own.row.past s) own.at own.row.goes;
     }
@@ -263,9 +278,9 @@ embedded-stand run stage member posts end b is f k content_is objects_there coun
     contents : contents_of f.posts ≡ contents_of b.past
     contents =
         f.contents ∙ cond-false (is_assent f.content.body) _ (take (slots_before shape f.content.header.stage) (contents_of posts))
-            objects_there
+        objects_there
         ∙ ap (λ (s : ℕ). take (slots_before shape s) (contents_of posts)) stage_is ∙ take-map (λ (p : Post). p.content) n posts
-            ∙ ap contents_of (sym b.front)
+        ∙ ap contents_of (sym b.front)
 
     text-same : (x y : List ℕ) → (let told : List ℕ → Option (List ℕ) = λ z. Some z in told x ≡ told y) → x ≡ y
     text-same x y e = cc
@@ -275,13 +290,18 @@ embedded-stand run stage member posts end b is f k content_is objects_there coun
     short place post item at item_at =
         let pair = zip-place (slots_embedded shape f.content) items place item slots_many item_at in
         let found = all-zip-place (λ (p : Slot × List ℕ) (q : Post). IsPostOf c.roster c.round p.0 p.1 q)
-            (embedded_pairs c.roster f.content) f.posts place (pair.0, item) are pair.1 in
+        (embedded_pairs c.roster f.content) f.posts place (pair.0, item) are pair.1 in
         let same : found.0.content ≡ post.content = text-same found.0.content post.content
         (sym (ap (option_map (λ (p : Post). p.content)) found.1) ∙ sym (slice_get-map (λ (p : Post). p.content) f.posts place)
         ∙ ap (λ (xs : List (List ℕ)). slice_get xs place) contents ∙ slice_get-map (λ (p : Post). p.content) b.past place
-            ∙ ap (option_map (λ (p : Post). p.content)) at) in
-        omega (arith, ap length found.2.spelled, posts_are_short c.roster c.round found.0 found.2.content.header found.2.admitted, ap length
-            same)
+        ∙ ap (option_map (λ (p : Post). p.content)) at) in
+        omega (
+          arith,
+          ap length found.2.spelled,
+          posts_are_short c.roster c.round found.0 found.2.content.header found.2.admitted,
+          ap length
+              same,
+        )
 
 -- how many posts it embeds
 dissent-count : (shape : Shape) (stage : ℕ) (kind : StageKind) (body : Body) → IsClosingBody shape stage kind body → is_assent body ≡ false
@@ -305,27 +325,36 @@ closing-short run stage member posts end b faithful disagree is =
     let kind = closing-kind (shape_in c) stage end.closing in
     let objects_there : is_assent f.content.body ≡ false = f.assents ∙ disagree in
     let stage_is : f.content.header.stage ≡ stage = ap (λ (x : Content). x.header.stage) (sym content_is)
-        ∙ content-stage run posts stage member k in
+    ∙ content-stage run posts stage member k in
     let body_closing = closings_are_read (shape_in c) k.post.content f.content kind.kind kind.vote
-        (content-reads run posts stage member k ∙ ap (λ (x : Content). Ok x) content_is)
+    (content-reads run posts stage member k ∙ ap (λ (x : Content). Ok x) content_is)
     (ap (kind_of_stage (shape_in c)) stage_is ∙ kind.is) kind.closes in
     let count : length (posts_embedded f.content.body) ≡ slots_before (shape_in c) stage =
     dissent-count (shape_in c) f.content.header.stage kind.kind f.content.body body_closing objects_there
-        ∙ ap (slots_before (shape_in c)) stage_is in
+    ∙ ap (slots_before (shape_in c)) stage_is in
     let whole = items-whole c stage b.past (posts_embedded f.content.body) b.can b.goes
-        (embedded-stand run stage member posts end b is f k content_is objects_there count) in
+    (embedded-stand run stage member posts end b is f k content_is objects_there count) in
     let form = subst (λ (x : Content). IsBodyAt (shape_in c) (slots_before (shape_in c) stage) kind.kind x.body) content_is
-        (body-of_kind run posts stage member kind.kind k kind.is) in
+    (body-of_kind run posts stage member kind.kind k kind.is) in
     let body_long = dissent-long f.content.body (f.dissents disagree) (shape_in c) (slots_before (shape_in c) stage) kind.kind form in
     let grammar = content-grammar run posts stage member k in
     let text : k.post.content ≡ content_text k.checks.content =
-        (content-is_spelled (shape_in c) k.post.content k.checks.content k.checks.content_bytes (content-reads run posts stage member k)).0
-        in
+    (content-is_spelled (shape_in c) k.post.content k.checks.content k.checks.content_bytes (content-reads run posts stage member k)).0
+    in
     let long = content-long (shape_in c) k.checks.content grammar in
     let post_long = posts_are_short c.roster c.round k.post k.checks.content.header
-        (checks-header c (record { stage = stage; sender = member }) k.post k.checks) in
-    omega (arith, whole, body_long, ap length text, long, post_long, ap (λ (x : Content). length (body_text x.body)) content_is, ap length
-        (sent-in run posts stage stage member k))
+    (checks-header c (record { stage = stage; sender = member }) k.post k.checks) in
+    omega (
+      arith,
+      whole,
+      body_long,
+      ap length text,
+      long,
+      post_long,
+      ap (λ (x : Content). length (body_text x.body)) content_is,
+      ap length
+          (sent-in run posts stage stage member k),
+    )
 
 -- ---- by claim
 
@@ -395,13 +424,13 @@ verdict-short run stage posts t end e = by_case (verdict_cases (closing_of run.c
     of-replay is = items-most 11549256 members (all-from (λ item. length item + 4 ≤ 11549256) members (λ place bytes at. (
         let within = slice_get_within members place bytes at in
         let member : IsMemberOf (closing_of run.config posts stage) (place + 1) = record
-            { least = omega arith; most = omega (arith, within, members-listed run stage posts) } in
+        { least = omega arith; most = omega (arith, within, members-listed run stage posts) } in
         let there_is = by-member (sent_in (closing_of run.config posts stage) stage) shape.members (place + 1) member.least member.most in
         let place_is : place + 1 - 1 ≡ place = omega arith in
         let same : bytes ≡ sent_in (closing_of run.config posts stage) stage (place + 1) = bytes-same bytes _
-            (sym at ∙ sym (ap (slice_get members) place_is) ∙ there_is) in
+        (sym at ∙ sym (ap (slice_get members) place_is) ∙ there_is) in
         subst (λ (x : List ℕ). length x + 4 ≤ 11549256) (sym same)
-            (closing-short run stage (place + 1) posts end b is.faithful is.votes member))))
+        (closing-short run stage (place + 1) posts end b is.faithful is.votes member))))
 
     log-most : length (flat_map prefixed (written (take (slots_before shape (pad_stage shape)) b.past))) ≤ 11539784
     log-most =
@@ -418,43 +447,55 @@ verdict-short run stage posts t end e = by_case (verdict_cases (closing_of run.c
     by_case (ByBadLog is) = few-one t _ _ _ BadLog _ is.verdict_is (sym e) (λ same. absurd cc) (at-end is.member is.is_member)
     by_case (ByEquivocation is) =
         let justified : is_content_justified c.roster c.round is.content ≡ true = sym
-            (ap (is_read_justified (closing_of run.config posts stage)) is.reads) ∙ is.justified is.member is.is_member in
+        (ap (is_read_justified (closing_of run.config posts stage)) is.reads) ∙ is.justified is.member is.is_member in
         let em = embeds-there run stage is.member posts is.content is.pair end is.is_member is.reads justified is.embedded in
         let earlier = em.earlier in
         let frame = em.file.admitted.frame.most in
         let short : length is.pair.1 ≤ 16777216 = omega (arith, frame, spelled-long em.post, ap length em.file.spelled) in
         few-two t _ _ _ Equivocation _ _ is.verdict_is (sym e) (λ same. absurd cc)
-            (in-slot is.pair.0.stage is.pair.0.sender em.speaks (omega arith)) short
+        (in-slot is.pair.0.stage is.pair.0.sender em.speaks (omega arith)) short
     by_case (ByWrongSeed is) =
         few-two t _ _ _ WrongSeed _ _ is.verdict_is (sym e) (λ same. absurd cc)
-            (in-slot 0 is.member (member-is run stage is.member posts is.is_member) (omega arith)) (at-end is.member is.is_member)
+        (in-slot 0 is.member (member-is run stage is.member posts is.is_member) (omega arith)) (at-end is.member is.is_member)
     by_case (ByReplay is) =
-        let other : Transcript = record { claim = Replay; accused = is.fault.member; round = run.config.round; detail = None; posts =
-            members } in
+        let other : Transcript = record {
+          claim = Replay;
+          accused = is.fault.member;
+          round = run.config.round;
+          detail = None;
+          posts =
+              members;
+        } in
         let same : t ≡ other = transcript-same t other (sym e ∙ is.verdict_is) in
         let most : shape.members * 11549256 ≤ 8 * 11549256 = mul-le shape.members 11549256 8 11549256 eight (omega arith) in
         let long = spelling-long other in
         let few : length (transcript_spelling other) ≤ 92394067 = omega
-            (arith, long, of-replay is, most, ap (λ (n : ℕ). n * 11549256) (members-listed run stage posts)) in
+        (arith, long, of-replay is, most, ap (λ (n : ℕ). n * 11549256) (members-listed run stage posts)) in
         subst IsShort (sym same) (record { whole = omega (arith, few); replay = λ claim. few })
     by_case (ByBadPad is) =
         let v : ClosedStage = closing_of run.config posts stage in
         let member = named-member shape (contents_of posts) is.accusation is.holds in
         let late = last-late shape stage is.shuffle (let least = member.0 in let most = member.1 in omega (arith, least, most)) is.kind
-            is.second in
+        is.second in
         let here : pad_stage shape ≡ shape.members + 4 = refl in
         let pads = in-slot (pad_stage shape) is.accusation.member (pads-speak shape is.accusation.member member.0 member.1)
-            (omega (arith, late, here)) in
+        (omega (arith, late, here)) in
         let form : length is.accusation.seed ≡ 32 = ((accusations_are_spelled is.item is.accusation).0 is.spelled).0 in
         let front_is : take (slots_before shape (pad_stage shape)) posts ≡ take (slots_before shape (pad_stage shape)) b.past =
         sym (ap (take (slots_before shape (pad_stage shape))) b.front
-            ∙ take-take (slots_before shape (pad_stage shape)) (slots_before shape stage) posts
-            (slots_before-rises shape (pad_stage shape) stage (omega (arith, late, here)))) in
+        ∙ take-take (slots_before shape (pad_stage shape)) (slots_before shape stage) posts
+        (slots_before-rises shape (pad_stage shape) stage (omega (arith, late, here)))) in
         let log = ap (λ (ps : List Post). length (flat_map prefixed (written ps))) front_is in
         let listed : List (List ℕ) = map post_spelling (take (slots_before shape (pad_stage shape)) posts) in
         let last : List ℕ = sent_in v (pad_stage shape) is.accusation.member in
-        let other : Transcript = record { claim = Pad; accused = is.accusation.member; round = run.config.round; detail = Some
-            is.accusation; posts = listed ++ last ∷ [] } in
+        let other : Transcript = record {
+          claim = Pad;
+          accused = is.accusation.member;
+          round = run.config.round;
+          detail = Some
+              is.accusation;
+          posts = listed ++ last ∷ [];
+        } in
         let same : t ≡ other = transcript-same t other (sym e ∙ is.verdict_is) in
         let long = spelling-long other in
         let few : length (transcript_spelling other) < 134217728 =
@@ -487,13 +528,13 @@ part-short c part t is all ends = elim (ending-cases c part (Convicts t) ends) [
         let heard = heard-parts c last.bytes other.heard (All-contains IsBytes part last.bytes all last.listed) other.is in
         let checks = firsts-check c part all (slot_named other.heard.header) other.first other.kept in
         few-two t _ _ _ Equivocation _ _ other.verdict_is refl (λ same. absurd cc)
-            (post-most c (slot_named other.heard.header) other.first checks) (heard-most c last.bytes other.heard heard)
+        (post-most c (slot_named other.heard.header) other.first checks) (heard-most c last.bytes other.heard heard)
   ]
   | inr course ↦
       let closed = stand-closed c (first_posts c part) (Convicts t) is (firsts-check c part all) course.1
-          (λ goes. convicts-not t Goes (inl refl) goes) in
+      (λ goes. convicts-not t Goes (inl refl) goes) in
       verdict-short (settled_run c (first_posts c part)) closed.0 (course_of c (first_posts c part)).past t closed.1.kept
-          closed.1.verdict_is
+      closed.1.verdict_is
 ]
 
 all-short : (c : Configuration) (delivered : List (List ℕ)) (t : Transcript) → IsConfiguration c → All IsBytes delivered

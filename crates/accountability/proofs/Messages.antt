@@ -91,15 +91,15 @@ pub can-make-there : (run : Run) (shape : Shape) (past : List (List ℕ)) → Ho
     → CanMake shape.members (keys_said shape past bulk_place) (own_pad_seeds run.config) run.config.number run.config.message
 can-make-there run shape past honest shape_is =
     subst (λ (s : Shape). CanMake s.members (keys_said s past bulk_place) (own_pad_seeds run.config) run.config.number run.config.message)
-        shape_is (can-make run past honest)
+    shape_is (can-make run past honest)
 
 pub made-there : (run : Run) (shape : Shape) (past : List (List ℕ)) → shape_in run.config ≡ shape
     → own_descriptor run.config past ≡ descriptor_text (made_descriptor (keys_said shape past bulk_place) (own_pad_seeds run.config)
-        run.config.number run.config.message)
+    run.config.number run.config.message)
 unfolding own_descriptor
 made-there run shape past shape_is =
     ap (λ (s : Shape). descriptor_text (made_descriptor (keys_said s past bulk_place) (own_pad_seeds run.config) run.config.number
-        run.config.message)) shape_is
+    run.config.message)) shape_is
 
 -- ---- the state of a slot
 
@@ -132,9 +132,9 @@ unfolding slots_of_past
 state-at shape past place o at =
     let zero_is : 0 + place ≡ place = omega arith in
     slice_get-map (λ (p : ℕ × Option Description). slot_state p.1 (pads_for (pads_sent shape past) p.0))
-        (enumerate_from 0 (descriptors_opened shape past)) place
+    (enumerate_from 0 (descriptors_opened shape past)) place
     ∙ ap (option_map (λ (p : ℕ × Option Description). slot_state p.1 (pads_for (pads_sent shape past) p.0)))
-        (numbered-at (descriptors_opened shape past) 0 place o at)
+    (numbered-at (descriptors_opened shape past) 0 place o at)
     ∙ ap (λ (k : ℕ). Some (slot_state o (pads_for (pads_sent shape past) k))) zero_is
 
 pub not-bad : (d : Description) (message : List ℕ) (first : ℕ) → joined_state d message ≡ Bad first → ⊥
@@ -154,11 +154,14 @@ fits-or-bad d pads = by_first (first_unfit d pads) refl
   where
     by_first : (o : Option ℕ) → first_unfit d pads ≡ o
         → ((first_unfit d pads ≡ None) × ((first : ℕ) → unless_bad (first_unfit d pads) (joined_state d (joined_pads pads)) ≡ Bad first
-            → ⊥))
+        → ⊥))
         ⊎ ((first : ℕ) × (first_unfit d pads ≡ Some first) × (unless_bad (first_unfit d pads) (joined_state d (joined_pads pads)) ≡ Bad
-            first))
-    by_first None e = inl (e, λ first bad. not-bad d (joined_pads pads) first
-        (sym (ap (λ (o : Option ℕ). unless_bad o (joined_state d (joined_pads pads))) e) ∙ bad))
+        first))
+    by_first None e = inl (
+      e,
+      λ first bad. not-bad d (joined_pads pads) first
+          (sym (ap (λ (o : Option ℕ). unless_bad o (joined_state d (joined_pads pads))) e) ∙ bad),
+    )
     by_first (Some first) e = inr (first, e, ap (λ (o : Option ℕ). unless_bad o (joined_state d (joined_pads pads))) e)
 
 none-bad : (slots : List SlotState) (place : ℕ) (state : SlotState) → list_any is_bad slots ≡ false → slice_get slots place ≡ Some state
@@ -193,9 +196,9 @@ kept-post run later number posts post kept at =
     let all : take n run.log.posts ≡ map (λ x. Some x) posts = all_some-is (take n run.log.posts) posts kept in
     let found = take-get run.log.posts n number (Some post)
     (ap (λ (xs : List (Option Post)). slice_get xs number) all ∙ slice_get-map (λ x. Some x) posts number
-        ∙ ap (option_map (λ x. Some x)) at) in
+    ∙ ap (option_map (λ x. Some x)) at) in
     contains-filter_map-from (λ (kept : Option Post). kept) run.log.posts (Some post) post
-        (at-listed run.log.posts number (Some post) found.1) refl
+    (at-listed run.log.posts number (Some post) found.1) refl
 
 -- the pads that a member sent, as the own run keeps them
 pub record PadsOf (c : Configuration) (delivered : List (List ℕ)) (posts : List Post) (member : ℕ) : Type 0 where
@@ -216,15 +219,15 @@ pads-of : (c : Configuration) (delivered : List (List ℕ)) (stage member : ℕ)
 pads-of c delivered stage member posts end late least most =
     let here : pad_stage (shape_in c) ≡ (shape_in c).members + 4 = refl in
     let k = kept-in (run_after c delivered) (stage + 1) (pad_stage (shape_in c)) member posts
-        (end-past (run_after c delivered) stage posts end) (pads-speak (shape_in c) member least most) (omega (arith, here, late)) in
+    (end-past (run_after c delivered) stage posts end) (pads-speak (shape_in c) member least most) (omega (arith, here, late)) in
     let found = pads-row (shape_in c) (slots_before (shape_in c) (pad_stage (shape_in c))) k.checks.content.body
     (body-of_kind (run_after c delivered) posts (pad_stage (shape_in c)) member AtPad k (pad_is (shape_in c) (pad_stage (shape_in c)) refl))
-        in
+    in
     let reads : content_read (run_after c delivered).log.shape k.post.content ≡ Ok k.checks.content =
     ap (λ (s : Shape). content_read s k.post.content) end.honest.shape
-        ∙ content-reads (run_after c delivered) posts (pad_stage (shape_in c)) member k in
+    ∙ content-reads (run_after c delivered) posts (pad_stage (shape_in c)) member k in
     let listed = kept_is_read (run_after c delivered) k.post k.checks.content
-        (kept-post (run_after c delivered) (stage + 1) _ posts k.post end.kept k.at) reads in
+    (kept-post (run_after c delivered) (stage + 1) _ posts k.post end.kept k.at) reads in
     record {
       kept = k;
       pads = found.0;
@@ -236,31 +239,31 @@ pads-of c delivered stage member posts end late least most =
 -- the pad of a member for a slot
 pad-at : (shape : Shape) (past : List (List ℕ)) (member place : ℕ) (pads : List (List ℕ)) → 1 ≤ member → member ≤ shape.members
     → said_in shape past (pad_stage shape) member ≡ Pads pads → slice_get (pads_for (pads_sent shape past) place) (member - 1) ≡ Some
-        (slice_index_or pads place [])
+    (slice_index_or pads place [])
 unfolding pads_sent
 pad-at shape past member place pads least most said =
     slice_get-map (λ (row : List (List ℕ)). slice_index_or row place [])
-        (by_member shape (λ m. pads_in (said_in shape past (pad_stage shape) m))) (member - 1)
+    (by_member shape (λ m. pads_in (said_in shape past (pad_stage shape) m))) (member - 1)
     ∙ ap (option_map (λ (row : List (List ℕ)). slice_index_or row place []))
-        (by-member (λ m. pads_in (said_in shape past (pad_stage shape) m)) shape.members member least most)
+    (by-member (λ m. pads_in (said_in shape past (pad_stage shape) m)) shape.members member least most)
     ∙ ap (λ (b : Body). Some (slice_index_or (pads_in b) place [])) said
 
 pub pads-count : (shape : Shape) (past : List (List ℕ)) (place : ℕ) → length (pads_for (pads_sent shape past) place) ≡ shape.members
 unfolding pads_sent
 pads-count shape past place =
     length-map (by_member shape (λ m. pads_in (said_in shape past (pad_stage shape) m)))
-        (λ (row : List (List ℕ)). slice_index_or row place [])
+    (λ (row : List (List ℕ)). slice_index_or row place [])
     ∙ length-map-range_with_len (λ m. pads_in (said_in shape past (pad_stage shape) m)) 1 shape.members
 
 -- the strings of all pads of a slot are among those of the own run
 slot-strings : (c : Configuration) (delivered : List (List ℕ)) (stage place : ℕ) (posts : List Post)
     → IsKeptEnd (run_after c delivered) stage posts → (shape_in c).members + 4 < stage
     → place < (shape_in c).members → All (λ pad. Contains (strings_of_run (run_after c delivered)) (pad_string pad))
-        (pads_for (pads_sent (shape_in c) (contents_of posts)) place)
+    (pads_for (pads_sent (shape_in c) (contents_of posts)) place)
 slot-strings c delivered stage place posts end late within =
     all-places (λ pad. Contains (strings_of_run (run_after c delivered)) (pad_string pad)) _
     (all-from (λ pad. Contains (strings_of_run (run_after c delivered)) (pad_string pad))
-        (pads_for (pads_sent (shape_in c) (contents_of posts)) place) (λ k pad at. each k pad at))
+    (pads_for (pads_sent (shape_in c) (contents_of posts)) place) (λ k pad at. each k pad at))
   where
     pad-same : (a b : List ℕ) → (let told : List ℕ → Option (List ℕ) = λ z. Some z in told a ≡ told b) → a ≡ b
     pad-same a b e = cc
@@ -273,9 +276,9 @@ slot-strings c delivered stage place posts end late within =
         let next : k + 1 - 1 ≡ k = omega arith in
         let p = pads-of c delivered stage (k + 1) posts end late (omega arith) (omega (arith, few, count)) in
         let here = pad-at (shape_in c) (contents_of posts) (k + 1) place p.pads (omega arith) (omega (arith, few, count))
-            (said-in (run_after c delivered) posts (pad_stage (shape_in c)) (k + 1) p.kept ∙ p.is) in
+        (said-in (run_after c delivered) posts (pad_stage (shape_in c)) (k + 1) p.kept ∙ p.is) in
         let same = pad-same (slice_index_or p.pads place []) pad
-            (sym here ∙ ap (slice_get (pads_for (pads_sent (shape_in c) (contents_of posts)) place)) next ∙ at) in
+        (sym here ∙ ap (slice_get (pads_for (pads_sent (shape_in c) (contents_of posts)) place)) next ∙ at) in
         subst (λ (x : List ℕ). Contains (strings_of_run (run_after c delivered)) (pad_string x)) same
         (p.strings (slice_index_or p.pads place []) (place-listed p.pads place (let many = p.count in omega (arith, many, within))))
 
@@ -283,11 +286,11 @@ slot-strings c delivered stage place posts end late within =
 
 -- where everything that a run needs is at hand
 pub record AtEnd (c : Configuration) (delivered : List (List ℕ)) (runs : List Run) (stage : ℕ) (posts : List Post) (run : Run) : Type 0
-    where
-  pub end : IsAgreedEnd c delivered runs stage posts
-  pub late : (shape_in c).members + 4 < stage
-  pub listed : Contains runs run
-  pub round : run.config.round ≡ c.round
+  where
+    pub end : IsAgreedEnd c delivered runs stage posts
+    pub late : (shape_in c).members + 4 < stage
+    pub listed : Contains runs run
+    pub round : run.config.round ≡ c.round
 
 -- what a run has by them
 pub record RunFacts (c : Configuration) (run : Run) : Type 0 where
@@ -301,18 +304,23 @@ run-facts c runs run honest listed =
     let its = run-honest c.roster runs run honest listed in
     let shape_is : shape_in run.config ≡ shape_in c = ap (λ (r : Roster). shape_of_roster r) (run-roster c.roster runs run honest listed) in
     let bounds = slot-bounds (shape_in run.config) 0 run.config.number (own-speaks run.config its.config) in
-    record { honest = its; shape_is = shape_is; least = bounds.1; most = subst (λ (s : Shape). run.config.number ≤ s.members) shape_is
-        bounds.2 }
+    record {
+      honest = its;
+      shape_is = shape_is;
+      least = bounds.1;
+      most = subst (λ (s : Shape). run.config.number ≤ s.members) shape_is
+          bounds.2;
+    }
 
 -- the pads that a run sent are those that it has for the entries of the opened list
 pub run-pads : (c : Configuration) (delivered : List (List ℕ)) (runs : List Run) (stage place : ℕ) (posts : List Post) (run : Run)
     → AtEnd c delivered runs stage posts run
     → slice_get (pads_for (pads_sent (shape_in c) (contents_of posts)) place) (run.config.number - 1)
     ≡ Some (slice_index_or (map (pad_for run.config (own_descriptor run.config (contents_of posts)))
-        (items_opened (shape_in c) (contents_of posts) 1)) place [])
+    (items_opened (shape_in c) (contents_of posts) 1)) place [])
 run-pads c delivered runs stage place posts run e =
     pad-at shape (contents_of posts) run.config.number place sent_pads.pads facts.least facts.most
-        (said-in (run_after c delivered) posts (pad_stage shape) run.config.number sent_pads.kept ∙ sent_pads.is)
+    (said-in (run_after c delivered) posts (pad_stage shape) run.config.number sent_pads.kept ∙ sent_pads.is)
     ∙ ap (λ (pads : List (List ℕ)). Some (slice_index_or pads place [])) pads_are
   where
     shape : Shape
@@ -344,7 +352,7 @@ run-pads c delivered runs stage place posts run e =
     read_is = contents-same mine.row.read sent_pads.kept.checks.content (content_read shape mine.kept.post.content)
         (ap (λ (s : Shape). content_read s mine.kept.post.content) (sym facts.shape_is) ∙ row-reads run mine.kept.post.content mine.row)
         (ap (λ (p : Post). content_read shape p.content) one_post
-            ∙ content-reads (run_after c delivered) posts (pad_stage shape) run.config.number sent_pads.kept)
+        ∙ content-reads (run_after c delivered) posts (pad_stage shape) run.config.number sent_pads.kept)
 
     row_of : IsRowOf run (record { header = mine.row.read.header; body = Pads sent_pads.pads })
     row_of = record {
@@ -358,12 +366,12 @@ run-pads c delivered runs stage place posts run e =
     past_is =
         let same = same_past c delivered runs stage posts run e.end e.listed e.round in
         let pasts = row_past run (pad_stage shape) (stage - 1) mine.row.past same.past (omega (arith, here, late))
-            (subst (λ (s : ℕ). before run.log s ≡ Some mine.row.past) mine.at mine.row.before) same.kept in
+        (subst (λ (s : ℕ). before run.log s ≡ Some mine.row.past) mine.at mine.row.before) same.kept in
         ap contents_of pasts ∙ sym (take-map (λ (p : Post). p.content) (slots_before run.log.shape (pad_stage shape)) same.past)
         ∙ ap (λ (s : Shape). take (slots_before s (pad_stage shape)) (contents_of same.past)) (facts.honest.shape ∙ facts.shape_is)
         ∙ ap (take (slots_before shape (pad_stage shape))) same.same
         ∙ take-take (slots_before shape (pad_stage shape)) (slots_before shape (stage - 1)) (contents_of posts)
-            (slots_before-rises shape (pad_stage shape) (stage - 1) (omega (arith, here, late)))
+        (slots_before-rises shape (pad_stage shape) (stage - 1) (omega (arith, here, late)))
 
     row_stage : mine.row.stage ≡ pad_stage (shape_in run.config)
     row_stage = mine.at ∙ ap (λ (s : Shape). s.members + 4) (sym facts.shape_is)
@@ -376,13 +384,13 @@ run-pads c delivered runs stage place posts run e =
     row_same =
         ap (λ (p : List (List ℕ)). map (pad_for run.config (own_descriptor run.config p)) (items_opened (shape_in run.config) p 1)) past_is
         ∙ ap (λ (s : Shape). map (pad_for run.config (own_descriptor run.config (front shape (contents_of posts) (pad_stage shape))))
-            (items_opened s (front shape (contents_of posts) (pad_stage shape)) 1)) facts.shape_is
+        (items_opened s (front shape (contents_of posts) (pad_stage shape)) 1)) facts.shape_is
         ∙ ap (λ (items : List (Option (List ℕ))). map (pad_for run.config
-            (own_descriptor run.config (front shape (contents_of posts) (pad_stage shape)))) items)
-            (items-front shape (contents_of posts) (pad_stage shape) (omega (arith, here)))
+        (own_descriptor run.config (front shape (contents_of posts) (pad_stage shape)))) items)
+        (items-front shape (contents_of posts) (pad_stage shape) (omega (arith, here)))
         ∙ ap (λ (own : List ℕ). map (pad_for run.config own) (items_opened shape (contents_of posts) 1))
         (ap (λ (s : Shape). own_descriptor run.config (front s (contents_of posts) (pad_stage shape))) (sym facts.shape_is)
-            ∙ descriptor-front run.config (contents_of posts) (pad_stage shape) (omega (arith, here)))
+        ∙ descriptor-front run.config (contents_of posts) (pad_stage shape) (omega (arith, here)))
 
     pads_are : sent_pads.pads ≡ map (pad_for run.config own_there) (items_opened shape (contents_of posts) 1)
     pads_are = pads-own run mine.row.read.header sent_pads.pads row_of facts.honest.config.enter.message row_stage ∙ row_same
@@ -392,20 +400,20 @@ own-pad-there : (c : Configuration) (delivered : List (List ℕ)) (runs : List R
     → AtEnd c delivered runs stage posts run
     → slice_get (items_opened (shape_in c) (contents_of posts) 1) place ≡ Some (Some (own_descriptor run.config (contents_of posts)))
     → slice_get (pads_for (pads_sent (shape_in c) (contents_of posts)) place) (run.config.number - 1) ≡ Some
-        (own_pad (own_pad_seeds run.config) run.config.number run.config.message)
+    (own_pad (own_pad_seeds run.config) run.config.number run.config.message)
 own-pad-there c delivered runs stage place posts run e at =
     run-pads c delivered runs stage place posts run e
     ∙ ap (λ (pad : List ℕ). Some pad)
     (get_or_from_slice_get (map (pad_for run.config (own_descriptor run.config (contents_of posts)))
-        (items_opened (shape_in c) (contents_of posts) 1)) place
+    (items_opened (shape_in c) (contents_of posts) 1)) place
     (pad_for run.config (own_descriptor run.config (contents_of posts)) (Some (own_descriptor run.config (contents_of posts)))) []
     (slice_get-map (pad_for run.config (own_descriptor run.config (contents_of posts))) (items_opened (shape_in c) (contents_of posts) 1)
-        place
+    place
     ∙ ap (option_map (pad_for run.config (own_descriptor run.config (contents_of posts)))) at)
     ∙ pad_row-own (shape_in run.config).members (own_descriptor run.config (contents_of posts))
-        (own_pad (own_pad_seeds run.config) run.config.number run.config.message) run.config.number
+    (own_pad (own_pad_seeds run.config) run.config.number run.config.message) run.config.number
     (own_key_seed run.config bulk_place) (own_descriptor run.config (contents_of posts))
-        ((bytes_eq-Decides (own_descriptor run.config (contents_of posts)) (own_descriptor run.config (contents_of posts))).1 refl))
+    ((bytes_eq-Decides (own_descriptor run.config (contents_of posts)) (own_descriptor run.config (contents_of posts))).1 refl))
 
 -- ---- the message
 
@@ -423,14 +431,14 @@ slot-there c runs place posts run honest listed at =
     let facts = run-facts c runs run honest listed in
     let can = can-make-there run (shape_in c) (contents_of posts) facts.honest facts.shape_is in
     let reads : descriptor_read (shape_in c).members (own_descriptor run.config (contents_of posts)) ≡ Some
-        (made-of run (shape_in c) (contents_of posts)) =
+    (made-of run (shape_in c) (contents_of posts)) =
     ap (descriptor_read (shape_in c).members) (made-there run (shape_in c) (contents_of posts) facts.shape_is)
     ∙ spelled_are_read (shape_in c).members (made-of run (shape_in c) (contents_of posts))
     (made_is_of_grammar (shape_in c).members (keys_said (shape_in c) (contents_of posts) bulk_place) (own_pad_seeds run.config)
-        run.config.number run.config.message can) in
+    run.config.number run.config.message can) in
     state-at (shape_in c) (contents_of posts) place (Some (made-of run (shape_in c) (contents_of posts)))
     (descriptors-at (shape_in c) (contents_of posts) place (own_descriptor run.config (contents_of posts))
-        (made-of run (shape_in c) (contents_of posts)) at reads)
+    (made-of run (shape_in c) (contents_of posts)) at reads)
 
 -- where all pads fit, it holds the message
 fit-message : (c : Configuration) (delivered : List (List ℕ)) (runs : List Run) (stage place : ℕ) (posts : List Post) (run : Run)
@@ -438,19 +446,19 @@ fit-message : (c : Configuration) (delivered : List (List ℕ)) (runs : List Run
     → place < (shape_in c).members
     → first_unfit (made-of run (shape_in c) (contents_of posts)) (pads_for (pads_sent (shape_in c) (contents_of posts)) place) ≡ None
     → slot_state (Some (made-of run (shape_in c) (contents_of posts))) (pads_for (pads_sent (shape_in c) (contents_of posts)) place) ≡
-        Message run.config.message
+    Message run.config.message
 unfolding made-of
 fit-message c delivered runs stage place posts run e within fit =
     let facts = run-facts c runs run e.end.among.honest e.listed in
     all_fit_message (strings_of_runs runs) (shape_in c).members (keys_said (shape_in c) (contents_of posts) bulk_place)
-        (own_pad_seeds run.config) run.config.number run.config.message
+    (own_pad_seeds run.config) run.config.number run.config.message
     (pads_for (pads_sent (shape_in c) (contents_of posts)) place)
-        (can-make-there run (shape_in c) (contents_of posts) facts.honest facts.shape_is) e.end.distinct
+    (can-make-there run (shape_in c) (contents_of posts) facts.honest facts.shape_is) e.end.distinct
     (among-all runs run (made_pads (own_pad_seeds run.config) run.config.number run.config.message) e.listed
     (own-strings run (made_pads (own_pad_seeds run.config) run.config.number run.config.message)
-        (λ pad there_is. (run_has_strings run).own_pads pad there_is)))
+    (λ pad there_is. (run_has_strings run).own_pads pad there_is)))
     (among-all runs (run_after c delivered) (pads_for (pads_sent (shape_in c) (contents_of posts)) place) e.end.among.own
-        (slot-strings c delivered stage place posts e.end.kept e.late within))
+    (slot-strings c delivered stage place posts e.end.kept e.late within))
     (pads-count (shape_in c) (contents_of posts) place) fit
   where
     among-all : (runs : List Run) (run : Run) (pads : List (List ℕ)) → Contains runs run
@@ -476,7 +484,7 @@ accuses own opened states seeds place first at bad = by_first (first_below (leng
     here : first_in own (slice_index_or opened place None) (slice_index_or states place Empty) ≡ Some first
     here =
         ap (λ (o : Option (List ℕ)). first_in own o (slice_index_or states place Empty))
-            (get_or_from_slice_get opened place (Some own) None at)
+        (get_or_from_slice_get opened place (Some own) None at)
         ∙ ap (first_in own (Some own)) (get_or_from_slice_get states place (Bad first) Empty bad)
         ∙ cond-true (bytes_eq own own) (Some first) None ((bytes_eq-Decides own own).1 refl)
 
@@ -518,7 +526,7 @@ pub states-count : (shape : Shape) (past : List (List ℕ)) → length (slots_of
 unfolding slots_of_past descriptors_opened
 states-count shape past =
     length-map (enumerate_from 0 (map (option_and_then (descriptor_read shape.members)) (items_opened shape past 1)))
-        (λ (p : ℕ × Option Description). slot_state p.1 (pads_for (pads_sent shape past) p.0))
+    (λ (p : ℕ × Option Description). slot_state p.1 (pads_for (pads_sent shape past) p.0))
     ∙ length-enumerate_from 0 (map (option_and_then (descriptor_read shape.members)) (items_opened shape past 1))
     ∙ length-map (items_opened shape past 1) (option_and_then (descriptor_read shape.members))
 
@@ -539,39 +547,39 @@ bad-same a b e = cc
 not-itself : (c : Configuration) (delivered : List (List ℕ)) (runs : List Run) (stage : ℕ) (posts : List Post) (run : Run) (a : Accusation)
     → AtEnd c delivered runs stage posts run
     → item_accusation (own_descriptor run.config (contents_of posts)) (items_opened (shape_in c) (contents_of posts) 1)
-        (slots_of_past (shape_in c) (contents_of posts)) (own_pad_seeds run.config) ≡ Some a
+    (slots_of_past (shape_in c) (contents_of posts)) (own_pad_seeds run.config) ≡ Some a
     → a.member ≢ run.config.number
 unfolding made-of
 not-itself c delivered runs stage posts run a e accused same =
     let facts = run-facts c runs run e.end.among.honest e.listed in
     let is = accused-parts (own_descriptor run.config (contents_of posts)) (items_opened (shape_in c) (contents_of posts) 1)
-        (slots_of_past (shape_in c) (contents_of posts)) (own_pad_seeds run.config) a accused in
+    (slots_of_past (shape_in c) (contents_of posts)) (own_pad_seeds run.config) a accused in
     let within = is.within in
     let at = option-at (items_opened (shape_in c) (contents_of posts) 1) is.place (own_descriptor run.config (contents_of posts))
-        (omega (arith, within, states-count (shape_in c) (contents_of posts))) is.opens in
+    (omega (arith, within, states-count (shape_in c) (contents_of posts))) is.opens in
     let bad : slot_state (Some (made-of run (shape_in c) (contents_of posts)))
-        (pads_for (pads_sent (shape_in c) (contents_of posts)) is.place) ≡ Bad run.config.number =
+    (pads_for (pads_sent (shape_in c) (contents_of posts)) is.place) ≡ Bad run.config.number =
     state-same _ _ (sym (slot-there c runs is.place posts run e.end.among.honest e.listed at)
-        ∙ state-got (slots_of_past (shape_in c) (contents_of posts)) is.place (Bad a.member) is.within is.bad)
+    ∙ state-got (slots_of_past (shape_in c) (contents_of posts)) is.place (Bad a.member) is.within is.bad)
     ∙ ap (λ (m : ℕ). Bad m) same in
     elim (fits-or-bad (made-of run (shape_in c) (contents_of posts)) (pads_for (pads_sent (shape_in c) (contents_of posts)) is.place)) [
       | inl fit ↦ fit.1 run.config.number bad
       | inr (first, unfit, first_bad) ↦
           let number : first ≡ run.config.number = bad-same first run.config.number (sym first_bad ∙ bad) in
           let parts = unfit_is (made-of run (shape_in c) (contents_of posts))
-              (pads_for (pads_sent (shape_in c) (contents_of posts)) is.place) first unfit in
+          (pads_for (pads_sent (shape_in c) (contents_of posts)) is.place) first unfit in
           let pad = own-pad-there c delivered runs stage is.place posts run e at in
           let pad_is_there : slice_index_or (pads_for (pads_sent (shape_in c) (contents_of posts)) is.place) (first - 1) [] ≡ own_pad
-              (own_pad_seeds run.config) run.config.number run.config.message =
+          (own_pad_seeds run.config) run.config.number run.config.message =
           ap (λ (m : ℕ). slice_index_or (pads_for (pads_sent (shape_in c) (contents_of posts)) is.place) (m - 1) []) number
           ∙ get_or_from_slice_get (pads_for (pads_sent (shape_in c) (contents_of posts)) is.place) (run.config.number - 1) _ [] pad in
           not_both (fits (made-of run (shape_in c) (contents_of posts)) run.config.number
-              (own_pad (own_pad_seeds run.config) run.config.number run.config.message))
+          (own_pad (own_pad_seeds run.config) run.config.number run.config.message))
           (own_pad_fits (shape_in c).members (keys_said (shape_in c) (contents_of posts) bulk_place) (own_pad_seeds run.config)
-              run.config.number run.config.message
+          run.config.number run.config.message
           (can-make-there run (shape_in c) (contents_of posts) facts.honest facts.shape_is))
           (ap (λ (m : ℕ). fits (made-of run (shape_in c) (contents_of posts)) m
-              (own_pad (own_pad_seeds run.config) run.config.number run.config.message)) (sym number)
+          (own_pad (own_pad_seeds run.config) run.config.number run.config.message)) (sym number)
           ∙ ap (fits (made-of run (shape_in c) (contents_of posts)) first) (sym pad_is_there) ∙ parts.2)
     ]
 
@@ -583,19 +591,19 @@ table-count shape past = length-map-range_with_len (λ m. pads_in (said_in shape
 held-there : (c : Configuration) (runs : List Run) (posts : List Post) (run : Run) (a : Accusation) → AreHonest c.roster runs
     → Contains runs run
     → item_accusation (own_descriptor run.config (contents_of posts)) (items_opened (shape_in c) (contents_of posts) 1)
-        (slots_of_past (shape_in c) (contents_of posts)) (own_pad_seeds run.config) ≡ Some a
+    (slots_of_past (shape_in c) (contents_of posts)) (own_pad_seeds run.config) ≡ Some a
     → a.member ≢ run.config.number → is_held (shape_in c) (contents_of posts) a ≡ true
 unfolding is_held slots_of_past descriptors_opened
 held-there c runs posts run a honest listed accused other =
     let facts = run-facts c runs run honest listed in
     ap is_none (item_holds (shape_in c).members (keys_said (shape_in c) (contents_of posts) bulk_place) (own_pad_seeds run.config)
-        run.config.number run.config.message
+    run.config.number run.config.message
     (items_opened (shape_in c) (contents_of posts) 1) (pads_sent (shape_in c) (contents_of posts)) a
-        (can-make-there run (shape_in c) (contents_of posts) facts.honest facts.shape_is)
+    (can-make-there run (shape_in c) (contents_of posts) facts.honest facts.shape_is)
     (table-count (shape_in c) (contents_of posts))
     (ap (λ (own : List ℕ). item_accusation own (items_opened (shape_in c) (contents_of posts) 1)
     (slot_states (map (option_and_then (descriptor_read (shape_in c).members)) (items_opened (shape_in c) (contents_of posts) 1))
-        (pads_sent (shape_in c) (contents_of posts))) (own_pad_seeds run.config))
+    (pads_sent (shape_in c) (contents_of posts))) (own_pad_seeds run.config))
     (sym (made-there run (shape_in c) (contents_of posts) facts.shape_is)) ∙ accused) other)
 
 -- ---- the end of shuffle B
@@ -619,18 +627,18 @@ none-held v item a none listed spelled held =
 
 item-accuses : (run : Run) (shape : Shape) (past : List (List ℕ)) (own : List ℕ) (a : Accusation) → shape_in run.config ≡ shape
     → item_accusation own (items_opened shape past 1) (slots_of_past shape past) (own_pad_seeds run.config) ≡ Some a
-        → own_item run.config own past 2 ≡ accusation_spelling a
+    → own_item run.config own past 2 ≡ accusation_spelling a
 unfolding own_item item_row
 item-accuses run shape past own a shape_is accused =
     ap (λ (s : Shape). option_map_or accusation_spelling (item_accusation own (items_opened s past 1) (slots_of_past s past)
-        (own_pad_seeds run.config)) empty_item) shape_is
+    (own_pad_seeds run.config)) empty_item) shape_is
     ∙ ap (λ (o : Option Accusation). option_map_or accusation_spelling o empty_item) accused
 
 seed-long : (run : Run) (member : ℕ) → 1 ≤ member → member ≤ (shape_in run.config).members
     → length (slice_index_or (own_pad_seeds run.config) (member - 1) []) ≡ 32
 seed-long run member least most =
     ap length (get_or_from_slice_get (own_pad_seeds run.config) (member - 1) _ []
-        (by-member (derived run.config.fresh run.config.round 12) (shape_in run.config).members member least most))
+    (by-member (derived run.config.fresh run.config.round 12) (shape_in run.config).members member least most))
     ∙ (hash_bytes _ _).0
 
 -- the seeds of shuffle B
@@ -642,7 +650,7 @@ second-seeds c delivered runs stage posts end at kind = record {
   seeds = λ member least most.
       ap (λ (s : ℕ). key_of_seed (seed_in (said_in (shape_in c) (contents_of posts) s member))) (sym at)
       ∙ (bytes_eq-Decides (key_of_seed (seed_in (closing_body (closing_of c posts stage) member)))
-          (key_said (shape_in c) (contents_of posts) (inner_place 2) member)).0
+      (key_said (shape_in c) (contents_of posts) (inner_place 2) member)).0
       (end.agree.seeds 2 member kind (record { least = least; most = most }));
 }
 
@@ -708,13 +716,13 @@ own-slot-fits c delivered runs stage place posts run e work at =
 
     state : slice_get (slots_of_past shape (contents_of posts)) place
         ≡ Some (slot_state (Some (made-of run (shape_in c) (contents_of posts)))
-            (pads_for (pads_sent (shape_in c) (contents_of posts)) place))
+        (pads_for (pads_sent (shape_in c) (contents_of posts)) place))
     state = slot-there c runs place posts run e.end.among.honest e.listed at
 
     by_accusation : (shuffle : ℕ) → kind_of_stage shape stage ≡ Some (AtFinal shuffle) → shuffle ≢ 1
         → first_bad_pad (closing_of c posts stage) ≡ None
         → (a : Accusation) × (item_accusation (own_descriptor run.config (contents_of posts)) (items_opened shape (contents_of posts) 1)
-            (slots_of_past shape (contents_of posts)) (own_pad_seeds run.config) ≡ Some a) → ⊥
+        (slots_of_past shape (contents_of posts)) (own_pad_seeds run.config) ≡ Some a) → ⊥
     by_accusation shuffle kind second none (a, accused) =
         let end_is = second-end shape stage shuffle kind second in
         let kind2 : kind_of_stage shape stage ≡ Some (AtFinal 2) = kind ∙ ap (λ (s : ℕ). Some (AtFinal s)) end_is.0 in
@@ -725,20 +733,20 @@ own-slot-fits c delivered runs stage place posts run e work at =
         let other = not-itself c delivered runs stage posts run a e accused in
         let held = held-there c runs posts run a e.end.among.honest e.listed accused other in
         let opens = run-opens c delivered runs stage 2 (stage - 1) posts run e.end e.listed e.round
-            (contains-later 1 (2 ∷ []) 2 (contains-here 2 []))
+        (contains-later 1 (2 ∷ []) 2 (contains-here 2 []))
         (second-seeds c delivered runs stage posts e.end end_is.1 kind2) (omega (arith, stage_is, final)) (omega (arith, stage_is))
-            (λ not_first. omega (arith, stage_is, least, most))
+        (λ not_first. omega (arith, stage_is, least, most))
         (sym (ap (kind_of_stage shape) end_is.1) ∙ kind2) in
         let item_is : item_kept posts run 2 ≡ accusation_spelling a = item-accuses run shape (contents_of posts)
-            (own_descriptor run.config (contents_of posts)) a facts.shape_is accused in
+        (own_descriptor run.config (contents_of posts)) a facts.shape_is accused in
         let is = accused-parts (own_descriptor run.config (contents_of posts)) (items_opened shape (contents_of posts) 1)
-            (slots_of_past shape (contents_of posts)) (own_pad_seeds run.config) a accused in
+        (slots_of_past shape (contents_of posts)) (own_pad_seeds run.config) a accused in
         let member = named-member shape (contents_of posts) a held in
         let long : length a.seed ≡ 32 = ap length is.seed ∙ seed-long run a.member member.0
-            (subst (λ (s : Shape). a.member ≤ s.members) (sym facts.shape_is) member.1) in
+        (subst (λ (s : Shape). a.member ≤ s.members) (sym facts.shape_is) member.1) in
         none-held (closing_of c posts stage) (accusation_spelling a) a none
         (subst (λ (item : List ℕ). Contains (items_opened shape (contents_of posts) 2) (Some item)) item_is
-            (at-listed (items_opened shape (contents_of posts) 2) opens.0 (Some (item_kept posts run 2)) opens.1.opens))
+        (at-listed (items_opened shape (contents_of posts) 2) opens.0 (Some (item_kept posts run 2)) opens.1.opens))
         (accusation_of-spelling a long) held
 
     by_work : (first : ℕ) → slot_state (Some (made-of run (shape_in c) (contents_of posts)))
@@ -746,11 +754,11 @@ own-slot-fits c delivered runs stage place posts run e work at =
         → LeavesNoWork (closing_of c posts stage) → ⊥
     by_work first bad (inr (kind, none)) =
         not_both (is_bad (Bad first)) refl (none-bad (slots_of_past shape (contents_of posts)) place (Bad first) none
-            (state ∙ ap (λ (s : SlotState). Some s) bad))
+        (state ∙ ap (λ (s : SlotState). Some s) bad))
     by_work first bad (inl (shuffle, kind, second, none)) =
         by_accusation shuffle kind second none
         (accuses (own_descriptor run.config (contents_of posts)) (items_opened shape (contents_of posts) 1)
-            (slots_of_past shape (contents_of posts)) (own_pad_seeds run.config) place first at
+        (slots_of_past shape (contents_of posts)) (own_pad_seeds run.config) place first at
         (state ∙ ap (λ (s : SlotState). Some s) bad))
 
 -- ---- done
@@ -760,21 +768,24 @@ pub items-count : (c : Configuration) (delivered : List (List ℕ)) (stage : ℕ
     → length (items_opened (shape_in c) (contents_of posts) 1) ≡ (shape_in c).members
 items-count c delivered stage posts end late =
     let past = end-past (run_after c delivered) stage posts end in
-    opened-count c (stage + 1) posts (record { whole = past.long; reads = λ number slot post at there. checks-read c slot post
-        (past.checks number slot post at there) }) (omega (arith, late))
+    opened-count c (stage + 1) posts (record {
+      whole = past.long;
+      reads = λ number slot post at there. checks-read c slot post
+          (past.checks number slot post at there);
+    }) (omega (arith, late))
 
 -- where a run's message is
 run-message : (c : Configuration) (delivered : List (List ℕ)) (runs : List Run) (stage : ℕ) (posts : List Post) (run : Run)
     → AtEnd c delivered runs stage posts run
     → LeavesNoWork (closing_of c posts stage)
     → (place : ℕ) × OpensAt c posts 1 run place × (slice_get (slots_of_past (shape_in c) (contents_of posts)) place ≡ Some
-        (Message run.config.message))
+    (Message run.config.message))
 run-message c delivered runs stage posts run e work =
     let found = place_opens c delivered runs stage posts run e.end e.late e.listed e.round in
     let opens : slice_get (items_opened (shape_in c) (contents_of posts) 1) found.0 ≡ Some
-        (Some (own_descriptor run.config (contents_of posts))) =
+    (Some (own_descriptor run.config (contents_of posts))) =
     found.1.opens ∙ ap (λ (item : List ℕ). Some (Some item)) (item-first run.config (own_descriptor run.config (contents_of posts))
-        (contents_of posts)) in
+    (contents_of posts)) in
     let fit = own-slot-fits c delivered runs stage found.0 posts run e work opens in
     let within = slice_get_within (items_opened (shape_in c) (contents_of posts) 1) found.0 _ opens in
     let few : found.0 < (shape_in c).members = omega (arith, within, items-count c delivered stage posts e.end.kept e.late) in (
@@ -837,8 +848,8 @@ done-end c delivered slots is all e = elim (outcome-cases c delivered) [
     by_course part bytes run_is done slots_are =
         let closed = stand-closed c (first_posts c part) Done is (firsts-check c part bytes) done (λ goes. (let both = goes in cc)) in
         let found = done-verdict c (course_of c (first_posts c part)).past closed.0
-            (whole-end (settled_run c (first_posts c part)) closed.0 (course_of c (first_posts c part)).past closed.1.kept)
-            closed.1.verdict_is in
+        (whole-end (settled_run c (first_posts c part)) closed.0 (course_of c (first_posts c part)).past closed.1.kept)
+        closed.1.verdict_is in
         record {
           stage = closed.0;
           posts = (course_of c (first_posts c part)).past;
@@ -866,7 +877,7 @@ done-end c delivered slots is all e = elim (outcome-cases c delivered) [
     by_verdict count (Convicts t) least ends w = absurd cc
     by_verdict count Done least ends w =
         by_ending count (ap (λ (o : Option (ℕ × Verdict)). record
-            { config = c; log = settled_log c (first_posts c (counted_part delivered o)) }) least) ends
+        { config = c; log = settled_log c (first_posts c (counted_part delivered o)) }) least) ends
         (done-same slots (slots_of_past (shape_in c) (contents_of (stand_after c (take count delivered)).past)) w)
 
 pub work-late : (v : ClosedStage) → LeavesNoWork v → (shape_at v).members + 5 < v.stage
@@ -881,9 +892,9 @@ done_has_messages c delivered runs slots among distinct e = record {
       ∙ (place-of run listed its).2;
   apart = λ run other listed other_listed its others number.
       places_differ c runs end.posts 1 run other (place-of run listed its).0 (place-of other other_listed others).0 among.honest distinct
-          listed other_listed (contains-here 1 (2 ∷ []))
+      listed other_listed (contains-here 1 (2 ∷ []))
       (first-seeds c delivered runs end.stage end.posts agreed late) number (place-of run listed its).1
-          (place-of other other_listed others).1;
+      (place-of other other_listed others).1;
 }
   where
     end : IsDoneEnd c delivered slots
@@ -897,6 +908,6 @@ done_has_messages c delivered runs slots among distinct e = record {
 
     place-of : (run : Run) → Contains runs run → run.config.round ≡ c.round
         → (place : ℕ) × OpensAt c end.posts 1 run place × (slice_get (slots_of_past (shape_in c) (contents_of end.posts)) place ≡ Some
-            (Message run.config.message))
+        (Message run.config.message))
     place-of run listed its = run-message c delivered runs end.stage end.posts run
         (record { end = agreed; late = late; listed = listed; round = its }) end.work

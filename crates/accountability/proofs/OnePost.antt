@@ -154,30 +154,30 @@ wrong_seed_accepted run stage posts t end is =
     let c = run.config in
     let v : ClosedStage = closing_of run.config posts stage in
     let a = kept-in run (stage + 1) 0 is.member posts (end-past run stage posts end) (member-is run stage is.member posts is.is_member)
-        (omega arith) in
+    (omega arith) in
     let b = kept-end run stage is.member posts end is.is_member in
     let keys = keys-there (shape_in c) (slots_before (shape_in c) 0) a.checks.content.body
-        (body-of_kind run posts 0 is.member AtKeys a refl) in
+    (body-of_kind run posts 0 is.member AtKeys a refl) in
     let faithful = is.faithful is.member is.is_member in
     let assents : is_assent b.checks.content.body ≡ true =
     ap (λ (x : Content). is_assent x.body) (content-is run stage is.member posts faithful.content b faithful.reads) ∙ faithful.assents
-        ∙ is.votes in
+    ∙ is.votes in
     let reveal = reveal-there (shape_in c) (slots_before (shape_in c) stage) is.shuffle b.checks.content.body
-        (body-of_kind run posts stage is.member (AtFinal is.shuffle) b is.kind) assents in
+    (body-of_kind run posts stage is.member (AtFinal is.shuffle) b is.kind) assents in
     let said : closing_body (closing_of run.config posts stage) is.member ≡ Reveal reveal.votes reveal.seed = said-in run posts stage
-        is.member b ∙ reveal.is in
+    is.member b ∙ reveal.is in
     let keys_said_is : said_in (shape_in c) (contents_of posts) 0 is.member ≡ Keys keys.0 = said-in run posts 0 is.member a ∙ keys.1 in
     let same : t ≡ seed-evidence c.round is.member (post_spelling a.post) (post_spelling b.post) =
     transcript-same t _ is.verdict_is ∙ ap (λ (bytes : List ℕ). seed-evidence c.round is.member bytes (sent_in v stage is.member))
-        (sent-in run posts stage 0 is.member a)
+    (sent-in run posts stage 0 is.member a)
     ∙ ap (seed-evidence c.round is.member (post_spelling a.post)) (sent-in run posts stage stage is.member b) in
     subst (IsAccepted c.roster) (sym same)
     (seed-shown run stage is.member is.shuffle posts end is.is_member a b is.kind keys.0 reveal.votes reveal.seed keys.1 reveal.is
     (λ equal. not_both (is_inner_seed v is.shuffle is.member)
     ((bytes_eq-Decides (key_of_seed (seed_in (closing_body v is.member)))
-        (key_said (shape_in c) (contents_of posts) (inner_place is.shuffle) is.member)).1
+    (key_said (shape_in c) (contents_of posts) (inner_place is.shuffle) is.member)).1
     (ap (λ (body : Body). key_of_seed (seed_in body)) said ∙ equal
-        ∙ sym (ap (λ (body : Body). slice_index_or (keys_in body) (inner_place is.shuffle) []) keys_said_is)))
+    ∙ sym (ap (λ (body : Body). slice_index_or (keys_in body) (inner_place is.shuffle) []) keys_said_is)))
     is.wrong))
 
 -- ---- what a delivered string shows
@@ -249,8 +249,14 @@ malformed-accepted c bytes t is are malformed =
     let same : t ≡ malformed-evidence c.round malformed.heard.header.sender bytes = transcript-same t _ malformed.verdict_is in
     subst (IsAccepted c.roster) (sym same)
     (accept c.roster (malformed-evidence c.round malformed.heard.header.sender bytes)
-    (record { accused = parts.admitted.member; round = is.enter.round; detail = tt; count = refl; posts =
-        (spelled-most c bytes malformed.heard parts, tt) })
+    (record {
+      accused = parts.admitted.member;
+      round = is.enter.round;
+      detail = tt;
+      count = refl;
+      posts =
+          (spelled-most c bytes malformed.heard parts, tt);
+    })
     (record {
       post = bytes;
       listed = refl;
@@ -266,8 +272,14 @@ malformed-accepted c bytes t is are malformed =
 -- ---- two contents
 
 unfoldable pub two-evidence : ℕ → ℕ → List ℕ → List ℕ → Transcript
-two-evidence round member first second = record { claim = Equivocation; accused = member; round = round; detail = None; posts = first ∷
-    second ∷ [] }
+two-evidence round member first second = record {
+  claim = Equivocation;
+  accused = member;
+  round = round;
+  detail = None;
+  posts = first ∷
+      second ∷ [];
+}
 
 -- two posts of one slot that say different contents are accepted
 pub two-shown : (roster : Roster) (round : ℕ) (slot : Slot) (first second first_content second_content : List ℕ)
@@ -311,13 +323,13 @@ contradiction-accepted c firsts bytes t is check are other =
     let parts = heard-parts c bytes other.heard are other.is in
     let checks = check (slot_named other.heard.header) other.first other.kept in
     let same : t ≡ two-evidence c.round (slot_named other.heard.header).sender (post_spelling other.first) bytes = transcript-same t _
-        other.verdict_is in
+    other.verdict_is in
     subst (IsAccepted c.roster) (sym same)
     (two-shown c.roster c.round (slot_named other.heard.header) (post_spelling other.first) bytes other.first.content
-        other.heard.post.content
+    other.heard.post.content
     checks.content.header other.heard.header is.enter.round
     (spelled-short c (slot_named other.heard.header) other.first (checks-read c (slot_named other.heard.header) other.first checks))
-        (spelled-most c bytes other.heard parts)
+    (spelled-most c bytes other.heard parts)
     (file-says c (slot_named other.heard.header) other.first checks) (heard-says c bytes other.heard parts)
     checks.named refl other.differ)
 

@@ -43,8 +43,10 @@ use Rattle.phase_message.specs.Slots.{slot_number, slots_before}
 -- what was read, or a content that says nothing
 content-read : Result Content Offence → Content
 content-read (Ok content) = content
-content-read (Err offence) = record { header = record { version = 0; group = []; round = 0; stage = 0; sender = 0; view = [] }; body = Abort
-    }
+content-read (Err offence) = record {
+  header = record { version = 0; group = []; round = 0; stage = 0; sender = 0; view = [] };
+  body = Abort;
+}
 
 read-body : (r : Result Content Offence) → (content-read r).body ≡ body_of r
 unfolding content-read
@@ -75,7 +77,7 @@ parts-same : (v : ClosedStage) (o : Option StageKind) → parts_shown (shape_at 
 parts-same v (Some (AtFinal shuffle)) =
     ap (λ (f : ℕ → Shown). by_member (shape_at v) f)
     (same-shown (λ member. shown_in (said-by v member).body) (λ member. shown_in (closing_body v member))
-        (λ member. ap shown_in (said-body v member)))
+    (λ member. ap shown_in (said-body v member)))
 parts-same v None = refl
 parts-same v (Some AtKeys) = refl
 parts-same v (Some (AtSubmit shuffle)) = refl
@@ -123,21 +125,21 @@ objects run stage accused member posts end faithful disagree is =
     let k = kept-end run stage member posts end is in
     let content_is : k.checks.content ≡ f.content = content-is run stage member posts f.content k f.reads in
     let said_is : k.checks.content ≡ said-by (closing_of run.config posts stage) member = content_is
-        ∙ sym (said-reads v member f.content f.reads) in
+    ∙ sym (said-reads v member f.content f.reads) in
     let bytes_are : post_spelling k.post ≡ post_listed (replay-evidence run stage posts accused) member =
     sym (post-of_member (shape_in c) (sent_in v stage) member is.least is.most ∙ sent-in run posts stage stage member k) in
     let objects_there : is_assent f.content.body ≡ false = f.assents ∙ disagree in
     let stage_is : f.content.header.stage ≡ stage = ap (λ (x : Content). x.header.stage) (sym content_is)
-        ∙ content-stage run posts stage member k in
+    ∙ content-stage run posts stage member k in
     let past : List (List ℕ) = past_at v in
     let contents : contents_of f.posts ≡ past-replayed (closing_of run.config posts stage) =
     f.contents ∙ cond-false (is_assent f.content.body) _ (take (slots_before (shape_in c) f.content.header.stage) (past_at v)) objects_there
     ∙ ap (λ (s : ℕ). take (slots_before (shape_in c) s) (past_at v)) stage_is in
     subst (λ (x : Content). Objects c.roster c.round stage (past-replayed v) member
-        (post_listed (replay-evidence run stage posts accused) member) x) said_is
+    (post_listed (replay-evidence run stage posts accused) member) x) said_is
     (subst (λ (bytes : List ℕ). Objects c.roster c.round stage (past-replayed v) member bytes k.checks.content) bytes_are
     (subst (λ (x : Content). IsPostFile c.roster c.round (post_spelling k.post) x → x.header.sender ≡ member
-        → Objects c.roster c.round stage (past-replayed v) member (post_spelling k.post) x) (sym content_is)
+    → Objects c.roster c.round stage (past-replayed v) member (post_spelling k.post) x) (sym content_is)
     (λ file sender. record {
       file = file;
       sender = sender;
@@ -157,7 +159,7 @@ some-bytes a b e = cc
 sent-few : (run : Run) (stage place : ℕ) (posts : List Post) (bytes : List ℕ) → IsKeptEnd run stage posts
     → place < (shape_in run.config).members
     → slice_get (by_member (shape_in run.config) (sent_in (closing_of run.config posts stage) stage)) place ≡ Some bytes
-        → length bytes < 2 ^ 32
+    → length bytes < 2 ^ 32
 sent-few run stage place posts bytes end lt e =
     let v : ClosedStage = closing_of run.config posts stage in
     let is : IsMemberOf (closing_of run.config posts stage) (place + 1) = record { least = omega arith; most = omega (arith, lt) } in
@@ -166,14 +168,14 @@ sent-few run stage place posts bytes end lt e =
     let place_is : place + 1 - 1 ≡ place = omega arith in
     let same : bytes ≡ post_spelling k.post =
     some-bytes bytes _ (sym e ∙ sym (ap (slice_get (by_member (shape_in run.config) (sent_in v stage))) place_is) ∙ at)
-        ∙ sent-in run posts stage stage (place + 1) k in
+    ∙ sent-in run posts stage stage (place + 1) k in
     subst (λ (x : List ℕ). length x < 2 ^ 32) (sym same) (spelled-few run posts stage (place + 1) k)
 
 pub members-listed : (run : Run) (stage : ℕ) (posts : List Post)
     → length (by_member (shape_in run.config) (sent_in (closing_of run.config posts stage) stage)) ≡ (shape_in run.config).members
 members-listed run stage posts =
     length-map (range_with_len 1 (shape_in run.config).members) (sent_in (closing_of run.config posts stage) stage)
-        ∙ length-range_with_len 1 (shape_in run.config).members
+    ∙ length-range_with_len 1 (shape_in run.config).members
 
 pub replay_accepted : AcceptedFor IsReplay
 unfolding replay-evidence
@@ -192,7 +194,7 @@ replay_accepted run stage posts t end is =
       posts = all-from (λ (bytes : List ℕ). length bytes < 2 ^ 32) (by_member (shape_in c) (sent_in v stage))
           (λ place bytes at. sent-few run stage place posts bytes end
           (let within = slice_get_within (by_member (shape_in c) (sent_in v stage)) place bytes at in omega
-              (arith, within, members-listed run stage posts)) at);
+          (arith, within, members-listed run stage posts)) at);
     })
     (record {
       count = members-listed run stage posts;

@@ -62,7 +62,7 @@ counted-traced : (c : Configuration) (delivered : List (List ℕ)) (slot : Slot)
 counted-traced c delivered slot post None all kept = kept-traced c delivered slot post all kept
 counted-traced c delivered slot post (Some ending) all kept =
     widened (settled_run c (first_posts c (take ending.0 delivered))) (take ending.0 delivered) delivered
-        (λ bytes there. take-listed ending.0 delivered bytes there) (post_spelling post)
+    (λ bytes there. take-listed ending.0 delivered bytes there) (post_spelling post)
     (kept-traced c (take ending.0 delivered) slot post (All-take IsBytes ending.0 delivered all) kept)
 
 pub log-traced : (c : Configuration) (delivered : List (List ℕ)) (slot : Slot) (post : Post) → All IsBytes delivered
@@ -109,9 +109,9 @@ row-in c delivered runs later stage posts run among before_is listed round speak
     was_sent : Sent runs run.config.number k.post.content
     was_sent = subst (λ (n : ℕ). Sent runs n k.post.content) sender
         (traced-sent runs (run_after c delivered) delivered (post_spelling k.post) k.post k.checks.content.header c.round honest among.own
-            among.unforged
+        among.unforged
         (log-traced c delivered slot k.post among.bytes (slot-kept (run_after c delivered) later stage run.config.number posts honest
-            before_is speaks_there k)) framed (checks-header c slot k.post k.checks)
+        before_is speaks_there k)) framed (checks-header c slot k.post k.checks)
         (run, listed, sym sender))
 
     found : (other : Run) × IsRunOf runs run.config.number k.checks.content.header.round other × Contains (sent other) k.post.content
@@ -162,7 +162,7 @@ past-pieces (post ∷ posts) short = (short-content post (short 0 post refl), pa
 views-among : (runs : List Run) (run : Run) (stage : ℕ) (past : List Post) (shape : Shape) → Contains runs run → run.log.shape ≡ shape
     → stage < stage_count shape
     → before run.log stage ≡ Some past → (s : List ℕ) → Contains (view_strings shape (contents_of past) stage) s
-        → Contains (strings_of_runs runs) s
+    → Contains (strings_of_runs runs) s
 views-among runs run stage past shape listed shape_is lt kept s there =
     contains-flat-from strings_of_run runs run s listed
     ((run_has_strings run).views stage past s (omega (arith, lt, ap (λ (x : Shape). x.members) shape_is)) kept
@@ -237,17 +237,17 @@ same_past c delivered runs stage posts run end listed round = record {
     my_view : view_of shape (contents_of mine.row.past) (stage - 1) ≡ votes.view
     my_view =
         ap (λ (s : Shape). view_of s (contents_of mine.row.past) (stage - 1)) (sym shape_is)
-            ∙ ap (view_of (shape_in run.config) (contents_of mine.row.past)) (sym mine.at)
+        ∙ ap (view_of (shape_in run.config) (contents_of mine.row.past)) (sym mine.at)
         ∙ row-view run mine.kept.post.content mine.row closes.vote votes.view closes.votes
         (ap (kind_of_stage (shape_in run.config)) mine.at ∙ ap (λ (s : Shape). kind_of_stage s (stage - 1)) shape_is ∙ follows.1)
         (subst (λ (s : Shape). IsYes s votes.view mine.kept.post.content) (sym shape_is)
-            (votes.each run.config.number mine.kept.post.content its_within.0 its_within.1 text_there))
+        (votes.each run.config.number mine.kept.post.content its_within.0 its_within.1 text_there))
 
     other_view : view_of shape (contents_of other.row.past) (stage - 1) ≡ votes.view
     other_view =
         ap (view_of shape (contents_of other.row.past)) (sym other.at)
         ∙ row-view (run_after c delivered) other.text other.row closes.vote votes.view closes.votes
-            (ap (kind_of_stage shape) other.at ∙ follows.1)
+        (ap (kind_of_stage shape) other.at ∙ follows.1)
         (votes.each c.number other.text within.1 within.2 other.stands)
 
     my_past : IsPast run (stage - 1) mine.row.past
@@ -265,7 +265,7 @@ same_past c delivered runs stage posts run end listed round = record {
         let other_length = other_past.long in
         sym (take_all n (contents_of mine.row.past) (omega (arith, my_length, length-map mine.row.past (λ (p : Post). p.content))))
         ∙ views-determine shape (contents_of mine.row.past) (contents_of other.row.past) (strings_of_runs runs) (stage - 1)
-            (past-pieces mine.row.past my_past.short) (past-pieces other.row.past other_past.short)
+        (past-pieces mine.row.past my_past.short) (past-pieces other.row.past other_past.short)
         (views-among runs run (stage - 1) mine.row.past shape listed (its.shape ∙ shape_is) bound mine_kept)
         (views-among runs (run_after c delivered) (stage - 1) other.row.past shape end.among.own honest.shape bound other_kept)
         end.distinct (my_view ∙ sym other_view)

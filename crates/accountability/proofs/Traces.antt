@@ -58,7 +58,7 @@ ListsOnly P run stage posts t =
     → ((member : ℕ) (content : Content) (pair : Slot × List ℕ) → IsMemberOf (closing_of run.config posts stage) member
     → closing_content (closing_of run.config posts stage) member ≡ Ok content
     → is_content_justified run.config.roster run.config.round content ≡ true → Contains (embedded_pairs run.config.roster content) pair
-        → P pair.1)
+    → P pair.1)
     → (bytes : List ℕ) → Contains t.posts bytes → P bytes
 
 kept-listed : (run : Run) (posts : List Post) (stage member : ℕ) (k : KeptIn run posts stage member) → Contains posts k.post
@@ -137,7 +137,7 @@ verdict-lists P run stage posts t end e has embedded = by_case (verdict_cases v 
         → P bytes
     of-members bytes listed =
         let found = contains-map (sent_in (closing_of run.config posts stage) stage) (range_with_len 1 (shape_in run.config).members) bytes
-            listed in
+        listed in
         let within = range-within 1 (shape_in run.config).members found.0 found.1 in
         let most = within.1 in
         subst P found.2 (at-end found.0 (record { least = within.0; most = omega (arith, most) }))
@@ -148,7 +148,7 @@ verdict-lists P run stage posts t end e has embedded = by_case (verdict_cases v 
     of-pad is bytes listed = elim (append-cases _ _ bytes listed) [
       | inl front ↦
           let found = contains-map post_spelling (take (slots_before (shape_in run.config) (pad_stage (shape_in run.config))) posts) bytes
-              front in
+          front in
           subst P found.2 (has found.0 (take-listed _ posts found.0 found.1))
       | inr back ↦
           let member = named-member (shape_in run.config) (contents_of posts) is.accusation is.holds in
@@ -156,7 +156,7 @@ verdict-lists P run stage posts t end e has embedded = by_case (verdict_cases v 
           let late = b.late in
           let here : pad_stage (shape_in run.config) ≡ (shape_in run.config).members + 4 = refl in
           one-has P _ (in-slot (pad_stage (shape_in run.config)) is.accusation.member
-              (pads-speak (shape_in run.config) is.accusation.member member.0 member.1) (omega (arith, late, here))) bytes back
+          (pads-speak (shape_in run.config) is.accusation.member member.0 member.1) (omega (arith, late, here))) bytes back
     ]
 
     by_case : Case (closing_of run.config posts stage) (verdict_of (closing_of run.config posts stage)) → (bytes : List ℕ)
@@ -169,11 +169,11 @@ verdict-lists P run stage posts t end e has embedded = by_case (verdict_cases v 
         let before = there.earlier in
         in-posts P t _ _ is.verdict_is (sym e)
         (two-have P _ _ (in-slot is.pair.0.stage is.pair.0.sender there.speaks (omega arith))
-            (embedded is.member is.content is.pair is.is_member is.reads justified is.embedded))
+        (embedded is.member is.content is.pair is.is_member is.reads justified is.embedded))
     by_case (ByWrongSeed is) =
         in-posts P t _ _ is.verdict_is (sym e)
         (two-have P _ _ (in-slot 0 is.member (member-is run stage is.member posts is.is_member) (omega arith))
-            (at-end is.member is.is_member))
+        (at-end is.member is.is_member))
     by_case (ByReplay is) = in-posts P t _ _ is.verdict_is (sym e) of-members
     by_case (ByBadPad is) = in-posts P t _ _ is.verdict_is (sym e) (of-pad is)
     by_case (GoesOn agree work goes) = absurd (convicts-not t (verdict_of (closing_of run.config posts stage)) (inl goes) (sym e))
@@ -200,18 +200,18 @@ kept-speaks c others slot post e = elim (cases_Bool (is_slot (shape_in c) slot.s
 -- a kept post is
 pub kept-traced : (c : Configuration) (delivered : List (List ℕ)) (slot : Slot) (post : Post) → All IsBytes delivered
     → kept_in (settled_log c (first_posts c delivered)) slot ≡ Some post
-        → IsTraced (settled_run c (first_posts c delivered)) delivered (post_spelling post)
+    → IsTraced (settled_run c (first_posts c delivered)) delivered (post_spelling post)
 unfolding post_settled
 kept-traced c delivered slot post all e = elim (cases_Bool (slot.sender == c.number)) [
   | inl own ↦
       let slot_is : slot ≡ record { stage = slot.stage; sender = c.number } = ap (λ (s : ℕ). record { stage = slot.stage; sender = s })
-          (eqb-true slot.sender c.number own) in
+      (eqb-true slot.sender c.number own) in
       Own slot.stage post (sym (ap (kept_in (settled_log c (first_posts c delivered))) slot_is) ∙ e) refl
   | inr other ↦
       let speaks_there = kept-speaks c (first_posts c delivered) slot post e in
       let first : first_posts c delivered slot ≡ Some post =
       sym (cond-false (slot.sender == c.number) (own_post_at c (course_of c (first_posts c delivered)) slot.stage)
-          (first_posts c delivered slot) other)
+      (first_posts c delivered slot) other)
       ∙ sym (settled-kept c (first_posts c delivered) slot speaks_there) ∙ e in
       let is = first_posts_delivered c delivered slot post all first in
       let spelled = (framed-found is.bytes post (All-contains IsBytes delivered is.bytes all is.listed) is.spelled).1 in
@@ -267,7 +267,7 @@ slot-kept run later stage member posts honest kept speaks k =
     let is = past-kept run.log later number posts k.post honest.log kept k.at in
     let same : is.slot ≡ record { stage = stage; sender = member } =
     some-slot is.slot _ (sym is.at ∙ ap (λ (s : Shape). slot_at s number) honest.shape
-        ∙ slot_at-number (shape_in run.config) stage member speaks) in
+    ∙ slot_at-number (shape_in run.config) stage member speaks) in
     subst (λ (s : Slot). kept_in run.log s ≡ Some k.post) same is.kept
   where
     some-slot : (a b : Slot) → (let told : Slot → Option Slot = λ z. Some z in told a ≡ told b) → a ≡ b
@@ -280,33 +280,33 @@ own-embedded : (c : Configuration) (delivered : List (List ℕ)) (stage : ℕ) (
     → All IsBytes delivered
     → IsKeptEnd (settled_run c (first_posts c delivered)) stage posts
     → (number : ℕ) → number ≡ c.number → (k : KeptIn (settled_run c (first_posts c delivered)) posts stage number)
-        → k.checks.content ≡ content
+    → k.checks.content ≡ content
     → is_slot (shape_in c) stage number ≡ true
     → Contains (embedded_pairs c.roster content) pair → IsTraced (settled_run c (first_posts c delivered)) delivered pair.1
 own-embedded c delivered stage posts content pair all end number mine k content_is speaks_number listed =
     let run : Run = settled_run c (first_posts c delivered) in
     let own = own-said (settled_run c (first_posts c delivered)) (stage + 1) stage posts end.honest end.kept
-        (subst (λ (n : ℕ). is_slot (shape_in c) stage n ≡ true) mine speaks_number) (omega arith) in
+    (subst (λ (n : ℕ). is_slot (shape_in c) stage n ≡ true) mine speaks_number) (omega arith) in
     let stands : slice_get (contents_of posts) (slot_number (shape_in c) stage number) ≡ Some own.text =
     ap (λ (n : ℕ). slice_get (contents_of posts) (slot_number (shape_in c) stage n)) mine ∙ own.stands in
     let text : own.text ≡ k.post.content = texts-same own.text k.post.content
-        (sym stands ∙ slice_get-map (λ (p : Post). p.content) posts _ ∙ ap (option_map (λ (p : Post). p.content)) k.at) in
+    (sym stands ∙ slice_get-map (λ (p : Post). p.content) posts _ ∙ ap (option_map (λ (p : Post). p.content)) k.at) in
     let same : own.row.read ≡ content = contents-same own.row.read k.checks.content (content_read (shape_in c) own.text)
-        (row-reads run own.text own.row)
+    (row-reads run own.text own.row)
     (ap (content_read (shape_in c)) text ∙ content-reads run posts stage number k) ∙ content_is in
     let closing : is_some (option_and_then vote_of (kind_of_stage (shape_in c) own.row.stage)) ≡ true = ap (is_closing (shape_in c)) own.at
-        ∙ end.closing in
+    ∙ end.closing in
     let closes = own-closing run own.text own.row end.honest closing in
     let embeds : posts_in_content c.roster c.round content ≡ Ok (embedded_of (shape_in c) own.row.read own.row.past) = ap
-        (λ (x : Content). posts_in_content c.roster c.round x) (sym same) ∙ closes.embeds in
+    (λ (x : Content). posts_in_content c.roster c.round x) (sym same) ∙ closes.embeds in
     let bytes = subst (λ (x : Content). IsBytes (body_text x.body)) content_is (body-bytes run posts stage number k) in
     let are = (posts_are_found c.roster c.round 0 (embedded_pairs c.roster content) (embedded_of (shape_in c) own.row.read own.row.past)
     (zip-bytes (slots_embedded (shape_in c) content) (posts_embedded content.body)
-        (all-places IsBytes (posts_embedded content.body) (embedded-bytes content.body bytes)))).0 embeds in
+    (all-places IsBytes (posts_embedded content.body) (embedded-bytes content.body bytes)))).0 embeds in
     let found = all-zip-in (λ (p : Slot × List ℕ) (post : Post). IsPostOf c.roster c.round p.0 p.1 post) (embedded_pairs c.roster content) _
-        pair are listed in
+    pair are listed in
     let at = past-slot run own.row.stage own.row.past found.0 end.honest own.row.before
-        (embedded-of_past (shape_in c) own.row.read own.row.past found.0 found.1) in
+    (embedded-of_past (shape_in c) own.row.read own.row.past found.0 found.1) in
     subst (IsTraced run delivered) (sym found.2.spelled) (kept-traced c delivered at.0 found.0 all at.1)
   where
     texts-same : (a b : List ℕ) → (let told : List ℕ → Option (List ℕ) = λ z. Some z in told a ≡ told b) → a ≡ b
@@ -339,11 +339,11 @@ embedded-traced c delivered stage member posts content pair all end is reads lis
         let kept = slot-kept run (stage + 1) stage member posts end.honest end.kept speaks_there k in
         let first : first_posts c delivered (record { stage = stage; sender = member }) ≡ Some k.post =
         sym (cond-false (member == c.number) (own_post_at c (course_of c (first_posts c delivered)) stage)
-            (first_posts c delivered (record { stage = stage; sender = member })) other)
+        (first_posts c delivered (record { stage = stage; sender = member })) other)
         ∙ sym (settled-kept c (first_posts c delivered) (record { stage = stage; sender = member }) speaks_there) ∙ kept in
         let found = first_posts_delivered c delivered (record { stage = stage; sender = member }) k.post all first in
         let stage_is : content.header.stage ≡ stage = ap (λ (x : Content). x.header.stage) (sym content_is)
-            ∙ content-stage run posts stage member k in
+        ∙ content-stage run posts stage member k in
         Given (inr (
           found.bytes,
           found.listed,

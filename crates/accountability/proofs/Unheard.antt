@@ -28,14 +28,14 @@ no-last : (c : Configuration) (part : List (List ℕ)) → ending_of c part ≡ 
 unfolding ending_of
 no-last c part e =
     (first_some-none_parts (option_and_then (fault_shown c (first_posts c part)) (last_of part))
-        (ending_verdict (stand_after c part).verdict ∷ []) e).0
+    (ending_verdict (stand_after c part).verdict ∷ []) e).0
 
 part-open : (c : Configuration) (delivered : List (List ℕ)) (count : ℕ) → least_ending c delivered ≡ None → count < suc (length delivered)
     → ending_of c (take count delivered) ≡ None
 unfolding least_ending
 part-open c delivered count e lt =
     nothing_mapped (λ (verdict : Verdict). (count, verdict)) (ending_of c (take count delivered))
-        (first_below-each (ending_at c delivered) (suc (length delivered)) e count lt)
+    (first_below-each (ending_at c delivered) (suc (length delivered)) e count lt)
 
 sound-when : (c : Configuration) (bytes : List ℕ) (heard : Heard) → malformed_conviction c bytes heard ≡ None → is_ok heard.content ≡ true
 sound-when c bytes heard e = elim (cases_Bool (is_ok heard.content)) [
@@ -54,15 +54,15 @@ heard-sound c delivered bytes heard least listed e =
     let at : length part - 1 ≡ k = omega (arith, long) in
     let last : last_of part ≡ Some bytes =
     ap (slice_get part) at ∙ slice_get-take delivered (suc k) k (omega arith) ∙ slice_get-get_or delivered k bytes lt
-        ∙ ap (λ (x : List ℕ). Some x) listed.2 in
+    ∙ ap (λ (x : List ℕ). Some x) listed.2 in
     let none : fault_shown c (first_posts c part) bytes ≡ None =
     sym (ap (option_and_then (fault_shown c (first_posts c part))) last)
-        ∙ no-last c part (part-open c delivered (suc k) least (omega (arith, lt))) in
+    ∙ no-last c part (part-open c delivered (suc k) least (omega (arith, lt))) in
     let each : first_some (malformed_conviction c bytes heard ∷ contradiction c (first_posts c part) bytes heard ∷ []) ≡ None =
     sym (ap (option_and_then (λ (heard : Heard). first_some (malformed_conviction c bytes heard ∷ contradiction c (first_posts c part) bytes
-        heard ∷ []))) e) ∙ none in
+    heard ∷ []))) e) ∙ none in
     sound-when c bytes heard (first_some-none_parts (malformed_conviction c bytes heard)
-        (contradiction c (first_posts c part) bytes heard ∷ []) each).0
+    (contradiction c (first_posts c part) bytes heard ∷ []) each).0
 
 -- ---- what is missing
 
@@ -72,10 +72,10 @@ given-when : (c : Configuration) (slot : Slot) (bytes : List ℕ) (heard : Heard
 unfolding post_given
 given-when c slot bytes heard e named reads =
     let names : names_slot slot heard.header ≡ true = subst (λ (s : Slot). names_slot s heard.header ≡ true) named (names-self heard.header)
-        in
+    in
     ap (option_and_then (heard_in slot)) e
     ∙ cond-true (names_slot slot heard.header && is_ok heard.content) (Some heard.post) None
-        (and_from (names_slot slot heard.header) (is_ok heard.content) names reads)
+    (and_from (names_slot slot heard.header) (is_ok heard.content) names reads)
 
 -- a string that gives a slot a post is heard for it
 record IsHeardFor (c : Configuration) (slot : Slot) (bytes : List ℕ) : Type 0 where
@@ -89,8 +89,12 @@ unfolding post_given
 heard-when c slot bytes post e =
     let heard = and-then-parts (heard_in slot) (heard_of c bytes) post e in
     elim (cases_Bool (names_slot slot heard.0.header && is_ok heard.0.content)) [
-      | inl both ↦ record { heard = heard.0; is = heard.1; named = sym
-          (names-is slot heard.0.header (and_parts (names_slot slot heard.0.header) (is_ok heard.0.content) both).0) }
+      | inl both ↦ record {
+        heard = heard.0;
+        is = heard.1;
+        named = sym
+            (names-is slot heard.0.header (and_parts (names_slot slot heard.0.header) (is_ok heard.0.content) both).0);
+      }
       | inr other ↦ absurd (none-some post (sym (cond-false (names_slot slot heard.0.header && is_ok heard.0.content) (Some heard.0.post)
           None other) ∙ heard.2))
     ]
@@ -110,7 +114,7 @@ pub missing-unheard : (c : Configuration) (delivered : List (List ℕ)) (slot : 
 unfolding first_posts
 missing-unheard c delivered slot least none bytes heard listed e named =
     none-some heard.post (sym (none-of (post_given c slot) delivered bytes none listed)
-        ∙ given-when c slot bytes heard e named (heard-sound c delivered bytes heard least listed e))
+    ∙ given-when c slot bytes heard e named (heard-sound c delivered bytes heard least listed e))
 
 -- and where nothing is heard the post is missing
 pub unheard-missing : (c : Configuration) (delivered : List (List ℕ)) (slot : Slot) → IsUnheard c delivered slot

@@ -53,7 +53,7 @@ vote-at : (shape : Shape) (contents : List (List ℕ)) (votes : List Vote) (k : 
 vote-at shape contents votes k text e all at =
     let each : map (vote_of shape) contents ≡ map (λ vote. Some vote) votes = all_some-is (map (vote_of shape) contents) votes e in
     let here : slice_get (map (vote_of shape) contents) k ≡ Some (vote_of shape text) = slice_get-map (vote_of shape) contents k
-        ∙ ap (option_map (vote_of shape)) at in
+    ∙ ap (option_map (vote_of shape)) at in
     let found = option_map-some (λ (vote : Vote). Some vote) (slice_get votes k) (vote_of shape text)
     (sym (slice_get-map (λ (vote : Vote). Some vote) votes k) ∙ sym (ap (λ (xs : List (Option Vote)). slice_get xs k) each) ∙ here) in
     let parts = all.1 k found.0 (slice_get_within votes k found.0 found.1) in
@@ -120,9 +120,9 @@ unfolding go_row
 go-flags shape past stage inner view own_view vote e approves its_view =
     let flag : Bool = all_right shape past stage && stands_last shape inner (lists_before shape past stage) in
     let same : record { yes = all_right shape past stage && stands_last shape inner (lists_before shape past stage); view = own_view } ≡
-        vote = vote-same _ vote e in
+    vote = vote-same _ vote e in
     let parts = and_parts (all_right shape past stage) (stands_last shape inner (lists_before shape past stage))
-        (ap (λ (v : Vote). v.yes) same ∙ approves) in
+    (ap (λ (v : Vote). v.yes) same ∙ approves) in
     (none-is (first_wrong shape past stage) parts.0, parts.1, ap (λ (v : Vote). v.view) same ∙ its_view)
 
 -- the vote that a row is
@@ -143,11 +143,11 @@ go-yes run text row shuffle view kind yes_is =
     let past : List (List ℕ) = contents_of row.past in
     let inner : List ℕ = (own_submission c (own_descriptor c past) past shuffle).inner_ciphertext in
     let due : body_due run text row ≡ go_row shape past row.stage inner = ap (own_body_if c (own_descriptor c past) row.past row.stage) kind
-        in
+    in
     let body = ap (λ (x : Content). x.body) (row-is run text row
-        (subst (IsBody shape row.stage) (sym due) (go-body shape past row.stage shuffle inner kind))) ∙ due in
+    (subst (IsBody shape row.stage) (sym due) (go-body shape past row.stage shuffle inner kind))) ∙ due in
     let flags = go-flags shape past row.stage inner view (view_of shape past row.stage) yes_is.vote
-        (row-vote run text row view (go_row shape past row.stage inner) yes_is body) yes_is.approves yes_is.carries in
+    (row-vote run text row view (go_row shape past row.stage inner) yes_is body) yes_is.approves yes_is.carries in
     record { right = flags.0; stands = flags.1; carries = flags.2 }
 
 -- all that a member saw before its vote on what was seen is right
@@ -172,7 +172,7 @@ check-yes run text row view kind yes_is =
     let past : List (List ℕ) = contents_of row.past in
     let due : body_due run text row ≡ check_row shape past row.stage = ap (own_body_if c (own_descriptor c past) row.past row.stage) kind in
     let body = ap (λ (x : Content). x.body) (row-is run text row
-        (subst (IsBody shape row.stage) (sym due) (check-body shape past row.stage kind))) ∙ due in
+    (subst (IsBody shape row.stage) (sym due) (check-body shape past row.stage kind))) ∙ due in
     let flags = check-flags shape past row.stage view (view_of shape past row.stage) yes_is.vote
-        (row-vote run text row view (check_row shape past row.stage) yes_is body) yes_is.approves yes_is.carries in
+    (row-vote run text row view (check_row shape past row.stage) yes_is body) yes_is.approves yes_is.carries in
     record { right = flags.0; carries = flags.1 }

@@ -28,7 +28,7 @@ abbrev pub AllDelivered : Configuration → List (List ℕ) → Type 0
 AllDelivered c delivered = (stage member : ℕ) → IsTrue (is_slot (shape_in c) stage member) → stage ≤ (shape_in c).members + 6
     → member ≢ c.number →
     (bytes : List ℕ) × (post : Post) × Contains delivered bytes
-        × IsPostOf c.roster c.round (record { stage = stage; sender = member }) bytes post
+    × IsPostOf c.roster c.round (record { stage = stage; sender = member }) bytes post
 
 -- where all members have runs and all this was delivered, the round is done, with the message of each of them
 abbrev pub AllHonest : Type 0

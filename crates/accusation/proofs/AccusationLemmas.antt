@@ -62,9 +62,9 @@ seed_not_refused d member seed key sent h =
     let same = bytes_eq sent (pad_of seed d.length) in
     let apart : same ≡ false = false_from_ne_true same (λ is. h.other ((bytes_eq-Decides sent (pad_of seed d.length)).0 is)) in
     first_some-none (fault_unless capsule Capsule) (fault_unless hash PadHash ∷ fault_unless (not same) PadSent ∷ [])
-        (fault_unless-true capsule Capsule ((bytes_eq-Decides (capsule_for d member) (capsule_of key seed)).1 h.sealed))
+    (fault_unless-true capsule Capsule ((bytes_eq-Decides (capsule_for d member) (capsule_of key seed)).1 h.sealed))
     ∙ first_some-none (fault_unless hash PadHash) (fault_unless (not same) PadSent ∷ [])
-        (fault_unless-true hash PadHash ((bytes_eq-Decides (hash_of_pad (pad_of seed d.length)) (pad_hash_for d member)).1 h.hash))
+    (fault_unless-true hash PadHash ((bytes_eq-Decides (hash_of_pad (pad_of seed d.length)) (pad_hash_for d member)).1 h.hash))
     ∙ first_some-none (fault_unless (not same) PadSent) [] (fault_unless-true (not same) PadSent (not_from_false same apart))
 
 -- the member of a choice that gave nothing
@@ -76,21 +76,27 @@ of_descriptor : (d : Description) (a : Accusation) (table : List (List (List ℕ
     → refusal_by (Some d) a table keys ≡ None → HoldsOf d a table keys
 of_descriptor d a table keys e =
     let parts = chosen_none (nat_le 1 a.member && nat_le a.member (length keys))
-        (seed_refusal d a.member a.seed (key_for keys a.member) (pad_sent table a.member a.slot)) e in
+    (seed_refusal d a.member a.seed (key_for keys a.member) (pad_sent table a.member a.slot)) e in
     let within = and_parts (nat_le 1 a.member) (nat_le a.member (length keys)) parts.0 in
     let h = seed_holds d a.member a.seed (key_for keys a.member) (pad_sent table a.member a.slot) parts.1 in
-    record { first = leb-true 1 a.member within.0; last = leb-true a.member (length keys) within.1; sealed = h.sealed; hash = h.hash; other
-        = h.other }
+    record {
+      first = leb-true 1 a.member within.0;
+      last = leb-true a.member (length keys) within.1;
+      sealed = h.sealed;
+      hash = h.hash;
+      other
+          = h.other;
+    }
 
 not_refused : (d : Description) (a : Accusation) (table : List (List (List ℕ))) (keys : List (List ℕ)) → HoldsOf d a table keys
     → refusal_by (Some d) a table keys ≡ None
 not_refused d a table keys h =
     let within = and_from (nat_le 1 a.member) (nat_le a.member (length keys)) (le-leb 1 a.member h.first)
-        (le-leb a.member (length keys) h.last) in
+    (le-leb a.member (length keys) h.last) in
     cond-true (nat_le 1 a.member && nat_le a.member (length keys))
-        (seed_refusal d a.member a.seed (key_for keys a.member) (pad_sent table a.member a.slot)) (Some Member) within
+    (seed_refusal d a.member a.seed (key_for keys a.member) (pad_sent table a.member a.slot)) (Some Member) within
     ∙ seed_not_refused d a.member a.seed (key_for keys a.member) (pad_sent table a.member a.slot)
-        (record { sealed = h.sealed; hash = h.hash; other = h.other })
+    (record { sealed = h.sealed; hash = h.hash; other = h.other })
 
 exactly_by : (o : Option Description) (a : Accusation) (table : List (List (List ℕ))) (keys : List (List ℕ))
     → (refusal_by o a table keys ≡ None) ↔ ((d : Description) × (o ≡ Some d) × HoldsOf d a table keys)
@@ -110,7 +116,7 @@ row_alone : (o : Option Description) (a : Accusation) (table table' : List (List
 row_alone None a table table' keys same = refl
 row_alone (Some d) a table table' keys same =
     ap (λ (row : List (List ℕ)). cond (nat_le 1 a.member && nat_le a.member (length keys))
-        (seed_refusal d a.member a.seed (key_for keys a.member) (get_or row (a.slot - 1) [])) (Some Member)) same
+    (seed_refusal d a.member a.seed (key_for keys a.member) (get_or row (a.slot - 1) [])) (Some Member)) same
 
 pub holds_looks_at_one : HoldsLooksAtOne
 unfolding refusal_of
@@ -185,9 +191,9 @@ length-pads_for table slot = length-map table (λ (row : List (List ℕ)). get_o
 pub states_name_members : StatesNameMembers
 states_name_members descriptors table =
     All-map (NamesWithin (length table)) (λ (p : ℕ × Option Description). slot_state p.1 (pads_for table p.0))
-        (enumerate_from 0 descriptors)
+    (enumerate_from 0 descriptors)
     (λ k d h. subst (λ (n : ℕ). NamesWithin n (slot_state (get_or (enumerate_from 0 descriptors) k d).1
-        (pads_for table (get_or (enumerate_from 0 descriptors) k d).0))) (length-pads_for table _) (names _ _))
+    (pads_for table (get_or (enumerate_from 0 descriptors) k d).0))) (length-pads_for table _) (names _ _))
 
 -- ---- what a maker accuses
 state_at : (descriptors : List (Option Description)) (table : List (List (List ℕ))) (k : ℕ) → k < length descriptors
@@ -204,7 +210,7 @@ pub holds_at : (n : ℕ) (keys seeds : List (List ℕ)) (maker : ℕ) (message :
     → CanMake n keys seeds maker message → length table ≡ n
     → slot_state (Some (made_descriptor keys seeds maker message)) (pads_for table k) ≡ Bad first → first ≢ maker
     → HoldsOf (made_descriptor keys seeds maker message) (record { slot = k + 1; member = first; seed = get_or seeds (first - 1) [] }) table
-        keys
+    keys
 unfolding slot_state
 holds_at n keys seeds maker message table k first can rows bad other =
     let d = made_descriptor keys seeds maker message in
@@ -214,11 +220,11 @@ holds_at n keys seeds maker message table k first can rows bad other =
     let long = length_of-made keys seeds maker message in
     let fit = other_pads_fit n keys seeds maker first message can unfit.0 below other in
     let hash : hash_of_pad (pad_of (get_or seeds (first - 1) []) (length message)) ≡ pad_hash_for d first =
-        (fits_parts d first (pad_of (get_or seeds (first - 1) []) (length message)) fit).1 in
+    (fits_parts d first (pad_of (get_or seeds (first - 1) []) (length message)) fit).1 in
     let place : k + 1 - 1 ≡ k = omega arith in
     let sent : pad_sent table first (k + 1) ≡ get_or pads (first - 1) [] =
     ap (λ (i : ℕ). get_or (get_or table (first - 1) []) i []) place
-        ∙ sym (get_or-map (λ (row : List (List ℕ)). get_or row k []) table (first - 1) [] [] (omega (arith, unfit.0))) in
+    ∙ sym (get_or-map (λ (row : List (List ℕ)). get_or row k []) table (first - 1) [] [] (omega (arith, unfit.0))) in
     record {
       first = unfit.0;
       last = omega (arith, below, can.as_many_keys);
@@ -258,7 +264,7 @@ holds_in_slot : (n : ℕ) (keys seeds : List (List ℕ)) (maker : ℕ) (message 
     → k < length opened → get_or opened k None ≡ Some (descriptor_text (made_descriptor keys seeds maker message))
     → get_or (slot_states (map (option_and_then (descriptor_read n)) opened) table) k Empty ≡ Bad first → first ≢ maker
     → refusal_of (record { slot = k + 1; member = first; seed = get_or seeds (first - 1) [] })
-        (map (option_and_then (descriptor_read n)) opened) table keys ≡ None
+    (map (option_and_then (descriptor_read n)) opened) table keys ≡ None
 holds_in_slot n keys seeds maker message opened table k first can rows h own bad other =
     let d = made_descriptor keys seeds maker message in
     let descriptors = map (option_and_then (descriptor_read n)) opened in
@@ -266,13 +272,13 @@ holds_in_slot n keys seeds maker message opened table k first can rows h own bad
     let below : k < length descriptors = omega (arith, length-map opened (option_and_then (descriptor_read n))) in
     let there : get_or descriptors k None ≡ Some d =
     get_or-map (option_and_then (descriptor_read n)) opened k None None h ∙ ap (option_and_then (descriptor_read n)) own
-        ∙ spelled_are_read n d (made_is_of_grammar n keys seeds maker message can) in
+    ∙ spelled_are_read n d (made_is_of_grammar n keys seeds maker message can) in
     let state : slot_state (Some d) (pads_for table k) ≡ Bad first = ap (λ (o : Option Description). slot_state o (pads_for table k))
-        (sym there) ∙ sym (state_at descriptors table k below) ∙ bad in
+    (sym there) ∙ sym (state_at descriptors table k below) ∙ bad in
     let place : k + 1 - 1 ≡ k = omega arith in
     let at : descriptor_at descriptors (k + 1) ≡ Some d =
     cond-true (nat_le 1 (k + 1)) (get_or descriptors (k + 1 - 1) None) None (le-leb 1 (k + 1) (omega arith))
-        ∙ ap (λ (i : ℕ). get_or descriptors i None) place ∙ there in
+    ∙ ap (λ (i : ℕ). get_or descriptors i None) place ∙ there in
     (holds_exactly a descriptors table keys).1 (d, at, holds_at n keys seeds maker message table k first can rows state other)
 
 pub item_holds : ItemHolds
@@ -282,8 +288,8 @@ item_holds n keys seeds maker message opened table a can rows e other =
     let descriptors = map (option_and_then (descriptor_read n)) opened in
     let states = slot_states descriptors table in
     let long : length states ≡ length opened = length-map (enumerate_from 0 descriptors)
-        (λ (p : ℕ × Option Description). slot_state p.1 (pads_for table p.0)) ∙ length-enumerate_from 0 descriptors
-        ∙ length-map opened (option_and_then (descriptor_read n)) in
+    (λ (p : ℕ × Option Description). slot_state p.1 (pads_for table p.0)) ∙ length-enumerate_from 0 descriptors
+    ∙ length-map opened (option_and_then (descriptor_read n)) in
     let found = first_below-found (accusation_by own opened states seeds) (length states) a e in
     let k = found.0 in
     let made : ℕ → Accusation = λ first. record { slot = k + 1; member = first; seed = get_or seeds (first - 1) [] } in

@@ -64,7 +64,7 @@ found_by_hash d member seed capsule s o same told some =
 pub unlike_has_none : (d : Description) (member : ℕ) (seed capsule s hash own : List ℕ) (o : Option (List ℕ)) (r : Bool)
     → capsule ≡ capsule_for d member → o ≡ opened seed capsule → o ≡ Some s
     → hash ≡ hash_of_pad (pad_of s d.length) → own ≡ pad_hash_for d member → r ≡ not (bytes_eq hash own) → r ≡ true
-        → None ≡ pad_found d member seed
+    → None ≡ pad_found d member seed
 unlike_has_none d member seed capsule s hash own o r same told some is-hash is-own test holds =
     let apart : bytes_eq hash own ≡ false = not-true (bytes_eq hash own) (sym test ∙ holds) in
     let there : bytes_eq (hash_of_pad (pad_of s d.length)) (pad_hash_for d member) ≡ false = rw (is-hash, is-own) at apart in
@@ -74,7 +74,7 @@ unlike_has_none d member seed capsule s hash own o r same told some is-hash is-o
 pub like_has_pad : (d : Description) (member : ℕ) (seed capsule s hash own : List ℕ) (o : Option (List ℕ)) (r : Bool)
     → capsule ≡ capsule_for d member → o ≡ opened seed capsule → o ≡ Some s
     → hash ≡ hash_of_pad (pad_of s d.length) → own ≡ pad_hash_for d member → r ≡ not (bytes_eq hash own) → r ≡ false
-        → Some (pad_of s d.length) ≡ pad_found d member seed
+    → Some (pad_of s d.length) ≡ pad_found d member seed
 like_has_pad d member seed capsule s hash own o r same told some is-hash is-own test fails =
     let alike : bytes_eq hash own ≡ true = not-false (bytes_eq hash own) (sym test ∙ fails) in
     let there : bytes_eq (hash_of_pad (pad_of s d.length)) (pad_hash_for d member) ≡ true = rw (is-hash, is-own) at alike in
@@ -91,7 +91,7 @@ pub concat-more : (xs : List (List ℕ)) (out x : List ℕ) (k : ℕ) → k < le
 concat-more xs out x k h e =
     let more : take (k + 1) xs ≡ take k xs ++ get_or xs k [] ∷ [] = take_more xs k [] h in
     rw (more, concat-append (take k xs) (get_or xs k [] ∷ []), append-nil (get_or xs k []), ← e, append_assoc out (concat (take k xs)) x)
-        refl
+    refl
 
 pub pads_of-more : (seeds : List (List ℕ)) (count k : ℕ) → k < length seeds
     → pads_of (take (k + 1) seeds) count ≡ pads_of (take k seeds) count ++ pad_of (get_or seeds k []) count ∷ []
@@ -104,21 +104,30 @@ pub hidden_under-more : (bytes now pad : List ℕ) (seeds : List (List ℕ)) (co
     → now ≡ hidden_under bytes (pads_of (take k seeds) count) → pad ≡ pad_of (get_or seeds k []) count
     → exclusive_or now pad ≡ hidden_under bytes (pads_of (take (k + 1) seeds) count)
 hidden_under-more bytes now pad seeds count k h is-now is-pad =
-    rw (pads_of-more seeds count k h, fold-append exclusive_or bytes (pads_of (take k seeds) count) (pad_of (get_or seeds k []) count ∷ []),
-        is-now, is-pad) refl
+    rw (
+      pads_of-more seeds count k h,
+      fold-append exclusive_or bytes (pads_of (take k seeds) count) (pad_of (get_or seeds k []) count ∷ []),
+      is-now,
+      is-pad,
+    ) refl
 
 pub hashes-more : (before now : List (List ℕ)) (hash pad : List ℕ) (seeds : List (List ℕ)) (count k : ℕ)
     → k < length seeds → now ≡ before ++ map hash_of_pad (pads_of (take k seeds) count)
     → pad ≡ pad_of (get_or seeds k []) count
     → hash ≡ hash_of_pad pad → now ++ hash ∷ [] ≡ before ++ map hash_of_pad (pads_of (take (k + 1) seeds) count)
 hashes-more before now hash pad seeds count k h is-now is-pad is-hash =
-    rw (pads_of-more seeds count k h, map-append hash_of_pad (pads_of (take k seeds) count) (pad_of (get_or seeds k []) count ∷ []), is-now,
-        is-hash, is-pad)
+    rw (
+      pads_of-more seeds count k h,
+      map-append hash_of_pad (pads_of (take k seeds) count) (pad_of (get_or seeds k []) count ∷ []),
+      is-now,
+      is-hash,
+      is-pad,
+    )
     (append_assoc before (map hash_of_pad (pads_of (take k seeds) count)) (hash_of_pad (pad_of (get_or seeds k []) count) ∷ []))
 
 sealed_at : (keys seeds : List (List ℕ)) (k : ℕ) → k < length keys → k < length seeds
     → sealed_seeds (take (suc k) keys) (take (suc k) seeds) ≡ sealed_seeds (take k keys) (take k seeds)
-        ++ capsule_of (get_or keys k []) (get_or seeds k []) ∷ []
+    ++ capsule_of (get_or keys k []) (get_or seeds k []) ∷ []
 unfolding sealed_seeds
 sealed_at [] seeds k h h' = absurd (omega arith)
 sealed_at (x ∷ keys) [] k h h' = absurd (omega arith)
@@ -129,7 +138,7 @@ sealed_at (x ∷ keys) (y ∷ seeds) (suc k) h h' = ap (λ (l : List (List ℕ))
 pub sealed_seeds-more : (keys seeds : List (List ℕ)) (key seed capsule : List ℕ) (now : List (List ℕ)) (k : ℕ)
     → k < length keys → k < length seeds → key ≡ get_or keys k [] → seed ≡ get_or seeds k []
     → capsule ≡ capsule_of key seed → now ≡ sealed_seeds (take k keys) (take k seeds) → now
-        ++ capsule ∷ [] ≡ sealed_seeds (take (k + 1) keys) (take (k + 1) seeds)
+    ++ capsule ∷ [] ≡ sealed_seeds (take (k + 1) keys) (take (k + 1) seeds)
 sealed_seeds-more keys seeds key seed capsule now k h h' is-key is-seed is is-now =
     rw (add-one, sealed_at keys seeds k h h', is-now, is, is-key, is-seed) refl
 
@@ -180,7 +189,7 @@ pub reduced-goes_on : (count i : ℕ) (bytes rest front back : List ℕ) (r : Bo
     → list_all is_reduced (parts_of 2240 (count - i) rest) ≡ list_all is_reduced (parts_of 2240 count bytes)
     → front ≡ take 2240 rest
     → back ≡ drop 2240 rest → r ≡ is_reduced front → r ≡ true → list_all is_reduced (parts_of 2240 (count - (i + 1)) back) ≡ list_all
-        is_reduced (parts_of 2240 count bytes)
+    is_reduced (parts_of 2240 count bytes)
 reduced-goes_on count i bytes rest front back r h so_far is-front is-back told good =
     let behind = list_all is_reduced (parts_of 2240 (count - (i + 1)) back) in
     sym (ap (λ (b : Bool). b && behind) good) ∙ sym (reduced-more count i rest front back r h is-front is-back told) ∙ so_far
@@ -229,9 +238,9 @@ pub length_other_hashes : (seeds hashes made : List (List ℕ)) (place count : �
     → made ≡ hashes ++ map hash_of_pad (pads_of (remove seeds place) count) → place ≤ length made
 length_other_hashes seeds hashes made place count h none is =
     let e : made ≡ map hash_of_pad (pads_of (remove seeds place) count) = is
-        ∙ ap (λ (l : List (List ℕ)). l ++ map hash_of_pad (pads_of (remove seeds place) count)) none in
+    ∙ ap (λ (l : List (List ℕ)). l ++ map hash_of_pad (pads_of (remove seeds place) count)) none in
     let long : length made ≡ length (pads_of (remove seeds place) count) = ap (λ (l : List (List ℕ)). length l) e
-        ∙ length-map (pads_of (remove seeds place) count) hash_of_pad in
+    ∙ length-map (pads_of (remove seeds place) count) hash_of_pad in
     omega (arith, length-pads_of (remove seeds place) count, length-remove seeds place h)
 
 map-insert : (f : List ℕ → List ℕ) (xs : List (List ℕ)) (i : ℕ) (x : List ℕ) → insert (map f xs) i (f x) ≡ map f (insert xs i x)
@@ -243,7 +252,7 @@ map-insert f xs i x =
 pub hashes_are : (seeds hashes made now : List (List ℕ)) (place count : ℕ) (message own hash : List ℕ)
     → count ≡ length message → hashes ≡ [] → made ≡ hashes ++ map hash_of_pad (pads_of (remove seeds place) count)
     → own ≡ own_pad seeds (place + 1) message → hash ≡ hash_of_pad own → now ≡ insert made place hash
-        → now ≡ map hash_of_pad (made_pads seeds (place + 1) message)
+    → now ≡ map hash_of_pad (made_pads seeds (place + 1) message)
 unfolding made_pads
 hashes_are seeds hashes made now place count message own hash is-count none is-made is-own is-hash is-now =
     let there : place + 1 - 1 ≡ place = omega arith in
@@ -263,7 +272,7 @@ pub made_by_parts : (keys seeds slice hashes capsules : List (List ℕ)) (member
     → hash ≡ hash_of OfMessage (message ∷ [])
     → hashes ≡ map hash_of_pad (made_pads slice (member - 1 + 1) message) → capsules ≡ sealed_seeds keys seeds
     → record { length = length message; message_hash = hash; pad_hashes = hashes; capsules = capsules } ≡ made_descriptor keys seeds member
-        message
+    message
 unfolding made_descriptor
 made_by_parts keys seeds slice hashes capsules member message hash first same is-hash is-hashes is-capsules =
     let next : member - 1 + 1 ≡ member = omega arith in
@@ -279,7 +288,7 @@ pub form_of_made : (n : ℕ) (keys seeds : List (List ℕ)) (member : ℕ) (mess
     → IsDescriptor d.length d.message_hash d.pad_hashes d.capsules
 form_of_made n keys seeds member message d can same =
     subst (λ (d : Description). IsDescriptor d.length d.message_hash d.pad_hashes d.capsules) (sym same)
-        (made_is_of_grammar n keys seeds member message can).form
+    (made_is_of_grammar n keys seeds member message can).form
 
 -- ---- an entry without a pad
 pub pad_row-unread : (n : ℕ) (own kept : List ℕ) (member : ℕ) (seed entry : List ℕ) → bytes_eq entry own ≡ false
@@ -287,7 +296,7 @@ pub pad_row-unread : (n : ℕ) (own kept : List ℕ) (member : ℕ) (seed entry 
 unfolding pad_row
 pad_row-unread n own kept member seed entry apart read =
     sym (cond-false (bytes_eq entry own) kept (unwrap_or (option_and_then (λ d. pad_found d member seed) (descriptor_read n entry)) [])
-        apart
+    apart
     ∙ ap (λ (o : Option Description). unwrap_or (option_and_then (λ d. pad_found d member seed) o) []) read)
 
 pub pad_row-unfound : (n : ℕ) (own kept : List ℕ) (member : ℕ) (seed entry : List ℕ) (d : Description)
@@ -296,6 +305,6 @@ pub pad_row-unfound : (n : ℕ) (own kept : List ℕ) (member : ℕ) (seed entry
 unfolding pad_row
 pad_row-unfound n own kept member seed entry d apart read none =
     sym (cond-false (bytes_eq entry own) kept (unwrap_or (option_and_then (λ d. pad_found d member seed) (descriptor_read n entry)) [])
-        apart
+    apart
     ∙ ap (λ (o : Option Description). unwrap_or (option_and_then (λ d. pad_found d member seed) o) []) read
     ∙ ap (λ (o : Option (List ℕ)). unwrap_or o []) none)

@@ -33,7 +33,7 @@ length-sealed_seeds : (keys seeds : List (List ℕ)) → length keys ≡ length 
 unfolding sealed_seeds
 length-sealed_seeds keys seeds same =
     length-map (zip keys seeds) (λ (p : List ℕ × List ℕ). capsule_of p.0 p.1) ∙ length-zip keys seeds
-        ∙ (let least : min (length keys) (length seeds) ≡ length seeds = omega arith in least)
+    ∙ (let least : min (length keys) (length seeds) ≡ length seeds = omega arith in least)
 
 get_or-sealed_seeds : (keys seeds : List (List ℕ)) (k : ℕ) → k < length keys → k < length seeds
     → get_or (sealed_seeds keys seeds) k [] ≡ capsule_of (get_or keys k []) (get_or seeds k [])
@@ -85,7 +85,7 @@ pub fits_from : (d : Description) (member : ℕ) (pad : List ℕ) → length pad
 unfolding fits
 fits_from d member pad long hash =
     and_from (length pad == d.length) (bytes_eq (hash_of_pad pad) (pad_hash_for d member)) (eq-eqb (length pad) d.length long)
-        ((bytes_eq-Decides (hash_of_pad pad) (pad_hash_for d member)).1 hash)
+    ((bytes_eq-Decides (hash_of_pad pad) (pad_hash_for d member)).1 hash)
 
 -- the pad of each member
 made_pad_fits : (n : ℕ) (keys seeds : List (List ℕ)) (maker member : ℕ) (message : List ℕ) → CanMake n keys seeds maker message → 1 ≤ member
@@ -99,7 +99,7 @@ made_pad_fits n keys seeds maker member message can first last =
     let below : member - 1 < length pads = omega (arith, can.as_many_seeds) in
     let pad = get_or pads (member - 1) [] in
     let long : length pad ≡ length message = All-get_or (λ pad. length pad ≡ length message) pads (member - 1) [] below
-        (sizes-made_pads seeds maker message) in
+    (sizes-made_pads seeds maker message) in
     fits_from d member pad long (sym (get_or-map hash_of_pad pads (member - 1) [] [] below))
 
 pub own_pad_fits : OwnPadFits
@@ -112,7 +112,7 @@ pub other_pads_fit : OtherPadsFit
 other_pads_fit n keys seeds maker member message can first last other =
     subst (λ (pad : List ℕ). fits (made_descriptor keys seeds maker message) member pad ≡ true)
     (made_pads-other seeds maker member message can.first (omega (arith, can.last, can.as_many_seeds)) first
-        (omega (arith, can.as_many_seeds)) other)
+    (omega (arith, can.as_many_seeds)) other)
     (made_pad_fits n keys seeds maker member message can first last)
 
 pub fits_determines : FitsDetermines
@@ -133,7 +133,7 @@ unfolding pad_found
 pad_found-opened d member seed s opens hash =
     ap (option_and_then (pad_if_hashed d member)) opens
     ∙ cond-true (bytes_eq (hash_of_pad (pad_of s d.length)) (pad_hash_for d member)) (Some (pad_of s d.length)) None
-        ((bytes_eq-Decides (hash_of_pad (pad_of s d.length)) (pad_hash_for d member)).1 hash)
+    ((bytes_eq-Decides (hash_of_pad (pad_of s d.length)) (pad_hash_for d member)).1 hash)
 
 pub pad_row-own : (n : ℕ) (own kept : List ℕ) (member : ℕ) (seed entry : List ℕ) → bytes_eq entry own ≡ true
     → pad_row n own kept member seed entry ≡ kept
@@ -153,7 +153,7 @@ pad_row-other n own kept member seed entry pad d e read found =
 pub capsule_for-made : (n : ℕ) (keys seeds : List (List ℕ)) (maker member : ℕ) (message : List ℕ) → CanMake n keys seeds maker message
     → 1 ≤ member → member ≤ n
     → capsule_for (made_descriptor keys seeds maker message) member ≡ capsule_of (get_or keys (member - 1) [])
-        (get_or seeds (member - 1) [])
+    (get_or seeds (member - 1) [])
 unfolding made_descriptor
 capsule_for-made n keys seeds maker member message can first last =
     get_or-sealed_seeds keys seeds (member - 1) (omega (arith, can.as_many_keys)) (omega (arith, can.as_many_seeds))
@@ -174,11 +174,11 @@ found_in_made n keys seeds maker member message seed can messages first last key
     let s = get_or seeds (member - 1) [] in
     let is : IsMessage s = All-get_or IsMessage seeds (member - 1) [] (omega (arith, can.as_many_seeds)) messages in
     let capsule : capsule_for d member ≡ capsule_of (key_of_seed seed) s = capsule_for-made n keys seeds maker member message can first last
-        ∙ ap (λ (key : List ℕ). capsule_of key s) key in
+    ∙ ap (λ (key : List ℕ). capsule_of key s) key in
     let opens : opened seed (capsule_for d member) ≡ Some s = (opens_exactly seed (capsule_for d member) s).1 (is, capsule) in
     let same : pad_of s (length message) ≡ pad_of s d.length = ap (pad_of s) (sym (length_of-made keys seeds maker message)) in
     let fit : fits d member (pad_of s d.length) ≡ true = subst (λ (pad : List ℕ). fits d member pad ≡ true) same
-        (other_pads_fit n keys seeds maker member message can first last other) in
+    (other_pads_fit n keys seeds maker member message can first last other) in
     (pad_of s d.length, pad_found-opened d member seed s opens (fits_parts d member (pad_of s d.length) fit).1, fit)
 
 pub honest_pad_fits : HonestPadFits
@@ -194,10 +194,10 @@ honest_pad_fits n keys seeds keys' seeds' maker member message message' seed can
       | inl same ↦
           let one : d ≡ e = spelling_determines n d e g h ((bytes_eq-Decides entry own).0 same) in
           rw (pad_row-own n own kept member seed entry same) (subst (λ (x : Description). fits x member kept ≡ true) (sym one)
-              (own_pad_fits n keys' seeds' member message' can'))
+          (own_pad_fits n keys' seeds' member message' can'))
       | inr apart ↦
           let other : member ≡ maker → ⊥ = λ same. both_ways (bytes_eq entry own) apart ((bytes_eq-Decides entry own).1 (own_if_same same))
-              in
+          in
           let found = found_in_made n keys seeds maker member message seed can messages can'.first can'.last key other in
           rw (pad_row-other n own kept member seed entry found.0 d apart (spelled_are_read n d g) found.1) found.2
     ]
@@ -219,8 +219,8 @@ each_fits d pads k e h =
     let p : ℕ → Bool = λ member. not (fits d member (get_or pads (member - 1) [])) in
     let members = range_with_len 1 (length pads) in
     let here : p (get_or members k 0) ≡ false = All-get_or (λ member. p member ≡ false) members k 0
-        (omega (arith, length-range_with_len 1 (length pads))) (All-from_recursion (λ member. p member ≡ false) members
-        (find-none p members e)) in
+    (omega (arith, length-range_with_len 1 (length pads))) (All-from_recursion (λ member. p member ≡ false) members
+    (find-none p members e)) in
     let number : get_or members k 0 ≡ 1 + k = get_or-range_with_len 1 (length pads) k 0 h in
     let next : get_or members k 0 ≡ k + 1 = omega arith in
     let place : k + 1 - 1 ≡ k = omega arith in
@@ -233,7 +233,7 @@ slot_state-message : (d : Description) (pads : List (List ℕ)) (message : List 
 unfolding slot_state joined_state
 slot_state-message d pads message none joined hash =
     rw (none, joined) (cond-true (bytes_eq (hash_of OfMessage (message ∷ [])) d.message_hash) (Message message) Mismatched
-        ((bytes_eq-Decides (hash_of OfMessage (message ∷ [])) d.message_hash).1 hash))
+    ((bytes_eq-Decides (hash_of OfMessage (message ∷ [])) d.message_hash).1 hash))
 
 message_hash_of-made : (keys seeds : List (List ℕ)) (maker : ℕ) (message : List ℕ)
     → hash_of OfMessage (message ∷ []) ≡ (made_descriptor keys seeds maker message).message_hash
@@ -252,8 +252,8 @@ all_fit_message strings n keys seeds member message pads can none made sent coun
     let place : k + 1 - 1 ≡ k = omega arith in
     fits_determines strings d (k + 1) (get_or pads k []) (get_or whole k []) short none
     (All-get_or (λ pad. Contains strings (pad_string pad)) pads k [] h sent)
-        (All-get_or (λ pad. Contains strings (pad_string pad)) whole k [] below made)
+    (All-get_or (λ pad. Contains strings (pad_string pad)) whole k [] below made)
     (each_fits d pads k e h) (rw place at (made_pad_fits n keys seeds member (k + 1) message can (omega arith) (omega arith))) in
     let same : pads ≡ whole = ext_get_or [] pads whole (count ∙ sym can.as_many_seeds ∙ sym long) each in
     slot_state-message d pads message e (ap joined_pads same ∙ pads_give_message seeds member message)
-        (message_hash_of-made keys seeds member message)
+    (message_hash_of-made keys seeds member message)

@@ -40,10 +40,10 @@ hidden_twice : (count : ℕ) (bytes : List ℕ) (pads : List (List ℕ)) → len
 hidden_twice count bytes [] long sizes = refl
 hidden_twice count bytes (d ∷ pads) long sizes =
     let inner : hidden_under (exclusive_or bytes d) pads ≡ exclusive_or (hidden_under bytes pads) d = hidden_under-exclusive_or bytes d pads
-        in
+    in
     let size : length (hidden_under bytes pads) ≤ length d = omega (arith, length-hidden_under count bytes pads long sizes.1, sizes.0) in
     let outer : exclusive_or (hidden_under (exclusive_or bytes d) pads) d ≡ hidden_under bytes pads = ap (λ (x : List ℕ). exclusive_or x d)
-        inner ∙ exclusive_or_undo (hidden_under bytes pads) d size in
+    inner ∙ exclusive_or_undo (hidden_under bytes pads) d size in
     ap (λ (x : List ℕ). hidden_under x pads) outer ∙ hidden_twice count bytes pads long sizes.1
 
 -- one of many comes to the front
@@ -91,7 +91,7 @@ length-own_pad seeds member message =
     let count = length message in
     let others = other_pads seeds member count in
     length-hidden_under count message others refl (recursion_from_All (λ pad. length pad ≡ count) others
-        (sizes-pads_of (remove seeds (member - 1)) count))
+    (sizes-pads_of (remove seeds (member - 1)) count))
 
 pub sizes-made_pads : (seeds : List (List ℕ)) (member : ℕ) (message : List ℕ)
     → All (λ pad. length pad ≡ length message) (made_pads seeds member message)
@@ -103,7 +103,7 @@ sizes-made_pads seeds member message =
     All-append P (take (member - 1) others) (own_pad seeds member message ∷ drop (member - 1) others)
     (All-take P (member - 1) others sizes)
     (All-cons P (own_pad seeds member message) (drop (member - 1) others) (length-own_pad seeds member message)
-        (All-drop P (member - 1) others sizes))
+    (All-drop P (member - 1) others sizes))
 
 pub pads_give_message : PadsGiveMessage
 unfolding made_pads own_pad
@@ -138,7 +138,7 @@ made_pads-own seeds member message first last =
 -- places in a list that one is taken out of and another put into
 replaced-other : (xs ys : List (List ℕ)) (f : List ℕ → List ℕ) (y : List ℕ) (p k : ℕ) → p < length xs → k < length xs → (k ≡ p → ⊥)
     → length ys + 1 ≡ length xs → ((i : ℕ) → i < length ys → get_or ys i [] ≡ f (get_or (remove xs p) i []))
-        → get_or (insert ys p y) k [] ≡ f (get_or xs k [])
+    → get_or (insert ys p y) k [] ≡ f (get_or xs k [])
 replaced-other xs ys f y p k in' below other long each =
     elim (cases_order k p) [
       | inl same ↦ absurd (other same)
@@ -154,7 +154,7 @@ replaced-other xs ys f y p k in' below other long each =
     replaced-after : (xs ys : List (List ℕ)) (f : List ℕ → List ℕ) (y : List ℕ) (p j k : ℕ) → p < length xs → k < length xs → k ≡ j + 1
         → p ≤ j
         → length ys + 1 ≡ length xs → ((i : ℕ) → i < length ys → get_or ys i [] ≡ f (get_or (remove xs p) i []))
-            → get_or (insert ys p y) k [] ≡ f (get_or xs k [])
+        → get_or (insert ys p y) k [] ≡ f (get_or xs k [])
     replaced-after xs ys f y p j k in' below next after long each =
         let there : get_or (insert ys p y) (j + 1) [] ≡ get_or ys j [] = get_or-insert_above ys p y [] j after (omega arith) in
         let here : get_or (remove xs p) j [] ≡ get_or xs (j + 1) [] = get_or-remove_above xs p [] j after in' in
@@ -169,6 +169,6 @@ made_pads-other seeds maker member message first last first' last' other =
     let count = length message in
     let others = other_pads seeds maker count in
     replaced-other seeds others (λ seed. pad_of seed count) (own_pad seeds maker message) (maker - 1) (member - 1) (omega arith)
-        (omega arith) (λ same. other (omega arith))
+    (omega arith) (λ same. other (omega arith))
     (length-others seeds maker count first last)
     (λ i h. get_or-pads_of (remove seeds (maker - 1)) count i (omega (arith, length-pads_of (remove seeds (maker - 1)) count)))

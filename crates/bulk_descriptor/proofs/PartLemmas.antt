@@ -23,7 +23,7 @@ pub take-add : (xs : List ℕ) (from count : ℕ) → from ≤ length xs → tak
 take-add xs from count within =
     let front : length (take from xs) ≡ from = length-take-le from xs within in
     let whole : take (length (take from xs) + count) (take from xs ++ drop from xs) ≡ take from xs
-        ++ take count (drop from xs) = take-append-add (take from xs) (drop from xs) count in
+    ++ take count (drop from xs) = take-append-add (take from xs) (drop from xs) count in
     rw (front, take-append-drop from xs) at whole
 
 -- put together, the parts are the front of the bytes

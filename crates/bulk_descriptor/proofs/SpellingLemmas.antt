@@ -27,7 +27,7 @@ pub passes : (n : ℕ) (bytes : List ℕ) → is_descriptor n bytes ≡ true →
 unfolding is_descriptor
 passes n bytes e =
     let four = and_parts (nat_le 2 n && nat_le n 16 && (length bytes == 36 + 2272 * n) && nat_le (length_in bytes) 65536)
-        (list_all is_reduced (capsules_in n bytes)) e in
+    (list_all is_reduced (capsules_in n bytes)) e in
     let three = and_parts (nat_le 2 n && nat_le n 16 && (length bytes == 36 + 2272 * n)) (nat_le (length_in bytes) 65536) four.0 in
     let two = and_parts (nat_le 2 n && nat_le n 16) (length bytes == 36 + 2272 * n) three.0 in
     let one = and_parts (nat_le 2 n) (nat_le n 16) two.0 in
@@ -45,9 +45,9 @@ passed n bytes p =
     let one = and_from (nat_le 2 n) (nat_le n 16) (le-leb 2 n p.least) (le-leb n 16 p.most) in
     let two = and_from (nat_le 2 n && nat_le n 16) (length bytes == 36 + 2272 * n) one (eq-eqb (length bytes) (36 + 2272 * n) p.long) in
     let three = and_from (nat_le 2 n && nat_le n 16 && (length bytes == 36 + 2272 * n)) (nat_le (length_in bytes) 65536) two
-        (le-leb (length_in bytes) 65536 p.short) in
+    (le-leb (length_in bytes) 65536 p.short) in
     and_from (nat_le 2 n && nat_le n 16 && (length bytes == 36 + 2272 * n) && nat_le (length_in bytes) 65536)
-        (list_all is_reduced (capsules_in n bytes)) three p.reduced
+    (list_all is_reduced (capsules_in n bytes)) three p.reduced
 
 -- what was read passed the test
 read_cases : (b : Bool) (x d : Description) → cond b (Some x) None ≡ Some d → (b ≡ true) × (x ≡ d)
@@ -97,12 +97,12 @@ text_of-read n bytes are p =
     let long = p.long in
     let size : length (take 4 bytes) ≡ 4 = length-take-le 4 bytes (omega arith) in
     let number : to_be_bytes w32 (length_in bytes) ≡ take 4 bytes = be_bytes_4 (take 4 bytes) (length_in bytes) size
-        (IsBytes-take 4 bytes are) refl in
+    (IsBytes-take 4 bytes are) refl in
     let n32 : 32 * n ≤ length (drop 36 bytes) = omega (arith, length-drop 36 bytes) in
     let n2240 : 2240 * n ≤ length (drop (36 + 32 * n) bytes) = omega (arith, length-drop (36 + 32 * n) bytes) in
     let end : length (drop (36 + 32 * n) bytes) ≤ 2240 * n = omega (arith, length-drop (36 + 32 * n) bytes) in
     let last : concat (capsules_in n bytes) ≡ drop (36 + 32 * n) bytes = concat-parts_of 2240 n (drop (36 + 32 * n) bytes) n2240
-        ∙ take_all (2240 * n) (drop (36 + 32 * n) bytes) end in
+    ∙ take_all (2240 * n) (drop (36 + 32 * n) bytes) end in
     let hashes : concat (parts_of 32 n (drop 36 bytes)) ≡ take (32 * n) (drop 36 bytes) = concat-parts_of 32 n (drop 36 bytes) n32 in
     ap (λ (x : List ℕ). x ++ (take 32 (drop 4 bytes) ++ (concat (parts_of 32 n (drop 36 bytes)) ++ concat (capsules_in n bytes)))) number
     ∙ ap (λ (x : List ℕ). take 4 bytes ++ (take 32 (drop 4 bytes) ++ (x ++ concat (capsules_in n bytes)))) hashes
@@ -152,12 +152,17 @@ spells n d g =
         let start : take 4 text ≡ head = take_at head (d.message_hash ++ (hashes ++ capsules)) 4 four in
         let after : drop 4 text ≡ d.message_hash ++ (hashes ++ capsules) = drop_at head (d.message_hash ++ (hashes ++ capsules)) 4 four in
         let rest : drop 36 text ≡ hashes ++ capsules = sym (drop-drop 32 4 text) ∙ ap (drop 32) after
-            ∙ drop_at d.message_hash (hashes ++ capsules) 32 long in
+        ∙ drop_at d.message_hash (hashes ++ capsules) 32 long in
         let last : drop (36 + 32 * n) text ≡ capsules = sym (drop-drop (32 * n) 36 text) ∙ ap (drop (32 * n)) rest
-            ∙ drop_at hashes capsules (32 * n) hashes_long in
+        ∙ drop_at hashes capsules (32 * n) hashes_long in
         record {
-          long = omega (arith, length-append head (d.message_hash ++ (hashes ++ capsules)), length-append d.message_hash
-              (hashes ++ capsules), length-append hashes capsules);
+          long = omega (
+            arith,
+            length-append head (d.message_hash ++ (hashes ++ capsules)),
+            length-append d.message_hash
+                (hashes ++ capsules),
+            length-append hashes capsules,
+          );
           number = ap (from_be_bytes w32) start ∙ number;
           hash = ap (take 32) after ∙ take_at d.message_hash (hashes ++ capsules) 32 long;
           hashes = ap (parts_of 32 n) rest ∙ first;
@@ -166,8 +171,13 @@ spells n d g =
 
 pub same_description : (d e : Description) → d.length ≡ e.length → d.message_hash ≡ e.message_hash → d.pad_hashes ≡ e.pad_hashes
     → d.capsules ≡ e.capsules → d ≡ e
-same_description d e length hash hashes capsules = λ i. record { length = length i; message_hash = hash i; pad_hashes = hashes i; capsules =
-    capsules i }
+same_description d e length hash hashes capsules = λ i. record {
+  length = length i;
+  message_hash = hash i;
+  pad_hashes = hashes i;
+  capsules =
+      capsules i;
+}
 
 read_again : (b : Bool) (x d : Description) → b ≡ true → x ≡ d → cond b (Some x) None ≡ Some d
 read_again b x d e same = cond-true b (Some x) None e ∙ ap (λ (d : Description). Some d) same
@@ -187,7 +197,7 @@ spelled_are_read n d g =
       reduced = ap (list_all is_reduced) s.capsules ∙ list_all-from_AllPass is_reduced d.capsules form.reduced;
     }) in
     read_again (is_descriptor n text) (description_in n text) d test
-        (same_description (description_in n text) d s.number s.hash s.hashes s.capsules)
+    (same_description (description_in n text) d s.number s.hash s.hashes s.capsules)
 
 pub spelling_determines : SpellingDetermines
 spelling_determines n d e g h same =
@@ -213,12 +223,12 @@ passed_if_reduced n bytes false least most long short told = not_passed n bytes 
 pub description_is : (n : ℕ) (bytes hash hashes capsules : List ℕ) (number : ℕ) (made read : List (List ℕ)) → number ≡ length_in bytes
     → hash ≡ take 32 (drop 4 bytes) → made ≡ parts_of 32 n hashes → hashes ≡ drop 36 bytes
     → read ≡ parts_of 2240 n capsules → capsules ≡ drop (32 * n) hashes
-        → record { length = number; message_hash = hash; pad_hashes = made; capsules = read } ≡ description_in n bytes
+    → record { length = number; message_hash = hash; pad_hashes = made; capsules = read } ≡ description_in n bytes
 unfolding description_in
 description_is n bytes hash hashes capsules number made read is-number is-hash is-made is-hashes is-read is-capsules =
     let last : capsules ≡ drop (36 + 32 * n) bytes = is-capsules ∙ ap (drop (32 * n)) is-hashes ∙ drop-drop (32 * n) 36 bytes in
     same_description (record { length = number; message_hash = hash; pad_hashes = made; capsules = read }) (description_in n bytes)
-        is-number is-hash (is-made ∙ ap (parts_of 32 n) is-hashes) (is-read ∙ ap (parts_of 2240 n) last)
+    is-number is-hash (is-made ∙ ap (parts_of 32 n) is-hashes) (is-read ∙ ap (parts_of 2240 n) last)
 
 -- so what it makes has the form of a descriptor
 pub form_of : (n : ℕ) (bytes : List ℕ) (d : Description) → is_descriptor n bytes ≡ true → d ≡ description_in n bytes

@@ -37,7 +37,7 @@ find_first p a (suc n) zero m h at none passes =
 find_first p a (suc n) (suc i) m h at none passes =
     let parts = find_cases p a (range_with_len (a + 1) i) (p a) refl none in
     cond-false (p a) (Some a) (find p (range_with_len (a + 1) n)) parts.0
-        ∙ find_first p (a + 1) n i m (omega arith) (omega arith) parts.1 passes
+    ∙ find_first p (a + 1) n i m (omega arith) (omega arith) parts.1 passes
 
 find_more : (p : ℕ → Bool) (a i m : ℕ) → a + i ≡ m → find p (range_with_len a i) ≡ None → p m ≡ false
     → find p (range_with_len a (i + 1)) ≡ None
@@ -48,7 +48,7 @@ find_more p a (suc i) m at none fails =
     let parts = find_cases p a (range_with_len (a + 1) i) (p a) refl none in
     let next : suc i + 1 ≡ suc (i + 1) = omega arith in
     ap (λ (k : ℕ). find p (range_with_len a k)) next ∙ cond-false (p a) (Some a) (find p (range_with_len (a + 1) (i + 1))) parts.0
-        ∙ find_more p (a + 1) i m (omega arith) parts.1 fails
+    ∙ find_more p (a + 1) i m (omega arith) parts.1 fails
 
 -- ---- the members whose pads were looked at
 abbrev pub is_unfit : Description → List (List ℕ) → ℕ → Bool
@@ -74,7 +74,7 @@ unfit_found d pads i member r h none told some =
     let fails : fits d (i + 1) (get_or pads (i + 1 - 1) []) ≡ false = ap (λ (k : ℕ). fits d (i + 1) (get_or pads k [])) place ∙ here.0 in
     ap (λ (m : ℕ). Some m) here.1
     ∙ sym (find_first (is_unfit d pads) 1 (length pads) i (i + 1) h (omega arith) none
-        (not_from_false (fits d (i + 1) (get_or pads (i + 1 - 1) [])) fails))
+    (not_from_false (fits d (i + 1) (get_or pads (i + 1 - 1) [])) fails))
 
 pub fit_so_far : (d : Description) (pads : List (List ℕ)) (i : ℕ) (r : Option ℕ) → find (is_unfit d pads) (range_with_len 1 i) ≡ None
     → r ≡ cond (fits d (i + 1) (get_or pads i [])) None (Some (i + 1)) → r ≡ None → find (is_unfit d pads) (range_with_len 1 (i + 1)) ≡ None
@@ -94,7 +94,7 @@ pub pad_at : (table : List (List (List ℕ))) (slot i : ℕ) (row : List (List �
     → pad ≡ get_or row slot [] → pad ≡ get_or (pads_for table slot) i []
 pad_at table slot i row pad h is-row is-pad =
     is-pad ∙ ap (λ (row : List (List ℕ)). get_or row slot []) is-row
-        ∙ sym (get_or-map (λ (row : List (List ℕ)). get_or row slot []) table i [] [] h)
+    ∙ sym (get_or-map (λ (row : List (List ℕ)). get_or row slot []) table i [] [] h)
 
 pub length-pads_for : (table : List (List (List ℕ))) (slot : ℕ) → length (pads_for table slot) ≡ length table
 length-pads_for table slot = length-map table (λ (row : List (List ℕ)). get_or row slot [])
@@ -108,7 +108,7 @@ joined-more bytes now pad rows slot i h is-now is-pad =
     let more : take (i + 1) rows ≡ take i rows ++ get_or rows i [] ∷ [] = take_more rows i [] h in
     let there : get_or (map f rows) i [] ≡ f (get_or rows i []) = get_or-map f rows i [] [] h in
     let whole : pads_for (take (i + 1) rows) slot ≡ pads_for (take i rows) slot ++ f (get_or rows i []) ∷ [] = ap (map f) more
-        ∙ map-append f (take i rows) (get_or rows i [] ∷ []) in
+    ∙ map-append f (take i rows) (get_or rows i [] ∷ []) in
     ap (λ (x : List ℕ). exclusive_or x pad) is-now
     ∙ ap (exclusive_or (hidden_under bytes (pads_for (take i rows) slot))) (is-pad ∙ there)
     ∙ sym (ap (hidden_under bytes) whole ∙ fold-append exclusive_or bytes (pads_for (take i rows) slot) (f (get_or rows i []) ∷ []))
@@ -122,7 +122,7 @@ pad_of_row table rows slot i row held item pad h same is-row is-held wide is-ite
     let room : slot < length (get_or table i []) = All-get_or (λ row. slot < length row) table i [] h wide in
     let within : slot < length row = omega (arith, ap (λ (l : List (List ℕ)). length l) there) in
     let in_row : item ≡ get_or row slot [] = get_or_read row slot item within
-        (is-item ∙ ap (λ (l : List (List ℕ)). get_or l slot item) is-held) [] in
+    (is-item ∙ ap (λ (l : List (List ℕ)). get_or l slot item) is-held) [] in
     pad_at table slot i row pad h there (is-pad ∙ in_row)
 
 -- it is as long as every pad for the slot
@@ -130,7 +130,7 @@ pub size_of_row : (count : ℕ) (table : List (List (List ℕ))) (slot i : ℕ) 
     → All (λ pad. length pad ≡ count) (pads_for table slot) → pad ≡ get_or (pads_for table slot) i [] → length pad ≡ count
 size_of_row count table slot i pad h sizes is =
     ap (λ (x : List ℕ). length x) is ∙ All-get_or (λ pad. length pad ≡ count) (pads_for table slot) i []
-        (omega (arith, length-pads_for table slot)) sizes
+    (omega (arith, length-pads_for table slot)) sizes
 
 -- ---- one slot
 pub state_without : (d : Option Description) (pads : List (List ℕ)) → d ≡ None → Empty ≡ slot_state d pads
@@ -143,12 +143,12 @@ unfolding slot_state
 state_bad o d pads r first some told found =
     let there : first_unfit d pads ≡ Some first = sym told ∙ found in
     sym (ap (λ (o : Option Description). slot_state o pads) some
-        ∙ ap (λ (f : Option ℕ). unless_bad f (joined_state d (joined_pads pads))) there)
+    ∙ ap (λ (f : Option ℕ). unless_bad f (joined_state d (joined_pads pads))) there)
 
 pub state_joined : (o : Option Description) (d : Description) (pads : List (List ℕ)) (r : Option ℕ) (message : List ℕ) (b : Bool)
     (state : SlotState) → o ≡ Some d → r ≡ first_unfit d pads → r ≡ None → message ≡ joined_pads pads
     → b ≡ bytes_eq (hash_of OfMessage (message ∷ [])) d.message_hash → state ≡ cond b (Message message) Mismatched
-        → state ≡ slot_state o pads
+    → state ≡ slot_state o pads
 unfolding slot_state joined_state
 state_joined o d pads r message b state some told none joined test is =
     let there : first_unfit d pads ≡ None = sym told ∙ none in
@@ -156,14 +156,14 @@ state_joined o d pads r message b state some told none joined test is =
     ∙ ap (λ (b : Bool). cond b (Message message) Mismatched) test
     ∙ ap (λ (m : List ℕ). joined_state d m) joined
     ∙ sym (ap (λ (o : Option Description). slot_state o pads) some
-        ∙ ap (λ (f : Option ℕ). unless_bad f (joined_state d (joined_pads pads))) there)
+    ∙ ap (λ (f : Option ℕ). unless_bad f (joined_state d (joined_pads pads))) there)
 
 -- pads that all fit have the length that the descriptor tells
 pub sizes_from_fit : (d : Description) (pads : List (List ℕ)) (r : Option ℕ) → r ≡ first_unfit d pads → r ≡ None
     → All (λ pad. length pad ≡ d.length) pads
 sizes_from_fit d pads r told none =
     All-from_get_or (λ pad. length pad ≡ d.length) pads [] (λ k h.
-        (fits_parts d (k + 1) (get_or pads k []) (each_fits d pads k (sym told ∙ none) h)).0)
+    (fits_parts d (k + 1) (get_or pads k []) (each_fits d pads k (sym told ∙ none) h)).0)
 
 -- ---- the joined pads
 pub head_and_tail : (table : List (List (List ℕ))) (slot : ℕ) → 0 < length table
@@ -175,7 +175,7 @@ pub sizes_of_tail : (count : ℕ) (table : List (List (List ℕ))) (slot : ℕ) 
     → All (λ pad. length pad ≡ count) (pads_for (drop 1 table) slot)
 sizes_of_tail count table slot sizes =
     subst (λ (l : List (List ℕ)). All (λ pad. length pad ≡ count) l) (drop-map (λ (row : List (List ℕ)). get_or row slot []) 1 table)
-        (All-drop (λ pad. length pad ≡ count) 1 (pads_for table slot) sizes)
+    (All-drop (λ pad. length pad ≡ count) 1 (pads_for table slot) sizes)
 
 pub joined_from : (table : List (List (List ℕ))) (slot : ℕ) (first : List ℕ) → 0 < length table → first ≡ get_or (pads_for table slot) 0 []
     → hidden_under first (pads_for (drop 1 table) slot) ≡ joined_pads (pads_for table slot)
@@ -187,7 +187,7 @@ joined_from (row ∷ table) slot first h is = ap (λ (x : List ℕ). hidden_unde
 pub slot_states-more : (descriptors : List (Option Description)) (table : List (List (List ℕ))) (states : List SlotState)
     (state : SlotState) (i : ℕ) (d : Option Description) → i < length descriptors
     → states ≡ take i (slot_states descriptors table) → d ≡ get_or descriptors i None → state ≡ slot_state d (pads_for table i) → states
-        ++ state ∷ [] ≡ take (i + 1) (slot_states descriptors table)
+    ++ state ∷ [] ≡ take (i + 1) (slot_states descriptors table)
 slot_states-more descriptors table states state i d h so_far is-d is =
     let f : ℕ × Option Description → SlotState = λ p. slot_state p.1 (pads_for table p.0) in
     let numbered = enumerate_from 0 descriptors in
@@ -199,7 +199,7 @@ slot_states-more descriptors table states state i d h so_far is-d is =
     let here : get_or (map f numbered) i Empty ≡ slot_state (get_or descriptors i None) (pads_for table i) =
     there ∙ ap f entry ∙ ap (λ (k : ℕ). slot_state (get_or descriptors i None) (pads_for table k)) place in
     let last : state ≡ get_or (map f numbered) i Empty = is ∙ ap (λ (d : Option Description). slot_state d (pads_for table i)) is-d
-        ∙ sym here in
+    ∙ sym here in
     ap (λ (l : List SlotState). l ++ state ∷ []) so_far
     ∙ ap (λ (x : SlotState). take i (map f numbered) ++ x ∷ []) last
     ∙ sym (take_more (map f numbered) i Empty (omega arith))
@@ -225,7 +225,7 @@ pub entry_members : (descriptors : List (Option Description)) (table : List (Lis
     → IfSome o (λ d. length d.pad_hashes ≡ length table)
 entry_members descriptors table i o are h is =
     rw (is, are.members) (All-get_or (λ slot. IfSome slot (λ (d : Description). length d.pad_hashes ≡ length descriptors)) descriptors i
-        None h are.hashes)
+    None h are.hashes)
 
 pub length-slot_states : (descriptors : List (Option Description)) (table : List (List (List ℕ)))
     → length (slot_states descriptors table) ≡ length descriptors

@@ -48,4 +48,4 @@ pub reached-earlier : (log : Log) (stage next : ℕ) → IsSome (before log next
 reached-earlier log stage next there le =
     let posts : List Post = posts_before log next in
     some_is (before log stage) (take (slots_before log.shape stage) posts)
-        (before-front log stage next posts le (complete-posts log next there))
+    (before-front log stage next posts le (complete-posts log next there))

@@ -38,7 +38,7 @@ kept-entry : (log : Log) (slot : Slot) (post : Post) → kept_in log slot ≡ So
 kept-entry log slot post e =
     let entry : Option (Option Post) = slice_get log.posts (slot_number log.shape slot.stage slot.sender) in
     flatten-some entry post (sym (cond-true (is_slot log.shape slot.stage slot.sender) (option_flatten entry) None
-        (kept-slot log slot post e)) ∙ e)
+    (kept-slot log slot post e)) ∙ e)
 
 pub short-empty : (shape : Shape) → KeepsShort (empty_log shape)
 short-empty shape = λ stage sender post e. absurd (nothing-there (slot_count shape) _ post
@@ -54,7 +54,7 @@ short-put log now slot post short here e = subst (λ (l : Log). KeepsShort l) (s
         let there = kept-slot (filled log slot post) other kept e in
         let number : ℕ = slot_number log.shape stage sender in
         elim (get-set log.posts (slot_number log.shape slot.stage slot.sender) number (Some post) (Some kept)
-            (kept-entry (filled log slot post) other kept e)) [
+        (kept-entry (filled log slot post) other kept e)) [
           | inl old ↦ short stage sender kept (cond-true (is_slot log.shape stage sender) (option_flatten (slice_get log.posts number)) None
               there ∙ ap option_flatten old)
           | inr new ↦ (let same : kept ≡ post = cc in subst (λ (p : Post). length (post_spelling p) < 2 ^ 32) (sym same) here)

@@ -26,7 +26,7 @@ ok-unless (Some refusal) = refl
 pub held-is : (shape : Shape) (past : List (List ℕ)) (a : Accusation) (found : List (Option Description)) (table : List (List (List ℕ)))
     (keys : List (List ℕ)) (r : Result (Unit {0}) AccusationRefusal) (b : Bool)
     → b ≡ is_ok r → r ≡ value_unless (refusal_of a found table keys) (tt {0}) → found ≡ descriptors_opened shape past
-        → table ≡ pads_sent shape past → keys ≡ keys_said shape past bulk_place
+    → table ≡ pads_sent shape past → keys ≡ keys_said shape past bulk_place
     → b ≡ is_held shape past a
 unfolding is_held
 held-is shape past a found table keys r b ok is found_is table_is keys_are =
@@ -46,7 +46,7 @@ unfolding is_held
 held-member shape past a held =
     let refusal = refusal_of a (descriptors_opened shape past) (pads_sent shape past) (keys_said shape past bulk_place) in
     let holds = (holds_exactly a (descriptors_opened shape past) (pads_sent shape past) (keys_said shape past bulk_place)).0
-        (none-is (refusal_of a (descriptors_opened shape past) (pads_sent shape past) (keys_said shape past bulk_place)) held) in
+    (none-is (refusal_of a (descriptors_opened shape past) (pads_sent shape past) (keys_said shape past bulk_place)) held) in
     let of_it = holds.2 in
     (of_it.first, (let last = of_it.last in omega (arith, last, keys-count shape past bulk_place)))
 
@@ -82,7 +82,7 @@ pub pad-told : (v : ClosedStage) (items : List (Option (List ℕ))) (found : Opt
 unfolding first_bad_pad
 pad-told v items found are is =
     ap (λ (t : List (Option (List ℕ))). first_some (map (bad_pad_by v) t)) (sym are) ∙ first-pad v items
-        ∙ ap (option_map (bad_pad v)) (sym is)
+    ∙ ap (option_map (bad_pad v)) (sym is)
 
 pub held-told : (v : ClosedStage) (items : List (Option (List ℕ))) (a : Accusation) → first_some (map (held_by v) items) ≡ Some a
     → is_held_at v a ≡ true

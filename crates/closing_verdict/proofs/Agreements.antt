@@ -94,7 +94,7 @@ closing-body : (v : ClosedStage) (member : ℕ) → closing_body v member ≡ bo
 unfolding said_in
 closing-body v member =
     ap (λ (bytes : List ℕ). body_of (content_read (shape_at v) bytes))
-        (get_or-map (λ (post : Post). post.content) v.posts (slot_number (shape_at v) v.stage member) no_post)
+    (get_or-map (λ (post : Post). post.content) v.posts (slot_number (shape_at v) v.stage member) no_post)
 
 faithful-body : (v : ClosedStage) (member : ℕ) (is : IsFaithful v member) → closing_body v member ≡ is.content.body
 faithful-body v member is = closing-body v member ∙ ap body_of is.reads
@@ -104,7 +104,7 @@ all-say : (v : ClosedStage) (is_one : Body → Bool) → ((member : ℕ) → IsM
 all-say v is_one each =
     list_all-map (λ body. is_one body) (closing_body v) (range_with_len 1 (shape_at v).members)
     ∙ range-all (λ member. is_one (closing_body v member)) 1 (shape_at v).members
-        (λ k le lt. each k (record { least = le; most = omega arith }))
+    (λ k le lt. each k (record { least = le; most = omega arith }))
 
 not-all-say : (v : ClosedStage) (is_one : Body → Bool) → 1 ≤ (shape_at v).members → is_one (closing_body v 1) ≡ false
     → all_say v is_one ≡ false
@@ -136,7 +136,7 @@ told-say c told is are =
     ap (list_all tells_assent) (are.are ∙ ap (λ (shape : Shape). by_member shape (tale c)) is.shape)
     ∙ list_all-map tells_assent (tale c) range
     ∙ list_all-same (λ member. tells_assent (tale c member)) (λ member. is_assent (closing_body v member)) range
-        (λ member. told-assent (closing_body v member))
+    (λ member. told-assent (closing_body v member))
     ∙ sym (list_all-map (λ body. is_assent body) (closing_body v) range)
 
 pub all-faithful : (c : Completed) (told : List Told) → IsComplete c → AreTold c told → AreFaithful (stage_closed c)
@@ -153,7 +153,7 @@ unfolding verdict_of
 sound-verdict c told is are =
     let v : ClosedStage = stage_closed c in
     cond-true (is_closing (shape_at v) v.stage) (unwrap_or (first_some (bad_log v ∷ equivocation v ∷ [])) (concluded_at v)) Goes
-        (whole-stage c is).closing
+    (whole-stage c is).closing
     ∙ ap (λ (o : Option Verdict). unwrap_or (first_some (o ∷ equivocation v ∷ [])) (concluded_at v)) are.justified
     ∙ ap (λ (o : Option Verdict). unwrap_or (first_some (None ∷ o ∷ [])) (concluded_at v)) are.same
 
@@ -164,7 +164,7 @@ agreed-verdict c told is are agree =
     let v : ClosedStage = stage_closed c in
     sound-verdict c told is are
     ∙ cond-true (all_say v is_assent) (agreed_at v (kind_of_stage (shape_at v) v.stage))
-        (if all_say v is_dissent then dissented_at v else Goes) (sym (told-say c told is are) ∙ agree)
+    (if all_say v is_dissent then dissented_at v else Goes) (sym (told-say c told is are) ∙ agree)
     ∙ ap (λ (shape : Shape). agreed_at v (kind_of_stage shape c.stage)) (sym is.shape)
 
 pub dissented-verdict : (c : Completed) (told : List Told) → IsComplete c → AreTold c told → list_all tells_assent told ≡ false
@@ -176,7 +176,7 @@ dissented-verdict c told is are differ =
     let disagree : agree_before v ≡ false = sym (told-agree c told is are) ∙ differ in
     sound-verdict c told is are
     ∙ cond-false (all_say v is_assent) (agreed_at v (kind_of_stage (shape_at v) v.stage))
-        (if all_say v is_dissent then dissented_at v else Goes) (sym (told-say c told is are) ∙ differ)
+    (if all_say v is_dissent then dissented_at v else Goes) (sym (told-say c told is are) ∙ differ)
     ∙ cond-true (all_say v is_dissent) (dissented_at v) Goes
     (all-say v is_dissent (λ member who. ap is_dissent (faithful-body v member (all member who)) ∙ (all member who).dissents disagree))
 
@@ -185,7 +185,7 @@ dissented-verdict c told is are differ =
 final-body : (c : Completed) (shuffle member : ℕ) → IsComplete c → kind_of_stage c.log.shape c.stage ≡ Some (AtFinal shuffle)
     → IsMemberOf (stage_closed c) member
     → (said : IsFaithful (stage_closed c) member) → IsClosingBody (shape_at (stage_closed c)) said.content.header.stage (AtFinal shuffle)
-        said.content.body
+    said.content.body
 final-body c shuffle member is at who said =
     let v : ClosedStage = stage_closed c in
     let stage_is : said.content.header.stage ≡ c.stage = (whole-stage c is).named member said.content who said.reads in
@@ -205,12 +205,12 @@ all-seeds c told shuffle is are at agree =
     let agreed : agree_before v ≡ true = sym (told-agree c told is are) ∙ agree in
     let count = members-are c is in
     subst (All TellsSeed) (sym are.are) (all-of TellsSeed (by_member c.log.shape (tale c))
-        (all-range TellsSeed (tale c) 1 c.log.shape.members (λ member least lt.
+    (all-range TellsSeed (tale c) 1 c.log.shape.members (λ member least lt.
     let who : IsMemberOf v member = record { least = least; most = omega arith } in
     let said : IsFaithful v member = all member who in
     subst (λ (body : Body). TellsSeed (told_of body)) (sym (faithful-body v member said))
     (reveals (shape_at v) said.content.header.stage shuffle said.content.body (final-body c shuffle member is at who said)
-        (said.assents ∙ agreed)))))
+    (said.assents ∙ agreed)))))
 
 pub all-parts : (c : Completed) (told : List Told) (shuffle : ℕ) → IsComplete c → AreTold c told
     → kind_of_stage c.log.shape c.stage ≡ Some (AtFinal shuffle)
@@ -221,12 +221,12 @@ all-parts c told shuffle is are at differ =
     let disagree : agree_before v ≡ false = sym (told-agree c told is are) ∙ differ in
     let count = members-are c is in
     subst (All TellsPart) (sym are.are) (all-of TellsPart (by_member c.log.shape (tale c))
-        (all-range TellsPart (tale c) 1 c.log.shape.members (λ member least lt.
+    (all-range TellsPart (tale c) 1 c.log.shape.members (λ member least lt.
     let who : IsMemberOf v member = record { least = least; most = omega arith } in
     let said : IsFaithful v member = all member who in
     subst (λ (body : Body). TellsPart (told_of body)) (sym (faithful-body v member said))
     (disputes (shape_at v) said.content.header.stage shuffle said.content.body (final-body c shuffle member is at who said)
-        (said.assents ∙ disagree)))))
+    (said.assents ∙ disagree)))))
 
 -- the seeds that are told, and the parts
 pub seeds-told : (c : Completed) (told : List Told) → AreTold c told
@@ -235,7 +235,7 @@ seeds-told c told are =
     let range : List ℕ = range_with_len 1 c.log.shape.members in
     ap (map seed_told) are.are ∙ map-map seed_told (tale c) range
     ∙ map-same (λ member. seed_told (tale c member)) (λ member. seed_in (closing_body (stage_closed c) member)) range
-        (λ member. told-seed (closing_body (stage_closed c) member))
+    (λ member. told-seed (closing_body (stage_closed c) member))
 
 pub parts-told : (c : Completed) (told : List Told) → AreTold c told
     → map part_told told ≡ by_member c.log.shape (λ member. shown_in (closing_body (stage_closed c) member))
@@ -243,7 +243,7 @@ parts-told c told are =
     let range : List ℕ = range_with_len 1 c.log.shape.members in
     ap (map part_told) are.are ∙ map-map part_told (tale c) range
     ∙ map-same (λ member. part_told (tale c member)) (λ member. shown_in (closing_body (stage_closed c) member)) range
-        (λ member. told-part (closing_body (stage_closed c) member))
+    (λ member. told-part (closing_body (stage_closed c) member))
 
 pub told-count : (c : Completed) (told : List Told) → AreTold c told → length told ≡ c.log.shape.members
 told-count c told are = ap (λ (t : List Told). length t) are.are ∙ length-map-range_with_len (tale c) 1 c.log.shape.members

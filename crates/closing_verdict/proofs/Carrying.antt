@@ -62,18 +62,18 @@ pads-now log stage later reached behind =
     let at : ℕ = pad_stage log.shape in
     let order = reached.order in
     same-range (λ member. pads_in (said_in log.shape (past_of log stage) at member))
-        (λ member. pads_in (said_in log.shape (past_of log later) at member)) 1 log.shape.members (λ member least lt.
+    (λ member. pads_in (said_in log.shape (past_of log later) at member)) 1 log.shape.members (λ member least lt.
     let slot : Slot = record { stage = at; sender = member } in
     let there = pad-slot log.shape member least (omega arith) in
     ap pads_in (sym (kept-said log stage slot reached.at there behind)
-        ∙ kept-said log later slot reached.at_later there (omega (arith, order, behind))))
+    ∙ kept-said log later slot reached.at_later there (omega (arith, order, behind))))
 
 descriptors-now : (log : Log) (stage later : ℕ) → AreReached log stage later → pad_stage log.shape < stage
     → descriptors_opened log.shape (past_of log stage) ≡ descriptors_opened log.shape (past_of log later)
 unfolding descriptors_opened
 descriptors-now log stage later reached behind =
     ap (λ (items : List (Option (List ℕ))). map (option_and_then (descriptor_read log.shape.members)) items)
-        (items_stay log stage later 1 reached (omega arith) (omega arith) (omega (arith, behind)))
+    (items_stay log stage later 1 reached (omega arith) (omega arith) (omega (arith, behind)))
 
 pub slots-now : (c : Completed) (slots : Slots) → IsComplete c → stage_found c.log ≤ c.stage → AreSlotsOf c.log slots
     → AreSlotsSaid c.log.shape (past_of c.log (c.stage + 1)) slots

@@ -56,9 +56,9 @@ whole-stage c is =
       named = λ member content who reads. (
           let said = closing-said c is member who.least (let most = who.most in omega (arith, members)) in
           let read : closing_content (stage_closed c) member ≡ Ok said.content = ap
-              (λ (shape : Shape). content_read shape (post_in (stage_closed c) c.stage member).content) (sym is.shape) ∙ said.reads in
+          (λ (shape : Shape). content_read shape (post_in (stage_closed c) c.stage member).content) (sym is.shape) ∙ said.reads in
           ap (λ (x : Content). x.header.stage) (content-same (closing_content (stage_closed c) member) content said.content reads read)
-              ∙ said.stage_is);
+          ∙ said.stage_is);
     }
 
 -- ---- where the ends stand

@@ -68,7 +68,7 @@ pub closed-sent : (c : Completed) → IsComplete c → (slot : Slot) (bytes : Li
     → option_map post_spelling (kept_in c.log slot) ≡ Some bytes → bytes ≡ sent_in (stage_closed c) slot.stage slot.sender
 closed-sent c is slot bytes there le e =
     some-same bytes (sent_in (stage_closed c) slot.stage slot.sender)
-        (sym e ∙ ap (option_map post_spelling) (closed-kept c is slot there le))
+    (sym e ∙ ap (option_map post_spelling) (closed-kept c is slot there le))
 
 pub closed-short : (c : Completed) → IsComplete c → (slot : Slot) → is_slot c.log.shape slot.stage slot.sender ≡ true → slot.stage ≤ c.stage
     → length (sent_in (stage_closed c) slot.stage slot.sender) < 2 ^ 32
@@ -83,16 +83,16 @@ if-ok P Q (Err e) step p = p
 pub if-sent : {E : Type 0} (c : Completed) → IsComplete c → (slot : Slot) → is_slot c.log.shape slot.stage slot.sender ≡ true
     → slot.stage ≤ c.stage
     → (r : Result (List ℕ) E) → IfOk r (λ bytes. option_map post_spelling (kept_in c.log slot) ≡ Some bytes)
-        → IfOk r (λ bytes. bytes ≡ sent_in (stage_closed c) slot.stage slot.sender)
+    → IfOk r (λ bytes. bytes ≡ sent_in (stage_closed c) slot.stage slot.sender)
 if-sent c is slot there le r e =
     if-ok (λ bytes. option_map post_spelling (kept_in c.log slot) ≡ Some bytes)
-        (λ bytes. bytes ≡ sent_in (stage_closed c) slot.stage slot.sender) r (λ bytes e. closed-sent c is slot bytes there le e) e
+    (λ bytes. bytes ≡ sent_in (stage_closed c) slot.stage slot.sender) r (λ bytes e. closed-sent c is slot bytes there le e) e
 
 pub if-short : {E : Type 0} (c : Completed) → IsComplete c → (slot : Slot) → is_slot c.log.shape slot.stage slot.sender ≡ true
     → slot.stage ≤ c.stage
     → (r : Result (List ℕ) E) → IfOk r (λ bytes. option_map post_spelling (kept_in c.log slot) ≡ Some bytes)
-        → IfOk r (λ bytes. length bytes < 2 ^ 32)
+    → IfOk r (λ bytes. length bytes < 2 ^ 32)
 if-short c is slot there le r e =
     if-ok (λ bytes. option_map post_spelling (kept_in c.log slot) ≡ Some bytes) (λ bytes. length bytes < 2 ^ 32) r
     (λ bytes e. subst (λ (b : List ℕ). length b < 2 ^ 32) (sym (closed-sent c is slot bytes there le e)) (closed-short c is slot there le))
-        e
+    e

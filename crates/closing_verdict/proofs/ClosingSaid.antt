@@ -32,7 +32,7 @@ closing-said c is member least most =
     let there : is_slot c.log.shape c.stage member ≡ true = closing-slot c.log.shape c.stage member is.closing least most in
     let kept = closed-kept c is slot there (omega arith) in
     let stands : StandsIn c.log.shape slot (post_in (stage_closed c) c.stage member).content = is.stand c.stage member
-        (post_in (stage_closed c) c.stage member) kept in
+    (post_in (stage_closed c) c.stage member) kept in
     record {
       content = stands.said;
       kept = kept;
@@ -58,7 +58,7 @@ pub closing-read : (c : Completed) (is : IsComplete c) → (member : ℕ) (least
 closing-read c is member least most shape post bytes kept are same =
     let said = closing-said c is member least most in
     let own : post ≡ post_in (stage_closed c) c.stage member = post-same post (post_in (stage_closed c) c.stage member) (kept ∙ said.kept)
-        in
+    in
     ap (λ (s : Shape). content_read s bytes) same ∙ ap (content_read c.log.shape) (are ∙ ap (λ (p : Post). p.content) own) ∙ said.reads
   where
     post-same : (a b : Post) → (let some : Post → Option Post = λ z. Some z in some a ≡ some b) → a ≡ b
@@ -80,7 +80,7 @@ said-fault refusal at rule r content is faulty reads =
 pub closing-is : (c : Completed) → IsComplete c → (member : ℕ) → 1 ≤ member → member ≤ c.log.shape.members
     → (shape : Shape) (post : Post) (bytes : List ℕ) (content : Content)
     → Some post ≡ kept_in c.log (record { stage = c.stage; sender = member }) → bytes ≡ post.content → shape ≡ c.log.shape
-        → content_read shape bytes ≡ Ok content
+    → content_read shape bytes ≡ Ok content
     → (closing_content (stage_closed c) member ≡ Ok content) × (content.header.stage ≡ c.stage)
 closing-is c is member least most shape post bytes content kept are same reads =
     let said = closing-said c is member least most in

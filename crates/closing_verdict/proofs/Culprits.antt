@@ -93,24 +93,24 @@ two-one q found e = elim (first_some-some_parts (view_fault q) (vote_fault q ∷
 
 five-one : (q : Inquiry) (shuffle : ℕ) (found : Fault)
     → first_some (view_fault q ∷ seed_fault q shuffle ∷ submission_fault q shuffle ∷ turn_fault q ∷ vote_fault q ∷ []) ≡ Some found
-        → IsOneOf q found.member
+    → IsOneOf q found.member
 five-one q shuffle found e = elim (first_some-some_parts (view_fault q)
     (seed_fault q shuffle ∷ submission_fault q shuffle ∷ turn_fault q ∷ vote_fault q ∷ []) found e) [
-  | inl view ↦ view-one q found view
-  | inr a ↦ elim (first_some-some_parts (seed_fault q shuffle) (submission_fault q shuffle ∷ turn_fault q ∷ vote_fault q ∷ []) found a.1) [
-    | inl seed ↦ seed-one q shuffle found seed
-    | inr b ↦ elim (first_some-some_parts (submission_fault q shuffle) (turn_fault q ∷ vote_fault q ∷ []) found b.1) [
-      | inl submitted ↦ submission-one q shuffle found submitted
-      | inr c ↦ elim (first_some-some_parts (turn_fault q) (vote_fault q ∷ []) found c.1) [
-        | inl turn ↦ turn-one q found turn
-        | inr d ↦ elim (first_some-some_parts (vote_fault q) [] found d.1) [
-          | inl vote ↦ vote-one q found vote
-          | inr nothing ↦ absurd (none-some found nothing.1)
+      | inl view ↦ view-one q found view
+      | inr a ↦ elim (first_some-some_parts (seed_fault q shuffle) (submission_fault q shuffle ∷ turn_fault q ∷ vote_fault q ∷ []) found a.1) [
+        | inl seed ↦ seed-one q shuffle found seed
+        | inr b ↦ elim (first_some-some_parts (submission_fault q shuffle) (turn_fault q ∷ vote_fault q ∷ []) found b.1) [
+          | inl submitted ↦ submission-one q shuffle found submitted
+          | inr c ↦ elim (first_some-some_parts (turn_fault q) (vote_fault q ∷ []) found c.1) [
+            | inl turn ↦ turn-one q found turn
+            | inr d ↦ elim (first_some-some_parts (vote_fault q) [] found d.1) [
+              | inl vote ↦ vote-one q found vote
+              | inr nothing ↦ absurd (none-some found nothing.1)
+            ]
+          ]
         ]
       ]
     ]
-  ]
-]
 
 pub culprit-one : (q : Inquiry) (found : Fault) → culprit_of q ≡ Some found → (1 ≤ found.member) × (found.member ≤ q.shape.members)
 culprit-one q found e = by_kind (kind_of_stage q.shape q.stage) e

@@ -68,7 +68,7 @@ pub front-long : (c : Completed) → IsComplete c → (stage : ℕ) → stage �
 front-long c is stage le =
     ap (λ (t : List Post). length t) (front-is c is stage le)
     ∙ length-take-le (slots_before c.log.shape stage) (posts_before c.log (c.stage + 1))
-        (omega (arith, closed-long c is, slots_before-rises c.log.shape stage (c.stage + 1) (omega (arith, le))))
+    (omega (arith, closed-long c is, slots_before-rises c.log.shape stage (c.stage + 1) (omega (arith, le))))
 
 -- each of them is short
 post-short : (c : Completed) → IsComplete c → (k : ℕ) → k < slots_before c.log.shape (c.stage + 1)
@@ -78,7 +78,7 @@ post-short c is k lt =
     let nobody : Slot = record { stage = 0; sender = 0 } in
     let slot : Slot = get_or (slots_of shape) k nobody in
     let at = slot_at-is shape k slot (slice_get-get_or (slots_of shape) k nobody
-        (omega (arith, lt, slots_before-most shape (c.stage + 1), length-slots_of shape))) in
+    (omega (arith, lt, slots_before-most shape (c.stage + 1), length-slots_of shape))) in
     let within = slot_number-within shape slot.stage slot.sender at.0 in
     let within_stage : slot.stage ≤ c.stage = by_order slot.stage (cases_lt c.stage slot.stage) within.0 at.1 in
     let here = closed-short c is slot at.0 within_stage in
@@ -89,8 +89,15 @@ post-short c is k lt =
         → slots_before c.log.shape stage ≤ slot_number c.log.shape stage
         (get_or (slots_of c.log.shape) k (record { stage = 0; sender = 0 })).sender
         → slot_number c.log.shape stage (get_or (slots_of c.log.shape) k (record { stage = 0; sender = 0 })).sender ≡ k → stage ≤ c.stage
-    by_order stage (inl later) low number = absurd (omega (arith, later, low, number, lt, slots_before-rises c.log.shape (c.stage + 1) stage
-        (omega (arith, later))))
+    by_order stage (inl later) low number = absurd (omega (
+      arith,
+      later,
+      low,
+      number,
+      lt,
+      slots_before-rises c.log.shape (c.stage + 1) stage
+          (omega (arith, later)),
+    ))
     by_order stage (inr within) low number = within
 
 pub front-short : (c : Completed) → IsComplete c → (stage : ℕ) → stage ≤ c.stage
@@ -105,7 +112,7 @@ front-short c is stage le = λ k d lt.
     = get_or-map post_spelling posts k no_post d few
     ∙ ap post_spelling (ap (λ (t : List Post). get_or t k no_post) (front-is c is stage le) ∙ get_or-take n all k no_post below) in
     subst (λ (b : List ℕ). length b < 2 ^ 32) (sym there) (post-short c is k
-        (omega (arith, below, slots_before-rises c.log.shape stage (c.stage + 1) (omega (arith, le)))))
+    (omega (arith, below, slots_before-rises c.log.shape stage (c.stage + 1) (omega (arith, le)))))
 
 -- how many they are with the pads
 pub pads-count : (shape : Shape) (posts : List Post) (front now : List (List ℕ)) (pads : List ℕ)

@@ -31,12 +31,12 @@ body-said : (v : ClosedStage) (member : ℕ) → closing_body v member ≡ body_
 unfolding said_in
 body-said v member =
     ap (λ (bytes : List ℕ). body_of (content_read (shape_at v) bytes))
-        (get_or-map (λ (post : Post). post.content) v.posts (slot_number (shape_at v) v.stage member) no_post)
+    (get_or-map (λ (post : Post). post.content) v.posts (slot_number (shape_at v) v.stage member) no_post)
 
 pub justified-of : (c : Completed) (member : ℕ) (content : Content) (told : Told) (second : Option Conviction)
     → closing_content (stage_closed c) member ≡ Ok content
     → is_content_justified c.roster c.round content ≡ true → told ≡ told_of content.body
-        → TellsSecond (equivocation_in (stage_closed c) member) second
+    → TellsSecond (equivocation_in (stage_closed c) member) second
     → IsJustifiedOf c member told second
 justified-of c member content told second reads justified is tells = record {
   justified = ap (is_read_justified (stage_closed c)) reads ∙ justified;
@@ -92,7 +92,7 @@ tells-or (Some a) b None second one two = absurd one
 pub next-read : (c : Completed) (member : ℕ) (told now : List Told) (second next : Option Conviction) (one : Told)
     (other : Option Conviction) → 1 ≤ member
     → AreRead c (member - 1) told second → IsJustifiedOf c member one other → now ≡ told ++ one ∷ [] → next ≡ option_or second other
-        → AreRead c (member + 1 - 1) now next
+    → AreRead c (member + 1 - 1) now next
 next-read c member told now second next one other least so is e e' =
     let place : ℕ = member - 1 in
     let here : place + 1 ≡ member = omega (arith, least) in
@@ -127,7 +127,7 @@ pub bad-told : (c : Completed) → IsComplete c → (member : ℕ) (told : List 
     → 1 ≤ member → member ≤ c.log.shape.members → AreRead c (member - 1) told second
     → is_read_justified (stage_closed c) (closing_content (stage_closed c) member) ≡ false
     → ((verdict : Verdict) → bad_log_of (stage_closed c) member ≡ Some verdict → TellsConviction verdict made)
-        → TellsConviction (verdict_in c) made
+    → TellsConviction (verdict_in c) made
 unfolding bad_log
 bad-told c is member told second made least most so bad tells =
     let v : ClosedStage = stage_closed c in
@@ -137,10 +137,10 @@ bad-told c is member told second made least most so bad tells =
     let own : bad_log_of v member ≡ Some verdict = cond-false (is_read_justified v (closing_content v member)) None (Some verdict) bad in
     let members : (shape_at v).members ≡ c.log.shape.members = ap (λ (s : Shape). s.members) (sym is.shape) in
     let first : bad_log v ≡ Some verdict = first_below-some (λ k. bad_log_of v (k + 1)) (shape_at v).members place verdict
-        (omega (arith, members, least, most))
+    (omega (arith, members, least, most))
     (λ k lt. cond-true (is_read_justified v (closing_content v (k + 1))) None
-        (Some (conviction v.round (k + 1) BadLog (sent_in v v.stage (k + 1) ∷ [])))
-        (so.justified (k + 1) (omega arith) (omega (arith, lt))))
+    (Some (conviction v.round (k + 1) BadLog (sent_in v v.stage (k + 1) ∷ [])))
+    (so.justified (k + 1) (omega arith) (omega (arith, lt))))
     (ap (bad_log_of v) here ∙ own) in
     let all = verdict-first c is verdict (first_some-some verdict (bad_log v) (equivocation v ∷ []) first) in
     subst (λ (x : Verdict). TellsConviction x made) (sym all) (tells verdict own)
@@ -154,8 +154,8 @@ none-bad c is told second so =
     let members : (shape_at v).members ≡ c.log.shape.members = ap (λ (s : Shape). s.members) (sym is.shape) in
     first_below-none (λ k. bad_log_of v (k + 1)) (shape_at v).members
     (λ k lt. cond-true (is_read_justified v (closing_content v (k + 1))) None
-        (Some (conviction v.round (k + 1) BadLog (sent_in v v.stage (k + 1) ∷ [])))
-        (so.justified (k + 1) (omega arith) (omega (arith, lt, members))))
+    (Some (conviction v.round (k + 1) BadLog (sent_in v v.stage (k + 1) ∷ [])))
+    (so.justified (k + 1) (omega arith) (omega (arith, lt, members))))
 
 all-seconds : (c : Completed) → IsComplete c → equivocation (stage_closed c) ≡ first_below c.log.shape.members (second_of c)
 unfolding equivocation
@@ -172,7 +172,7 @@ second-read c is told made so = by_first (first_below c.log.shape.members (secon
         let v : ClosedStage = stage_closed c in
         let found : equivocation v ≡ Some verdict = all-seconds c is ∙ e in
         let all = verdict-first c is verdict (first_some-none (bad_log v) (equivocation v ∷ []) (none-bad c is told (Some made) so)
-            ∙ first_some-some verdict (equivocation v) [] found) in
+        ∙ first_some-some verdict (equivocation v) [] found) in
         subst (λ (x : Verdict). TellsConviction x made) (sym all) tells
 
 pub sound-read : (c : Completed) → IsComplete c → (told : List Told) → AreRead c c.log.shape.members told None → AreTold c told

@@ -143,11 +143,11 @@ alike v log own slot bytes post spelled kept own_kept same = elim (cases_Bool (i
 unlike : (v : ClosedStage) (log own : Log) (slot : Slot) (bytes : List ℕ) (post : Post) → frame_of bytes ≡ Ok post
     → kept_in log slot ≡ Some post
     → kept_in own slot ≡ Some (post_in v slot.stage slot.sender) → Differ log own slot
-        → second_content v (slot, bytes) ≡ Some (other_told v slot bytes)
+    → second_content v (slot, bytes) ≡ Some (other_told v slot bytes)
 unlike v log own slot bytes post spelled kept own_kept differ =
     let one : differ.post ≡ post = post-is differ.post post (sym differ.kept ∙ kept) in
     let two : differ.other_post ≡ post_in v slot.stage slot.sender = post-is differ.other_post (post_in v slot.stage slot.sender)
-        (sym differ.other_kept ∙ own_kept) in
+    (sym differ.other_kept ∙ own_kept) in
     let other : is_alike v slot bytes ≡ false = false_from_ne_true (is_alike v slot bytes) (λ e. differ.contents (
     ap (λ (p : Post). p.content) one ∙ sym (ap content_of_post spelled)
     ∙ (bytes_eq-Decides (content_of_post (frame_of bytes)) (post_in v slot.stage slot.sender).content).0 e
@@ -164,7 +164,7 @@ number-first shape a b here there (inl later) = omega (arith, slot_number-later 
 number-first shape a b here there (inr same) =
     let at : is_slot shape a.stage b.sender ≡ true = subst (λ (s : ℕ). is_slot shape s b.sender ≡ true) (sym same.0) there in
     let stage : slot_number shape a.stage b.sender ≡ slot_number shape b.stage b.sender = ap (λ (s : ℕ). slot_number shape s b.sender)
-        same.0 in
+    same.0 in
     elim (cases_lt a.sender b.sender) [
       | inl below ↦ omega (arith, slot_number-rises shape a.stage a.sender b.sender here at below, stage)
       | inr above ↦
@@ -174,12 +174,12 @@ number-first shape a b here there (inr same) =
 
 -- what was read of pairs: each is the post of its slot
 pub record IsReadPair (c : Completed) (slot : Slot) (bytes : List ℕ) (pairs : List (Slot × List ℕ)) (place : ℕ) (posts : List Post) : Type 0
-    where
-  pub post : Post
-  pub others : List Post
-  pub are : posts ≡ post ∷ others
-  pub spelled : frame_of bytes ≡ Ok post
-  pub read : posts_for c.roster c.round (place + 1) pairs ≡ Ok others
+  where
+    pub post : Post
+    pub others : List Post
+    pub are : posts ≡ post ∷ others
+    pub spelled : frame_of bytes ≡ Ok post
+    pub read : posts_for c.roster c.round (place + 1) pairs ≡ Ok others
 
 read-pair : (c : Completed) (slot : Slot) (bytes : List ℕ) (pairs : List (Slot × List ℕ)) (place : ℕ) (posts : List Post)
     → posts_for c.roster c.round place ((slot, bytes) ∷ pairs) ≡ Ok posts → IsReadPair c slot bytes pairs place posts
@@ -187,7 +187,7 @@ unfolding posts_for
 read-pair c slot bytes pairs place posts e =
     let bad : WhyNot → BadPost = λ why. record { place = place; why = why } in
     let first = bind_ok (fault_as bad (post_for_slot c.roster c.round slot bytes))
-        (λ post. posts_for c.roster c.round (place + 1) pairs >>= λ posts. Ok (post ∷ posts)) posts e in
+    (λ post. posts_for c.roster c.round (place + 1) pairs >>= λ posts. Ok (post ∷ posts)) posts e in
     let others = bind_ok (posts_for c.roster c.round (place + 1) pairs) (λ posts. Ok (first.0 ∷ posts)) posts first.2 in
     record {
       post = first.0;
@@ -219,8 +219,13 @@ record IsHead (c : Completed) (log : Log) (first : ℕ) (slot : Slot) (post : Po
 stage-within : (shape : Shape) (stage : ℕ) (slot : Slot) → is_slot shape slot.stage slot.sender ≡ true
     → slot_number shape slot.stage slot.sender < slots_before shape (stage + 1) → slot.stage ≤ stage
 stage-within shape stage slot there lt = elim (cases_lt stage slot.stage) [
-  | inl later ↦ absurd (omega (arith, lt, (slot_number-within shape slot.stage slot.sender there).0, slots_before-rises shape (stage + 1)
-      slot.stage (omega (arith, later))))
+  | inl later ↦ absurd (omega (
+    arith,
+    lt,
+    (slot_number-within shape slot.stage slot.sender there).0,
+    slots_before-rises shape (stage + 1)
+        slot.stage (omega (arith, later)),
+  ))
   | inr within ↦ within
 ]
 
@@ -229,7 +234,7 @@ row-head : (c : Completed) → IsComplete c → (log : Log) (first : ℕ) (slot 
 row-head c is log first slot slots post posts row =
     let at = slot_at-is c.log.shape first slot row.numbers.0 in
     let in_log : is_slot log.shape slot.stage slot.sender ≡ true = subst (λ (s : Shape). is_slot s slot.stage slot.sender ≡ true)
-        (sym row.shape_is) at.0 in
+    (sym row.shape_is) at.0 in
     let zero_more : first + 0 ≡ first = omega arith in
     record {
       there = at.0;
@@ -264,12 +269,12 @@ no-second c is log same place first (slot ∷ slots) [] posts row e = refl
 no-second c is log same place first (slot ∷ slots) (one ∷ bytes) posts row e =
     let pair = read-pair c slot one (zip slots bytes) place posts e in
     let here : IsRow c log first (slot ∷ slots) (pair.post ∷ pair.others) = subst (λ (p : List Post). IsRow c log first (slot ∷ slots) p)
-        pair.are row in
+    pair.are row in
     let head = row-head c is log first slot slots pair.post pair.others here in
     let none : second_content (stage_closed c) (slot, one) ≡ None = alike (stage_closed c) log c.log slot one pair.post pair.spelled
-        head.kept head.own (same slot) in
+    head.kept head.own (same slot) in
     let rest = no-second c is log same (place + 1) (first + 1) slots bytes pair.others
-        (row-rest c log first slot slots pair.post pair.others here) pair.read in
+    (row-rest c log first slot slots pair.post pair.others here) pair.read in
     ap (λ (o : Option Verdict). first_some (o ∷ map (second_content (stage_closed c)) (zip slots bytes))) none ∙ rest
 
 -- else the first slot in which they differ convicts its sender
@@ -279,13 +284,13 @@ pub second-found : (c : Completed) → IsComplete c → (log : Log) (d : Slot) �
     → IsRow c log first slots posts → length bytes ≡ length slots → posts_for c.roster c.round place (zip slots bytes) ≡ Ok posts
     → first ≤ slot_number c.log.shape d.stage d.sender → slot_number c.log.shape d.stage d.sender < first + length slots
     → first_some (map (second_content (stage_closed c)) (zip slots bytes)) ≡ Some
-        (other_told (stage_closed c) d (get_or bytes (slot_number c.log.shape d.stage d.sender - first) []))
+    (other_told (stage_closed c) d (get_or bytes (slot_number c.log.shape d.stage d.sender - first) []))
 second-found c is log d found there place first [] bytes posts row long e low high = absurd (omega (arith, low, high))
 second-found c is log d found there place first (slot ∷ slots) [] posts row long e low high = absurd (omega (arith, long))
 second-found c is log d found there place first (slot ∷ slots) (one ∷ bytes) posts row long e low high =
     let pair = read-pair c slot one (zip slots bytes) place posts e in
     let here : IsRow c log first (slot ∷ slots) (pair.post ∷ pair.others) = subst (λ (p : List Post). IsRow c log first (slot ∷ slots) p)
-        pair.are row in
+    pair.are row in
     let head = row-head c is log first slot slots pair.post pair.others here in
     let shape : Shape = c.log.shape in
     let number : ℕ = slot_number shape d.stage d.sender in
@@ -296,9 +301,9 @@ second-found c is log d found there place first (slot ∷ slots) (one ∷ bytes)
           let least = number-first shape d slot there head.there (found.first slot differ) in
           let contrary : ⊥ = omega (arith, least, head.number, behind) in contrary) in
           let none : second_content (stage_closed c) (slot, one) ≡ None = alike (stage_closed c) log c.log slot one pair.post pair.spelled
-              head.kept head.own apart in
+          head.kept head.own apart in
           let rest = second-found c is log d found there (place + 1) (first + 1) slots bytes pair.others
-              (row-rest c log first slot slots pair.post pair.others here)
+          (row-rest c log first slot slots pair.post pair.others here)
           (omega (arith, long)) pair.read (omega (arith, behind)) (omega (arith, high)) in
           let step : number - first ≡ suc (number - (first + 1)) = omega (arith, behind) in
           ap (λ (o : Option Verdict). first_some (o ∷ all)) none ∙ rest
@@ -306,11 +311,11 @@ second-found c is log d found there place first (slot ∷ slots) (one ∷ bytes)
       | inr not_behind ↦
           let at : number ≡ first = omega (arith, low, not_behind) in
           let same : slot ≡ d = slot-same (sym here.numbers.0 ∙ ap (slot_at shape) (sym at) ∙ slot_at-number shape d.stage d.sender there)
-              in
+          in
           let step : number - first ≡ 0 = omega (arith, at) in
           let told : second_content (stage_closed c) (slot, one) ≡ Some (other_told (stage_closed c) slot one)
           = unlike (stage_closed c) log c.log slot one pair.post pair.spelled head.kept head.own
-              (subst (λ (s : Slot). Differ log c.log s) (sym same) found.differ) in
+          (subst (λ (s : Slot). Differ log c.log s) (sym same) found.differ) in
           ap (λ (o : Option Verdict). first_some (o ∷ all)) told
           ∙ ap (λ (s : Slot). Some (other_told (stage_closed c) s one)) same
           ∙ ap (λ (k : ℕ). Some (other_told (stage_closed c) d (get_or (one ∷ bytes) k []))) (sym step)
@@ -375,12 +380,16 @@ row-is c is content log e =
     let least : 1 ≤ content.header.stage = omega (arith, closing-least c is, e.stage_is) in
     let places : log.posts ≡ places_of first (slot_count shape) e.keeps.posts
     = ap (λ (l : Log). l.posts) e.keeps.keeps ∙ ap (λ (s : Shape). places_of (first_embedded s content) (slot_count s) e.keeps.posts)
-        (sym own) in
+    (sym own) in
     record {
       shape_is = ap (λ (l : Log). l.shape) e.keeps.keeps ∙ sym own;
       numbers = subst (λ (s : List Slot). NumberedFrom shape first s) (sym span.slots_are) (numbered shape span.count first span.within);
-      within = omega (arith, slots-within shape content least, slots_before-rises shape content.header.stage (c.stage + 1)
-          (omega (arith, e.stage_is)));
+      within = omega (
+        arith,
+        slots-within shape content least,
+        slots_before-rises shape content.header.stage (c.stage + 1)
+            (omega (arith, e.stage_is)),
+      );
       stand = subst (λ (p : List (Option Post)). StandFrom p first e.keeps.posts) (sym places)
           (stand-from first (slot_count shape) e.keeps.posts);
       count = omega (arith, span.slots_long, span.posts_long, e.keeps.long);
@@ -390,7 +399,7 @@ row-is c is content log e =
 pub kept-within : (c : Completed) → IsComplete c → (content : Content) (log : Log) (e : IsEmbedded c content log) (slot : Slot)
     (post : Post) → kept_in log slot ≡ Some post
     → (is_slot c.log.shape slot.stage slot.sender ≡ true) × (first_embedded c.log.shape content ≤ slot_number c.log.shape slot.stage
-        slot.sender)
+    slot.sender)
     × (slot_number c.log.shape slot.stage slot.sender < first_embedded c.log.shape content + length (posts_embedded content.body))
 kept-within c is content log e slot post kept =
     let shape : Shape = c.log.shape in
@@ -399,15 +408,15 @@ kept-within c is content log e slot post kept =
     let shape_is : log.shape ≡ shape = ap (λ (l : Log). l.shape) e.keeps.keeps ∙ sym own in
     let places : log.posts ≡ places_of first (slot_count shape) e.keeps.posts
     = ap (λ (l : Log). l.posts) e.keeps.keeps ∙ ap (λ (s : Shape). places_of (first_embedded s content) (slot_count s) e.keeps.posts)
-        (sym own) in
+    (sym own) in
     let in_log : is_slot log.shape slot.stage slot.sender ≡ true = kept-slot log slot post kept in
     let there : is_slot shape slot.stage slot.sender ≡ true = subst (λ (s : Shape). is_slot s slot.stage slot.sender ≡ true) shape_is in_log
-        in
+    in
     let at : at_place (places_of first (slot_count shape) e.keeps.posts) (slot_number shape slot.stage slot.sender) ≡ Some post
     = ap (λ (p : List (Option Post)). at_place p (slot_number shape slot.stage slot.sender)) (sym places)
     ∙ ap (λ (s : Shape). at_place log.posts (slot_number s slot.stage slot.sender)) (sym shape_is)
     ∙ sym (cond-true (is_slot log.shape slot.stage slot.sender) (at_place log.posts (slot_number log.shape slot.stage slot.sender)) None
-        in_log) ∙ kept in
+    in_log) ∙ kept in
     let range = stand-only first (slot_count shape) e.keeps.posts (slot_number shape slot.stage slot.sender) post at in
     (there, range.0, omega (arith, range.1, e.keeps.long))
 
@@ -416,11 +425,11 @@ kept-within c is content log e slot post kept =
 -- what is looked at is what was read
 pairs-here : (c : Completed) → IsComplete c → (content : Content) (member : ℕ) → closing_content (stage_closed c) member ≡ Ok content
     → equivocation_in (stage_closed c) member ≡ first_some (map (second_content (stage_closed c))
-        (zip (slots_embedded c.log.shape content) (posts_embedded content.body)))
+    (zip (slots_embedded c.log.shape content) (posts_embedded content.body)))
 pairs-here c is content member reads =
     ap (λ (r : Result Content Offence). first_some (map (second_content (stage_closed c)) (pairs_read (stage_closed c) r))) reads
     ∙ ap (λ (s : Shape). first_some (map (second_content (stage_closed c)) (zip (slots_embedded s content) (posts_embedded content.body))))
-        (sym is.shape)
+    (sym is.shape)
 
 found-here : (c : Completed) → IsComplete c → (content : Content) (log : Log) (e : IsEmbedded c content log)
     → posts_for c.roster c.round 0 (zip (slots_embedded c.log.shape content) (posts_embedded content.body)) ≡ Ok e.keeps.posts
@@ -432,7 +441,7 @@ pub nothing-told : (c : Completed) → IsComplete c → (content : Content) (log
 nothing-told c is content log e same member reads =
     let none = pairs-here c is content member reads
     ∙ no-second c is log same 0 (first_embedded c.log.shape content) (slots_embedded c.log.shape content) (posts_embedded content.body)
-        e.keeps.posts (row-is c is content log e) (found-here c is content log e) in
+    e.keeps.posts (row-is c is content log e) (found-here c is content log e) in
     subst (λ (o : Option Verdict). TellsSecond o None) (sym none) tt
 
 pub second-told : (c : Completed) → IsComplete c → (content : Content) (log : Log) → IsEmbedded c content log → (d : Slot)
@@ -441,23 +450,23 @@ pub second-told : (c : Completed) → IsComplete c → (content : Content) (log 
     → other ≡ get_or (posts_embedded content.body) (slot_number c.log.shape d.stage d.sender - first_embedded c.log.shape content) []
     → TellsConviction (conviction c.round d.sender Equivocation (post_spelling kept ∷ other ∷ [])) conviction_told
     → (member : ℕ) → closing_content (stage_closed c) member ≡ Ok content
-        → TellsSecond (equivocation_in (stage_closed c) member) (Some conviction_told)
+    → TellsSecond (equivocation_in (stage_closed c) member) (Some conviction_told)
 second-told c is content log e d first kept other told own bytes tells member reads =
     let span = spans-here c is content e.grammar e.stage_is in
     let range = kept-within c is content log e d first.differ.post first.differ.kept in
     let found = pairs-here c is content member reads
     ∙ second-found c is log d first range.0 0 (first_embedded c.log.shape content) (slots_embedded c.log.shape content)
-        (posts_embedded content.body) e.keeps.posts (row-is c is content log e)
+    (posts_embedded content.body) e.keeps.posts (row-is c is content log e)
     (omega (arith, span.slots_long, span.posts_long)) (found-here c is content log e) range.1
-        (omega (arith, range.2, span.slots_long, span.posts_long)) in
+    (omega (arith, range.2, span.slots_long, span.posts_long)) in
     let within : d.stage ≤ c.stage = stage-within c.log.shape c.stage d range.0
-        (omega (arith, range.2, (row-is c is content log e).within, span.slots_long, span.posts_long)) in
+    (omega (arith, range.2, (row-is c is content log e).within, span.slots_long, span.posts_long)) in
     let sent : sent_in (stage_closed c) d.stage d.sender ≡ post_spelling kept = ap post_spelling
-        (post-is _ kept (sym (closed-kept c is d range.0 within) ∙ own)) in
+    (post-is _ kept (sym (closed-kept c is d range.0 within) ∙ own)) in
     subst (λ (o : Option Verdict). TellsSecond o (Some told)) (sym (found
     ∙ ap (λ (s : List ℕ). Some (conviction c.round d.sender Equivocation
-        (s ∷ get_or (posts_embedded content.body) (slot_number c.log.shape d.stage d.sender - first_embedded c.log.shape content) [] ∷ [])))
-        sent
+    (s ∷ get_or (posts_embedded content.body) (slot_number c.log.shape d.stage d.sender - first_embedded c.log.shape content) [] ∷ [])))
+    sent
     ∙ ap (λ (b : List ℕ). Some (conviction c.round d.sender Equivocation (post_spelling kept ∷ b ∷ []))) (sym bytes))) tells
 
 -- the posts that are embedded are short

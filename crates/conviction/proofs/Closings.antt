@@ -64,7 +64,7 @@ is-past run stage past honest e = record {
     checks k slot post there at =
         let kept = past-kept run.log stage k past post honest.log e at in
         let same : kept.slot ≡ slot = some-slot kept.slot slot (sym kept.at ∙ ap (λ (shape : Shape). slot_at shape k) honest.shape ∙ there)
-            in
+        in
         honest.posts slot post (subst (λ (s : Slot). kept_in run.log s ≡ Some post) same kept.kept)
 
 -- ---- what a content embeds
@@ -107,7 +107,7 @@ stage-short shape posts stage short =
     let a : ℕ = slots_before shape stage in
     let b : ℕ = slots_before shape (stage + 1) in
     all-written (posts_at shape posts stage) (λ k post at. short (a + k) post
-        (sym (get_drop posts a k) ∙ (take-get (drop a posts) (b - a) k post at).1))
+    (sym (get_drop posts a k) ∙ (take-get (drop a posts) (b - a) k post at).1))
 
 -- as many votes as members stand before a closing stage
 votes-count : (shape : Shape) (posts : List Post) (stage : ℕ) (kind vote : StageKind) → kind_of_stage shape stage ≡ Some kind
@@ -141,8 +141,10 @@ final-body shape posts stage shuffle inner outer opening kind whole short i o p 
           (Dispute (written posts) outer opening) agree)) (
             _,
             ap (λ (k : Option StageKind). form_of shape (slots_before shape stage) k 6) kind,
-            ((stage-short shape posts (stage - 1) short, votes-count shape posts stage (Final shuffle) (Go shuffle) kind refl refl whole),
-                i),
+            (
+              (stage-short shape posts (stage - 1) short, votes-count shape posts stage (Final shuffle) (Go shuffle) kind refl refl whole),
+              i,
+            ),
           )
       | inr differ ↦
           subst (IsBody shape stage)
@@ -164,7 +166,7 @@ confirm-body shape posts stage kind whole short =
       | inl agree ↦
           subst (IsBody shape stage)
           (sym (cond-true (votes_agree shape (contents_of posts) stage) (ConfirmBody (written (posts_at shape posts (stage - 1))))
-              (Differ (written posts)) agree)) (
+          (Differ (written posts)) agree)) (
             _,
             ap (λ (k : Option StageKind). form_of shape (slots_before shape stage) k 10) kind,
             (stage-short shape posts (stage - 1) short, votes-count shape posts stage Confirm Check kind refl refl whole),
@@ -172,7 +174,7 @@ confirm-body shape posts stage kind whole short =
       | inr differ ↦
           subst (IsBody shape stage)
           (sym (cond-false (votes_agree shape (contents_of posts) stage) (ConfirmBody (written (posts_at shape posts (stage - 1))))
-              (Differ (written posts)) differ)) (
+          (Differ (written posts)) differ)) (
             _,
             ap (λ (k : Option StageKind). form_of shape (slots_before shape stage) k 11) kind,
             (all-written posts short, length-map posts post_spelling ∙ whole),
@@ -218,7 +220,7 @@ final-is run content row shuffle honest kind =
     let due : content_due run content row ≡ own_final run shuffle row.past row.stage = ap (due-at run content row) kind in
     let body =
     final-body (shape_in run.config) row.past row.stage shuffle _ _ _ kind is.long is.short (hash_bytes _ _).0 (hash_bytes _ _).0
-        (hash_bytes _ _).0 in
+    (hash_bytes _ _).0 in
     row-is run content row (subst (λ (c : Content). IsBody (shape_in run.config) row.stage c.body) (sym due) body) ∙ due
 
 pub confirm-is : (run : Run) (content : List ℕ) (row : IsOwnRow run content) → HonestRun run
@@ -254,7 +256,7 @@ own-closing run content row honest closing = elim (closing-kind (kind_of_stage (
         record {
           justified =
               own-justified run row.stage row.past (own_final run shuffle row.past row.stage) is embeds
-                  (final-justified shape row.past header inner outer opening closing refl);
+              (final-justified shape row.past header inner outer opening closing refl);
           embeds = own-embeds run row.stage row.past (own_final run shuffle row.past row.stage) is embeds;
         }
 
@@ -265,6 +267,6 @@ own-closing run content row honest closing = elim (closing-kind (kind_of_stage (
         record {
           justified =
               own-justified run row.stage row.past (confirm_content shape row.past header) is embeds
-                  (confirm-justified shape row.past header closing refl);
+              (confirm-justified shape row.past header closing refl);
           embeds = own-embeds run row.stage row.past (confirm_content shape row.past header) is embeds;
         }

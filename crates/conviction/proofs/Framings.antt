@@ -32,11 +32,11 @@ pub no_framing : NoFraming
 no_framing roster bytes accused claim is accepts runs honest none said =
     let t = accepts.transcript in
     not-shown roster runs t claim honest accepts.form (subst IsBytes accepts.spelled is)
-        (subst (NoneCollide roster runs) accepts.spelled none)
+    (subst (NoneCollide roster runs) accepts.spelled none)
     (subst (λ (number : ℕ). SaidBy roster runs number t.round t.posts) (sym accepts.accused_is) (said t accepts.form accepts.spelled))
-        accepts.convicts
+    accepts.convicts
 
 pub nobody_honest_is_convicted : NobodyHonestIsConvicted
 nobody_honest_is_convicted roster bytes accused claim is accepts runs honest none unforged has =
     no_framing roster bytes accused claim is accepts runs honest none
-        (λ t form spelled. unforged_is_said roster runs accused t.round t.posts (unforged t form spelled) has)
+    (λ t form spelled. unforged_is_said roster runs accused t.round t.posts (unforged t form spelled) has)

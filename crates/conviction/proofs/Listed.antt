@@ -59,7 +59,7 @@ said-bytes : (roster : Roster) (round : ℕ) (bytes content : List ℕ) (header 
 said-bytes roster round bytes content header is says =
     let spelled : IsBytes (to_be_bytes w32 (length content) ++ content ++ says.signature) = subst IsBytes says.spelled is in
     IsBytes-back (to_be_bytes w32 (length content)) content (IsBytes-front (to_be_bytes w32 (length content) ++ content) says.signature
-        spelled)
+    spelled)
 
 -- a content that a file says is of the grammar
 pub file-grammar : (roster : Roster) (round : ℕ) (bytes : List ℕ) (content : Content) → IsBytes bytes
@@ -67,7 +67,7 @@ pub file-grammar : (roster : Roster) (round : ℕ) (bytes : List ℕ) (content :
     → OfGrammar (shape_of_roster roster) content
 file-grammar roster round bytes content is file =
     (content-is_spelled (shape_of_roster roster) file.text content (said-bytes roster round bytes file.text content.header is file.says)
-        file.reads).1
+    file.reads).1
 
 -- ---- the accusation
 
@@ -101,7 +101,7 @@ seed-message t a is detail long = record { length = long; bytes = seed }
     accusation : IsBytes (accusation_spelling a)
     accusation = subst (λ (o : Option Accusation). IsBytes (detail_spelling o)) detail
         (IsBytes-front (detail_spelling t.detail) (to_be_bytes w32 (length t.posts))
-            (IsBytes-back (to_be_bytes w64 t.round) behind_round behind_accused))
+        (IsBytes-back (to_be_bytes w64 t.round) behind_round behind_accused))
 
     seed : IsBytes a.seed
     seed = IsBytes-back (a.slot ∷ a.member ∷ []) a.seed accusation
@@ -117,7 +117,7 @@ content-listed roster t bytes content listed file =
     contains-filter_map-from (λ (post : Post). result_ok (content_read (shape_of_roster roster) post.content)) (posts_listed t)
     (record { content = file.text; signature = file.says.signature }) content
     (contains-filter_map-from (λ bytes. result_ok (frame_of bytes)) t.posts bytes
-        (record { content = file.text; signature = file.says.signature }) listed
+    (record { content = file.text; signature = file.says.signature }) listed
     (ap result_ok (says-frame roster t.round bytes file.text content.header file.says)))
     (ap result_ok file.reads)
 

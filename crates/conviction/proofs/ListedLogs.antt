@@ -91,11 +91,11 @@ log-filled shape done (slot ∷ slots) (post ∷ posts) numbers long within =
     let more : length (done ++ post ∷ []) ≡ length done + 1 = length-append done (post ∷ []) in
     let next : filled (log_kept shape done) slot post ≡ log_kept shape (done ++ post ∷ []) =
     ap (λ (k : ℕ). log_with shape (slice_set (kept_places (slot_count shape) done) k (Some post)))
-        (slot_at-is shape (length done) slot numbers.0).1
+    (slot_at-is shape (length done) slot numbers.0).1
     ∙ ap (log_with shape) (places-next (slot_count shape) done post (omega (arith, within))) in
     let others =
     log-filled shape (done ++ post ∷ []) slots posts (subst (λ (k : ℕ). NumberedFrom shape k slots) (sym more) numbers.1)
-        (omega (arith, long)) (omega (arith, within, more)) in
+    (omega (arith, long)) (omega (arith, within, more)) in
     ap (λ (l : Log). fold step l (zip slots posts)) next ∙ others ∙ ap (log_kept shape) (append_assoc done (post ∷ []) posts)
 
 -- ---- the log that is listed
@@ -111,7 +111,7 @@ firsts (slot ∷ slots) (item ∷ items) le = ap (λ (s : List Slot). slot ∷ s
 pub log-listed : (roster : Roster) (t : Transcript) (log : List Post)
     → length log ≡ slots_before (shape_of_roster roster) (pad_stage (shape_of_roster roster))
     → slots_before (shape_of_roster roster) (pad_stage (shape_of_roster roster)) ≤ length t.posts
-        → posts_for roster t.round 0 (pairs_listed roster t) ≡ Ok log
+    → posts_for roster t.round 0 (pairs_listed roster t) ≡ Ok log
     → log_listed roster t Pad ≡ Some (log_kept (shape_of_roster roster) log)
 log-listed roster t log long many stands = ap made stands ∙ ap told (ap (λ (s : List Slot). log_of shape (zip s log)) of_slots ∙ kept)
   where

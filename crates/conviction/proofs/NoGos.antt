@@ -63,7 +63,7 @@ pub all-at : {A : Type 0} (xs : List (Option A)) (ys : List A) (i : ℕ) (x : A)
     → slice_get ys i ≡ Some x
 all-at {A} xs ys i x all at =
     told (slice_get ys i) (sym (ap (λ (zs : List (Option A)). slice_get zs i) (all_some-is xs ys all) ∙ slice_get-map (λ x. Some x) ys i)
-        ∙ at)
+    ∙ at)
   where
     told : (o : Option A) → option_map (λ x. Some x) o ≡ Some (Some x) → o ≡ Some x
     told (Some y) e = cc
@@ -78,7 +78,7 @@ none-wrong shape past stage later le none =
     first_wrong-take shape past stage stage (omega arith)
     ∙ first_below-none (wrong_at shape past) (slots_before shape stage)
     (λ k lt. first_below-each (wrong_at shape past) (slots_before shape later) none k
-        (omega (arith, lt, slots_before-rises shape stage later le)))
+    (omega (arith, lt, slots_before-rises shape stage later le)))
 
 -- ---- the last list
 
@@ -160,7 +160,7 @@ turn-read run q shuffle i e honest lt right =
       read = slice_get-map (λ turn. list_read (content_read shape turn)) (turns_before shape (take b past) vote) i
           ∙ ap (option_map (λ turn. list_read (content_read shape turn)))
           (slice_get-take (drop a (take b past)) (b - a) i (omega (arith, end, lt, members)) ∙ get_drop (take b past) a i
-              ∙ slice_get-take past b
+          ∙ slice_get-take past b
           (a + i) (omega (arith, end, lt, members)) ∙ ap (slice_get past) place ∙ text.1)
           ∙ ap (λ (l : Option (List (List ℕ))). Some l) (list-is_read (content_read shape text.0) list.0 body);
       said = list.1;
@@ -205,7 +205,7 @@ inner-there run q shuffle own honest last submitted =
     (in-range 1 q.shape.members c.number least (omega (arith, most, ap (λ (s : Shape). s.members) is.shape))) in
     let kept =
     strips_through_keeps (take q.shape.members seeds) (submissions q) last.bodies (submission q c.number)
-        (inner_said run submitted.said shuffle) last.stripped listed
+    (inner_said run submitted.said shuffle) last.stripped listed
     (own_layer_seeds c shuffle 2, ap (λ (s : List (List ℕ)). opened_through s (submission q c.number)) all ∙ opens) in
     ((permutation_keeps last.bodies last.list last.order).1 (inner_said run submitted.said shuffle)).0 kept
 
@@ -234,14 +234,18 @@ stands-there run q shuffle own entry honest last listed =
     some_member : 1 ≤ q.shape.members
     some_member =
         (let bounds = slot-bounds shape 0 run.config.number (own-speaks run.config honest.config) in let least = bounds.1 in let most =
-            bounds.2 in omega (arith, same_members))
+        bounds.2 in omega (arith, same_members))
 
     count : length turns ≤ q.shape.members
     count =
         let a : ℕ = slots_before shape (q.stage - 1) - shape.members in
         let b : ℕ = slots_before shape (q.stage - 1) in
-        omega (arith, same_members, length-map (turns_before shape past (q.stage - 1)) (λ turn. list_read (content_read shape turn)),
-            length-take (b - a) (drop a past))
+        omega (
+          arith,
+          same_members,
+          length-map (turns_before shape past (q.stage - 1)) (λ turn. list_read (content_read shape turn)),
+          length-take (b - a) (drop a past),
+        )
 
     read : (i : ℕ) → i < q.shape.members → IsTurnRead run q own.ended.is.posts (q.stage - 1) i
     read i lt = turn-read run q shuffle i own.ended honest lt (each-turn q (suc i) own.turns (omega arith) (omega (arith, lt)))

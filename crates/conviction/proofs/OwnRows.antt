@@ -90,7 +90,7 @@ own-said run later stage posts honest kept speaks lt =
     let is = past-kept run.log later number posts found.0 honest.log kept found.1 in
     let slot : is.slot ≡ own_slot run stage =
     some-slot is.slot (own_slot run stage) (sym is.at ∙ ap (λ (s : Shape). slot_at s number) honest.shape
-        ∙ slot_at-number shape stage run.config.number speaks) in
+    ∙ slot_at-number shape stage run.config.number speaks) in
     let here : kept_in run.log (own_slot run stage) ≡ Some found.0 = subst (λ (s : Slot). kept_in run.log s ≡ Some found.0) slot is.kept in
     told found.0 found.1 here
   where
@@ -99,12 +99,12 @@ own-said run later stage posts honest kept speaks lt =
     told post at here =
         let bound : stage < stage_count run.log.shape =
         (let few = (slot-bounds (shape_in run.config) stage run.config.number speaks).0 in omega
-            (arith, few, ap (λ (s : Shape). s.members) honest.shape)) in
+        (arith, few, ap (λ (s : Shape). s.members) honest.shape)) in
         let row = own_row run post.content honest (kept-sent run stage post bound here) in
         let checks = honest.posts (own_slot run stage) post here in
         let parts = checks-parts run.config.roster run.config.round post checks.content checks.checks in
         let same = contents-same row.read checks.content (content_read (shape_in run.config) post.content) (row-reads run post.content row)
-            parts.2 in
+        parts.2 in
         let stage_is : row.stage ≡ stage =
         ap (λ (h : Header). h.stage) (sym (row-header run post.content row)) ∙ ap (λ (c : Content). c.header.stage) same
         ∙ ap (λ (s : Slot). s.stage) checks.named in
@@ -122,10 +122,10 @@ own-said run later stage posts honest kept speaks lt =
 -- the body that stands in an own slot is that of the row
 pub own-body : (run : Run) (posts : List Post) (stage : ℕ) (own : OwnSaid run posts stage)
     → body_of (content_read (shape_in run.config) (slice_index_or (contents_of posts)
-        (slot_number (shape_in run.config) stage run.config.number) [])) ≡ own.row.read.body
+    (slot_number (shape_in run.config) stage run.config.number) [])) ≡ own.row.read.body
 own-body run posts stage own =
     ap (λ (bytes : List ℕ). body_of (content_read (shape_in run.config) bytes))
-        (get_or_from_slice_get (contents_of posts) _ own.text [] own.stands)
+    (get_or_from_slice_get (contents_of posts) _ own.text [] own.stands)
     ∙ ap body_of (row-reads run own.text own.row)
 
 -- and it carries the view of its stage
@@ -136,7 +136,7 @@ own-right run posts stage own =
     let view : List ℕ = view_of shape (contents_of posts) stage in
     let n : ℕ = slots_before shape stage in
     let front : contents_of own.row.past ≡ take n (contents_of posts) = ap contents_of own.front
-        ∙ sym (take-map (λ (p : Post). p.content) n posts) in
+    ∙ sym (take-map (λ (p : Post). p.content) n posts) in
     let same : view_of shape (contents_of own.row.past) own.row.stage ≡ view =
     ap (view_of shape (contents_of own.row.past)) own.at ∙ ap (λ (past : List (List ℕ)). view_of shape past stage) front
     ∙ view_of-take shape (contents_of posts) stage stage (omega arith) in

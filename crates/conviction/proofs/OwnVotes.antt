@@ -72,9 +72,14 @@ pub record OwnVote (run : Run) (q : Inquiry) (is : IsOwnInquiry run q) (kind : S
 own-vote : (run : Run) (q : Inquiry) (is : IsOwnInquiry run q) (kind : StageKind) → HonestRun run → 1 ≤ q.stage
     → kind_of_stage q.shape (q.stage - 1) ≡ Some kind
     → ((member : ℕ) → speaks (shape_in run.config) (Some kind) member ≡ is_slot (shape_in run.config) 0 member) → view_fault q ≡ None
-        → OwnVote run q is kind
-own-vote run q is kind honest least vote all none = record { said = said; at = ap (kind_of_stage shape) said.at
-    ∙ at; past = past; right = right }
+    → OwnVote run q is kind
+own-vote run q is kind honest least vote all none = record {
+  said = said;
+  at = ap (kind_of_stage shape) said.at
+      ∙ at;
+  past = past;
+  right = right;
+}
   where
     shape : Shape
     shape = shape_in run.config
@@ -85,7 +90,7 @@ own-vote run q is kind honest least vote all none = record { said = said; at = a
     said : OwnSaid run is.posts (q.stage - 1)
     said = own-said run q.stage (q.stage - 1) is.posts honest is.kept
         (ap (λ (o : Option StageKind). speaks shape o run.config.number) at ∙ all run.config.number ∙ own-speaks run.config honest.config)
-            (omega (arith, least))
+        (omega (arith, least))
 
     past : contents_of said.row.past ≡ take (slots_before shape (q.stage - 1)) (contents_of is.posts)
     past = ap contents_of said.front ∙ sym (take-map (λ (p : Post). p.content) (slots_before shape (q.stage - 1)) is.posts)
@@ -146,7 +151,7 @@ go-vote run q shuffle own honest none =
         ap (own_body_if run.config (own_descriptor run.config (contents_of row.past)) row.past row.stage) vote.at in
         ap (λ (x : Content). x.body)
         (row-is run vote.said.text row (subst (IsBody shape row.stage) (sym due)
-            (go-body shape (contents_of row.past) row.stage shuffle inner vote.at)))
+        (go-body shape (contents_of row.past) row.stage shuffle inner vote.at)))
         ∙ due
 
     stands : stands_last shape inner (lists_before shape (contents_of row.past) row.stage) ≡ true
@@ -158,7 +163,7 @@ go-vote run q shuffle own honest none =
         let said : List (List ℕ) = contents_of is.posts in
         let here =
         submission-front run.config said (q.stage - 1) shuffle (omega (arith, long))
-            (λ other. (let some = far run q shuffle own.ended other in omega (arith, some, long))) in
+        (λ other. (let some = far run q shuffle own.ended other in omega (arith, some, long))) in
         let first = submission-front run.config said (submit_stage q) shuffle (omega (arith, late)) (far run q shuffle own.ended) in
         let same : inner ≡ inner_said run submitted.said shuffle =
         ap (λ (p : List (List ℕ)). inner_said run p shuffle) vote.past
@@ -167,7 +172,7 @@ go-vote run q shuffle own honest none =
         ap (λ (stage : ℕ). stands_last shape inner (lists_before shape (contents_of row.past) stage)) vote.said.at
         ∙ ap (λ (p : List (List ℕ)). stands_last shape inner (lists_before shape p (q.stage - 1))) vote.past
         ∙ stands-there run q shuffle own inner honest last (subst (Contains last.list) (sym same)
-            (inner-there run q shuffle own honest last submitted))
+        (inner-there run q shuffle own honest last submitted))
 
 -- behind the checks
 pub check-vote : (run : Run) (q : Inquiry) → HonestRun run → IsOwnInquiry run q → kind_of_stage q.shape q.stage ≡ Some Confirm
@@ -182,7 +187,7 @@ check-vote run q honest is kind none =
     ap (own_body_if run.config (own_descriptor run.config (contents_of row.past)) row.past row.stage) vote.at in
     let body =
     ap (λ (x : Content). x.body) (row-is run vote.said.text row
-        (subst (IsBody shape row.stage) (sym due) (check-body shape (contents_of row.past) row.stage vote.at)))
+    (subst (IsBody shape row.stage) (sym due) (check-body shape (contents_of row.past) row.stage vote.at)))
     ∙ due in
     votes-of run q is vote.said ∙ ap is_yes body ∙ check-yes shape (contents_of row.past) row.stage vote.right
 

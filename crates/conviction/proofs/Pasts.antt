@@ -65,7 +65,7 @@ past-kept log stage k past post is e at =
     let all : take n log.posts ≡ map (λ x. Some x) past = all_some-is (take n log.posts) past e in
     let found =
     take-get log.posts n k (Some post) (ap (λ (xs : List (Option Post)). slice_get xs k) all ∙ slice_get-map (λ x. Some x) past k
-        ∙ ap (option_map (λ x. Some x)) at) in
+    ∙ ap (option_map (λ x. Some x)) at) in
     let few = found.0 in
     let slot = there (slots_of log.shape) k (omega (arith, few, slots_before-most log.shape stage, length-slots_of log.shape)) in
     let number = slot_at-is log.shape k slot.0 slot.1 in
@@ -103,7 +103,7 @@ checks-for-slot c slot post is =
 -- posts that are each for its slot are found
 pub posts-found : (roster : Roster) (round place : ℕ) (slots : List Slot) (posts : List Post) → length posts ≤ length slots
     → ((k : ℕ) (slot : Slot) (post : Post) → slice_get slots k ≡ Some slot → slice_get posts k ≡ Some post
-        → post_for_slot roster round slot (post_spelling post) ≡ Ok post)
+    → post_for_slot roster round slot (post_spelling post) ≡ Ok post)
     → posts_for roster round place (zip slots (written posts)) ≡ Ok posts
 unfolding posts_for
 posts-found roster round place [] [] few each = refl
@@ -112,7 +112,7 @@ posts-found roster round place [] (post ∷ posts) few each = absurd (omega (ari
 posts-found roster round place (slot ∷ slots) (post ∷ posts) few each =
     let first = each 0 slot post refl refl in
     let others = posts-found roster round (place + 1) slots posts (omega (arith, few))
-        (λ k slot post at there. each (suc k) slot post at there) in
+    (λ k slot post at there. each (suc k) slot post at there) in
     rw (first, others) refl
 
 -- ---- what is embedded
@@ -133,13 +133,13 @@ embedded-get {A} shape content xs k x e =
           ap (λ (p : ℕ). slice_get xs (p + k)) (cond-true (is_assent content.body) a 0 assents)
           ∙ sym (get_drop xs a k)
           ∙ (take-get (drop a xs) (b - a) k x (ap (λ (ys : List A). slice_get ys k)
-              (sym (cond-true (is_assent content.body) (slice_range xs a b) (take n xs) assents)) ∙ e)).1
+          (sym (cond-true (is_assent content.body) (slice_range xs a b) (take n xs) assents)) ∙ e)).1
       | inr objects ↦
           let from : 0 + k ≡ k = omega arith in
           ap (λ (p : ℕ). slice_get xs (p + k)) (cond-false (is_assent content.body) a 0 objects)
           ∙ ap (slice_get xs) from
           ∙ (take-get xs n k x (ap (λ (ys : List A). slice_get ys k)
-              (sym (cond-false (is_assent content.body) (slice_range xs a b) (take n xs) objects)) ∙ e)).1
+          (sym (cond-false (is_assent content.body) (slice_range xs a b) (take n xs) objects)) ∙ e)).1
     ]
 
 pub embedded-few : {A B : Type 0} (shape : Shape) (content : Content) (xs : List A) (ys : List B) → length xs ≤ length ys
@@ -152,8 +152,17 @@ embedded-few {A} {B} shape content xs ys few =
       | inl assents ↦
           let left = ap length (cond-true (is_assent content.body) (slice_range xs a b) (take n xs) assents) in
           let right = ap length (cond-true (is_assent content.body) (slice_range ys a b) (take n ys) assents) in
-          omega (arith, few, left, right, length-take (b - a) (drop a xs), length-take (b - a) (drop a ys), length-drop a xs, length-drop a
-              ys)
+          omega (
+            arith,
+            few,
+            left,
+            right,
+            length-take (b - a) (drop a xs),
+            length-take (b - a) (drop a ys),
+            length-drop a xs,
+            length-drop a
+                ys,
+          )
       | inr objects ↦
           let left = ap length (cond-false (is_assent content.body) (slice_range xs a b) (take n xs) objects) in
           let right = ap length (cond-false (is_assent content.body) (slice_range ys a b) (take n ys) objects) in

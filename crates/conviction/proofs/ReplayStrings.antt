@@ -95,9 +95,9 @@ shows-opening roster t e shuffle member bytes kind least most =
     dispute =
         let grammar =
         file-grammar roster t.round (post_listed t member) (e.said member)
-            (listed-bytes t (post_listed t member) bytes (object-listed roster t member e least most)) own.file in
+        (listed-bytes t (post_listed t member) bytes (object-listed roster t member e least most)) own.file in
         dispute-at shape (e.said member).header.stage shuffle (e.said member).body (ap (kind_of_stage shape) own.at ∙ kind) grammar.1
-            own.dissents
+        own.dissents
 
     parts : List Shown
     parts = parts_shown shape (kind_of_stage shape e.stage) e.said
@@ -116,7 +116,7 @@ shown-strings : (roster : Roster) (t : Transcript) (strings : List (List ℕ)) (
     → IsTranscript (shape_of_roster roster) t
     → IsBytes (transcript_spelling t) → NoCollision strings
     → ((s : List ℕ) → Contains (strings_of_transcript roster t) s → Contains strings s)
-        → kind_of_stage (shape_of_roster roster) e.stage ≡ Some (Final shuffle)
+    → kind_of_stage (shape_of_roster roster) e.stage ≡ Some (Final shuffle)
     → HasShownStrings (inquiry_by (shape_of_roster roster) t.round e.stage e.past e.said) shuffle strings
 shown-strings roster t strings e shuffle form bytes none among kind = record {
   distinct = none;
@@ -136,7 +136,7 @@ shown-strings roster t strings e shuffle form bytes none among kind = record {
 
     listed : (member layer : ℕ) (is : IsMember q member) → IsMember q layer
         → Contains (strings_of_transcript roster t) (layer_seed_string (opens member is).dispute.opening t.round shuffle 2
-            (e.said member).header.sender layer)
+        (e.said member).header.sender layer)
     listed member layer is lies =
         let own = e.object member is.least is.most in
         let dispute = (opens member is).dispute in
@@ -149,7 +149,7 @@ shown-strings roster t strings e shuffle form bytes none among kind = record {
         ≡ layer_seed_string (outer_opening q member) q.round shuffle 2 member layer
     strings-same member layer is =
         ap (λ (opening : List ℕ). layer_seed_string opening t.round shuffle 2 (e.said member).header.sender layer)
-            (sym (opens member is).opening)
+        (sym (opens member is).opening)
         ∙ ap (λ (m : ℕ). layer_seed_string (outer_opening q member) t.round shuffle 2 m layer) (e.object member is.least is.most).sender
 
 -- ---- the law
@@ -176,7 +176,7 @@ pub transcript-among : (run : Run) (runs : List Run) (t : Transcript) → OneRun
 transcript-among run runs t one form s listed =
     Contains-append_right (strings_of_runs runs) (strings_of_evidence run.config.roster (transcript_spelling t)) s
     (subst (λ (strings : List (List ℕ)). Contains strings s) (sym
-        (evidence-is run.config.roster t (shape-is run.config one.honest.config.enter) form)) listed)
+    (evidence-is run.config.roster t (shape-is run.config one.honest.config.enter) form)) listed)
 
 pub frame_replay : NotShownUnlessCollide ReplaysFault
 frame_replay = by-run-unless ReplaysFault

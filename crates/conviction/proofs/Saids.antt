@@ -68,15 +68,19 @@ pub list-long : (shape : Shape) (stage shuffle turn : ℕ) (list : List (List �
 unfolding body_form
 list-long shape stage shuffle turn list kind is =
     subst (λ form. Fits form (Shuffled list)) (some-same _ _ (sym is.1
-        ∙ ap (λ (o : Option StageKind). form_of shape (slots_before shape stage) o 3) kind)) is.2
+    ∙ ap (λ (o : Option StageKind). form_of shape (slots_before shape stage) o 3) kind)) is.2
 
 -- and is of it where it has
 pub list-body : (shape : Shape) (stage shuffle turn : ℕ) (list : List (List ℕ)) → kind_of_stage shape stage ≡ Some (AtShuffle shuffle turn)
     → AllByRecursion (λ entry. length entry ≡ level shape.members shuffle turn) list → length list ≡ shape.members
-        → IsBody shape stage (Shuffled list)
+    → IsBody shape stage (Shuffled list)
 unfolding body_form
-list-body shape stage shuffle turn list kind long count = (_, ap (λ (o : Option StageKind). form_of shape (slots_before shape stage) o 3)
-    kind, (long, count))
+list-body shape stage shuffle turn list kind long count = (
+  _,
+  ap (λ (o : Option StageKind). form_of shape (slots_before shape stage) o 3)
+      kind,
+  (long, count),
+)
 
 -- a submission of the grammar has its length
 pub submission-long : (shape : Shape) (stage shuffle : ℕ) (body : Body) → kind_of_stage shape stage ≡ Some (AtSubmit shuffle)
@@ -85,7 +89,7 @@ pub submission-long : (shape : Shape) (stage shuffle : ℕ) (body : Body) → ki
 unfolding body_form
 submission-long shape stage shuffle (Submit c) kind is =
     subst (λ form. Fits form (Submit c)) (some-same _ _ (sym is.1
-        ∙ ap (λ (o : Option StageKind). form_of shape (slots_before shape stage) o 2) kind)) is.2
+    ∙ ap (λ (o : Option StageKind). form_of shape (slots_before shape stage) o 2) kind)) is.2
 submission-long shape stage shuffle (Keys keys) kind is =
     absurd (some-none _ is.0 (ap (λ (o : Option StageKind). form_of shape (slots_before shape stage) o 1) kind) is.1)
 submission-long shape stage shuffle (Shuffled list) kind is =

@@ -140,7 +140,7 @@ key-shown q shuffle n member none is far speaks =
     let within = (slot_number-within q.shape 0 member speaks).1 in
     let number : ℕ = slot_number q.shape 0 member in
     let same : slice_index_or (take n q.past) number [] ≡ slice_index_or q.past number [] = get_or-take n q.past number []
-        (omega (arith, within, far)) in
+    (omega (arith, within, far)) in
     ap (λ (bytes : List ℕ). slice_index_or (keys_in (body_of (content_read q.shape bytes))) (outer_place shuffle) []) same
     ∙ ap (λ (b : Body). slice_index_or (keys_in b) (outer_place shuffle) []) keys.1
     ∙ sym keys.2
@@ -155,14 +155,14 @@ keys-shown q shuffle n none many far =
     let long : length seeds ≡ q.shape.members = length-map q.shown _ ∙ many in
     let said : List (List ℕ) = keys_said q.shape (take n q.past) (outer_place shuffle) in
     let count : length said ≡ q.shape.members = length-map-range_with_len (key_said q.shape (take n q.past) (outer_place shuffle)) 1
-        q.shape.members in
+    q.shape.members in
     ext_get_or [] said (map key_of_seed seeds) (count ∙ sym long ∙ sym (length-map seeds key_of_seed))
     (λ i lt.
     let few : i < q.shape.members = omega (arith, lt, count) in
     let back : i + 1 - 1 ≡ i = omega arith in
     let member : IsMember q (i + 1) = record { least = omega arith; most = omega (arith, few) } in
     let here = by-member (key_said q.shape (take n q.past) (outer_place shuffle)) q.shape.members (i + 1) (omega arith) (omega (arith, few))
-        in
+    in
     get_or_from_slice_get said i _ [] (ap (slice_get said) (sym back) ∙ here)
     ∙ key-shown q shuffle n (i + 1) none member far (is-there q.shape.members (i + 1) (omega arith) (omega (arith, few)))
     ∙ ap (λ (k : ℕ). key_of_seed (get_or seeds k [])) back
@@ -213,7 +213,7 @@ own-submitted run q shuffle honest is kind none = record {
     body =
         ap (λ (s : Shape). ciphertext_of (body_of (content_read s (slice_index_or q.past (slot_number s stage c.number) [])))) is.shape
         ∙ ap (λ (past : List (List ℕ)). ciphertext_of (body_of (content_read (shape_in c)
-            (slice_index_or past (slot_number (shape_in c) stage c.number) [])))) is.past
+        (slice_index_or past (slot_number (shape_in c) stage c.number) [])))) is.past
         ∙ ap ciphertext_of (own-body run is.posts stage own ∙ submits run own.text own.row shuffle here)
 
     keys : keys_said (shape_in c) (contents_of own.row.past) (outer_place shuffle) ≡ map key_of_seed (outer_seeds q)
@@ -232,8 +232,11 @@ own-submitted run q shuffle honest is kind none = record {
 pub own-opens : (run : Run) (q : Inquiry) (shuffle : ℕ) → (is : IsOwnInquiry run q) → kind_of_stage q.shape q.stage ≡ Some (Final shuffle)
     → (own : IsSubmitted run q is.posts shuffle)
     → opened_through (outer_seeds q) (submission q run.config.number)
-    ≡ Some (own_layer_seeds run.config shuffle 2, (own_submission run.config (own_descriptor run.config own.said) own.said
-        shuffle).inner_ciphertext)
+    ≡ Some (
+      own_layer_seeds run.config shuffle 2,
+      (own_submission run.config (own_descriptor run.config own.said) own.said
+          shuffle).inner_ciphertext,
+    )
 unfolding own_submission
 own-opens run q shuffle is kind own =
     let c = run.config in
@@ -242,7 +245,7 @@ own-opens run q shuffle is kind own =
     let blob : List ℕ = (own_submission c (own_descriptor c own.said) own.said shuffle).inner_ciphertext in
     let good = seeds_are_messages (own_opening c shuffle 2) c.round shuffle 2 c.number (shape_in c).members in
     let count : length seeds ≡ length ms = length-map q.shown _ ∙ (is.shows shuffle kind).many ∙ ap (λ (s : Shape). s.members) is.shape
-        ∙ sym good.0 in
+    ∙ sym good.0 in
     ap (opened_through seeds) (own.is ∙ ap (λ (keys : List (List ℕ)). wrapping_of keys ms blob) own.keys)
     ∙ wrapped_opens seeds ms blob count good.1
 
@@ -257,11 +260,11 @@ submission_not_own run q shuffle found honest is kind none e own =
     let at = first_below-found (λ place. layer_fault q shuffle (place + 1)) q.shape.members found e in
     let layer =
     first_below-found (λ place. fault_unless (has_layer q shuffle (at.0 + 1) (place + 1)) (fault (Submission (place + 1)) (at.0 + 1)))
-        q.shape.members found at.2 in
+    q.shape.members found at.2 in
     let parts = unless-found (has_layer q shuffle (at.0 + 1) (layer.0 + 1)) (fault (Submission (layer.0 + 1)) (at.0 + 1)) found layer.2 in
     let member : at.0 + 1 ≡ run.config.number = ap (λ (f : Fault). f.member) parts.1 ∙ own in
     not_both (has_layer q shuffle run.config.number (layer.0 + 1)) (has layer.0 layer.1)
-        (ap (λ (m : ℕ). has_layer q shuffle m (layer.0 + 1)) (sym member) ∙ parts.0)
+    (ap (λ (m : ℕ). has_layer q shuffle m (layer.0 + 1)) (sym member) ∙ parts.0)
   where
     c : Configuration
     c = run.config
@@ -272,14 +275,14 @@ submission_not_own run q shuffle found honest is kind none e own =
         let submitted_is = own-submitted run q shuffle honest is kind none in
         let many = length-map q.shown (λ shown. shown.outer_seed) ∙ shows.many in
         let found = layer-at (outer_seeds q) (submission q c.number) _ place (own-opens run q shuffle is kind submitted_is)
-            (omega (arith, lt, many)) in
+        (omega (arith, lt, many)) in
         let back : place + 1 - 1 ≡ place = omega arith in
         let opened : inside q (submission q c.number) (place + 1 - 1) ≡ Some found.body =
         ap (inside q (submission q c.number)) back ∙ ap (option_map (λ (f : List (List ℕ) × List ℕ). f.1)) found.opens in
         let peels : option_and_then (peeled (outer_seed q (place + 1))) (inside q (submission q c.number) (place + 1 - 1)) ≡ Some
-            (get_or (own_layer_seeds c shuffle 2) place [], found.next) =
+        (get_or (own_layer_seeds c shuffle 2) place [], found.next) =
         ap (option_and_then (peeled (outer_seed q (place + 1)))) opened
-            ∙ ap (λ (k : ℕ). peeled (get_or (outer_seeds q) k []) found.body) back ∙ found.layer in
+        ∙ ap (λ (k : ℕ). peeled (get_or (outer_seeds q) k []) found.body) back ∙ found.layer in
         let few : place < (shape_in c).members = omega (arith, lt, ap (λ (s : Shape). s.members) is.shape) in
         let seed : get_or (own_layer_seeds c shuffle 2) place [] ≡ own_layer_seed q shuffle c.number (place + 1) =
         seeds_are_by_layer (own_opening c shuffle 2) c.round shuffle 2 c.number (shape_in c).members place few

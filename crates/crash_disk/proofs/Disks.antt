@@ -43,12 +43,26 @@ no_step_fails disk ready any room = by_case (fails_look disk ready) any
 
 -- a disk that did a step
 pub stepped : (fails : Bool) (old mid new : DiskState) (step : Step) → fails ≡ false → mid ≡ after_look old
-    → new ≡ record { first = mid.first; steps = mid.steps ++ step ∷ []; room = mid.room; plan = mid.plan; passing = mid.passing; naming =
-        mid.naming } → new ≡ after_call fails old step
+    → new ≡ record {
+      first = mid.first;
+      steps = mid.steps ++ step ∷ [];
+      room = mid.room;
+      plan = mid.plan;
+      passing = mid.passing;
+      naming =
+          mid.naming;
+    } → new ≡ after_call fails old step
 stepped fails old mid new step passes counted pushed =
     let done : new ≡ after_doing old step =
-    pushed ∙ ap (λ (d : DiskState). let e : DiskState = record { first = d.first; steps = d.steps
-        ++ step ∷ []; room = d.room; plan = d.plan; passing = d.passing; naming = d.naming } in e) counted in
+    pushed ∙ ap (λ (d : DiskState). let e : DiskState = record {
+      first = d.first;
+      steps = d.steps
+          ++ step ∷ [];
+      room = d.room;
+      plan = d.plan;
+      passing = d.passing;
+      naming = d.naming;
+    } in e) counted in
     subst (λ (b : Bool). new ≡ after_call b old step) (sym passes) done
 
 -- ---- time
@@ -63,7 +77,7 @@ Since first steps start image =
 
 elapses_push : (first : List ℕ) (steps : List Step) (step : Step)
     → Elapses (length steps) (length (steps ++ step ∷ [])) (Since first steps) (Since first (steps ++ step ∷ []))
-        (AfterSteps first (steps ++ step ∷ []))
+    (AfterSteps first (steps ++ step ∷ []))
 elapses_push first steps step = record {
   later = omega (arith, length-append steps (step ∷ []));
   nothing_else = λ start image until left. ⊎_elim (λ now. inr now) (λ had. inl (earlier start image until had.0 had.1 had.2 had.3)) left;
@@ -80,7 +94,7 @@ elapses_push first steps step = record {
         let size = length-append steps (step ∷ []) in
         let within : count ≤ length steps = omega (arith, size, below) in
         let was : AfterSteps first (take count steps) image = subst (λ (l : List Step). AfterSteps first l image) (front count within) left
-            in
+        in
         ⊎_elim (λ lt. inr (count, from, lt, was)) (λ ge. inl (whole count image within ge was)) (cases_lt count (length steps))
       where
         whole : (count : ℕ) (image : List ℕ) → count ≤ length steps → length steps ≤ count → AfterSteps first (take count steps) image
@@ -93,16 +107,24 @@ elapses_push first steps step = record {
         → (count : ℕ) × (start ≤ count) × (count < length (steps ++ step ∷ [])) × AfterSteps first (take count (steps ++ step ∷ [])) image
     last start image until now =
         let size = length-append steps (step ∷ []) in
-        let within : length steps ≤ length steps = omega arith in
-        (length steps, until, omega (arith, size), subst (λ (l : List Step). AfterSteps first l image)
-            (sym (front (length steps) within ∙ take-length steps)) now)
+        let within : length steps ≤ length steps = omega arith in (
+          length steps,
+          until,
+          omega (arith, size),
+          subst (λ (l : List Step). AfterSteps first l image)
+              (sym (front (length steps) within ∙ take-length steps)) now,
+        )
 
     before : (start : ℕ) (image : List ℕ) (count : ℕ) → start ≤ count → count < length steps → AfterSteps first (take count steps) image
         → (count : ℕ) × (start ≤ count) × (count < length (steps ++ step ∷ [])) × AfterSteps first (take count (steps ++ step ∷ [])) image
     before start image count from below left =
-        let size = length-append steps (step ∷ []) in
-        (count, from, omega (arith, size, below), subst (λ (l : List Step). AfterSteps first l image)
-            (sym (front count (omega (arith, below)))) left)
+        let size = length-append steps (step ∷ []) in (
+          count,
+          from,
+          omega (arith, size, below),
+          subst (λ (l : List Step). AfterSteps first l image)
+              (sym (front count (omega (arith, below)))) left,
+        )
 
 -- what a call leaves of time
 pub record Passes (old new : DiskState) : Type 0 where
@@ -110,8 +132,11 @@ pub record Passes (old new : DiskState) : Type 0 where
 
 elapses_still : (disk : DiskState) → Elapses (moment_of disk) (moment_of disk) (LeftSince disk) (LeftSince disk) (MayLeave disk)
 unfolding file_of LeftSince MayLeave moment_of
-elapses_still disk = record { later = omega arith; nothing_else = λ start image until left. inl left; keeps = λ start image until left. left
-    }
+elapses_still disk = record {
+  later = omega arith;
+  nothing_else = λ start image until left. inl left;
+  keeps = λ start image until left. left;
+}
 
 pub passes_call : (fails : Bool) (old new : DiskState) (step : Step) → new ≡ after_call fails old step → Passes old new
 unfolding file_of LeftSince MayLeave moment_of
@@ -175,7 +200,7 @@ pub record Overwrites (answer : DiskAnswer) (old new : DiskState) (at : ℕ) (by
 
 pub overwrites : (fails : Bool) (answer : DiskAnswer) (old new : DiskState) (at : ℕ) (bytes : List ℕ)
     → answer ≡ answer_of fails → new ≡ after_call fails old (write_step at bytes) → (fails ≡ false → at ≤ length (file_of old))
-        → Overwrites answer old new at bytes
+    → Overwrites answer old new at bytes
 unfolding file_of LeftSince MayLeave moment_of
 overwrites true answer old new at bytes told is within =
     subst (λ (d : DiskState). Overwrites answer old d at bytes) (sym is) record {

@@ -25,13 +25,13 @@ module _ {D : Type 0} (may_leave : D → List ℕ → Type 0) (moment : D → �
   -- one call more
   pub goes_on : (old mid new : D) (P : List ℕ → Type 0) → LeavesOnly moment left_since old mid P
       → Elapses (moment mid) (moment new) (left_since mid) (left_since new) (may_leave new) → Every (may_leave new) P
-          → LeavesOnly moment left_since old new P
+      → LeavesOnly moment left_since old new P
   goes_on old mid new P so_far time here = record {
     later = omega (arith, so_far.later, time.later);
     each = λ image left. ⊎_elim (so_far.each image) (here image) (time.nothing_else (moment old) image so_far.later left);
     before = λ start image until left.
         ⊎_elim (so_far.before start image until) (λ now. inr (here image now))
-            (time.nothing_else start image (omega (arith, until, so_far.later)) left);
+        (time.nothing_else start image (omega (arith, until, so_far.later)) left);
   }
 
   -- a run behind another

@@ -38,7 +38,7 @@ not_true false e = refl
 file_changes : (name : List ℕ) (stands chosen : Bool) (before now : List ℕ)
     → is_chosen record { name = name; stands = stands; chosen = chosen } ≡ true
     → KeepsOthers (names_told record { name = name; stands = stands; chosen = chosen } before)
-        (names_told record { name = name; stands = stands; chosen = chosen } now)
+    (names_told record { name = name; stands = stands; chosen = chosen } now)
 file_changes name true true before now chosen = record {
   chosen = refl;
   others = λ other differ. rw (differs name other (λ e. differ (ap (λ (l : List ℕ). Some l) (sym e)))) refl;
@@ -56,7 +56,7 @@ call_beside true old new step is ready = subst (λ (d : DiskState). KeepsOthers 
 call_beside false old new step is ready =
     subst (λ (d : DiskState). KeepsOthers (names_of old) (names_of d)) (sym is)
     (file_changes old.naming.name old.naming.stands old.naming.chosen (contents_of old).file (contents_of (after_doing old step)).file
-        (ready refl))
+    (ready refl))
 
 pub look_beside : (fails : Bool) (old new : DiskState) → new ≡ looks fails old → StaysBeside (Some (names_of old)) (Some (names_of new))
 unfolding names_of
@@ -145,7 +145,7 @@ choice false true answer old new name told is may =
       names = subst (λ (a : DiskAnswer). Chooses (Some (names_of old))
           (Some (names_of (choosing (after_doing (unchosen old) Emptied) name))) name true a) (sym told)
           (subst (λ (file : List ℕ). IsChosen (names_of old) (names_told (chosen_as name) file) name true)
-              (sym (file-push old.first old.steps Emptied))
+          (sym (file-push old.first old.steps Emptied))
           (fresh_chosen old.naming name (contents_of old).file (may refl)));
       emptied = λ done fresh. ap (λ (l : List ℕ). Some l) (file-push old.first old.steps Emptied);
       kept = λ e. absurd (cc);

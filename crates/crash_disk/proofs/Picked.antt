@@ -40,8 +40,15 @@ images_step c images (Wrote at size bytes) are fits =
             (overwritten_torn images.ones at (replicate size 255) place),
       );
       alike =
-          omega (arith, n, ones, are.alike, length-overwritten images.ones at (replicate size 255) place, length-overwritten images.file at
-              (take size bytes) fits.0);
+          omega (
+            arith,
+            n,
+            ones,
+            are.alike,
+            length-overwritten images.ones at (replicate size 255) place,
+            length-overwritten images.file at
+                (take size bytes) fits.0,
+          );
     }
 images_step c images Synced are fits = record { durable = are.file; file = are.file; ones = are.file; torn = are.file; alike = refl }
 images_step c images Emptied are fits = record { durable = refl; file = refl; ones = refl; torn = refl; alike = refl }
@@ -49,7 +56,7 @@ images_step c images Emptied are fits = record { durable = refl; file = refl; on
 pub images_push : (first : List ℕ) (steps all : List Step) (step : Step) (images now : Images)
     → AreImagesOf (after_steps (synced first) steps) images
     → StepFits images.file step → now ≡ after_step_of images step → all ≡ steps ++ step ∷ []
-        → AreImagesOf (after_steps (synced first) all) now
+    → AreImagesOf (after_steps (synced first) all) now
 images_push first steps all step images now are fits is pushed =
     let c : Contents = after_steps (synced first) steps in
     subst (λ (l : List Step). AreImagesOf (after_steps (synced first) l) now) (sym pushed)

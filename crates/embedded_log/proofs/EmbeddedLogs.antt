@@ -48,8 +48,13 @@ length_replicate (suc n) x = omega (arith, length_replicate n x)
 
 -- the next place is empty,
 front_long : (first : ℕ) (posts : List Post) → length (replicate first none_post ++ map (λ x. Some x) posts) ≡ first + length posts
-front_long first posts = omega (arith, length-append (replicate first none_post) (map (λ x. Some x) posts), length_replicate first
-    none_post, length-map posts (λ (x : Post). Some x))
+front_long first posts = omega (
+  arith,
+  length-append (replicate first none_post) (map (λ x. Some x) posts),
+  length_replicate first
+      none_post,
+  length-map posts (λ (x : Post). Some x),
+)
 
 split_places : (first count m : ℕ) (posts : List Post) → count - (first + length posts) ≡ suc m
     → places_of first count posts ≡ (replicate first none_post ++ map (λ x. Some x) posts) ++ none_post ∷ replicate m none_post
@@ -80,8 +85,8 @@ places-next first count posts post lt =
     ∙ set-append_seam front none_post (replicate m none_post) (Some post)
     ∙ append_assoc (replicate first none_post) (map (λ x. Some x) posts) (Some post ∷ replicate m none_post)
     ∙ ap (λ (t : List (Option Post)). replicate first none_post ++ t)
-        (sym (append_assoc (map (λ x. Some x) posts) (Some post ∷ []) (replicate m none_post))
-        ∙ ap (λ (t : List (Option Post)). t ++ replicate m none_post) (sym (map-append (λ (x : Post). Some x) posts (post ∷ []))))
+    (sym (append_assoc (map (λ x. Some x) posts) (Some post ∷ []) (replicate m none_post))
+    ∙ ap (λ (t : List (Option Post)). t ++ replicate m none_post) (sym (map-append (λ (x : Post). Some x) posts (post ∷ []))))
     ∙ ap (λ (k : ℕ). replicate first none_post ++ (map (λ x. Some x) (posts ++ post ∷ []) ++ replicate k none_post)) (sym rest)
 
 -- a log with no post has all places empty
@@ -90,7 +95,7 @@ pub places-empty : (shape : Shape) (first : ℕ) → first ≤ slot_count shape
 places-empty shape first le =
     let whole : first + (slot_count shape - (first + 0)) ≡ slot_count shape = omega arith in
     ap (λ (p : List (Option Post)). log shape p) (ap (λ (n : ℕ). replicate n none_post) (sym whole)
-        ∙ sym (replicate-append-replicate first (slot_count shape - (first + 0)) none_post))
+    ∙ sym (replicate-append-replicate first (slot_count shape - (first + 0)) none_post))
   where
     log : Shape → List (Option Post) → Log
     log shape posts = record { shape = shape; posts = posts }
@@ -111,9 +116,11 @@ numbered shape (suc n) first le =
     let within : first < length (slots_of shape) = omega (arith, length-slots_of shape) in
     let cut = drop-cons (slots_of shape) first nobody within in
     let next : suc first ≡ first + 1 = omega arith in
-    subst (λ (s : List Slot). NumberedFrom shape first (take (suc n) s)) (sym cut)
-    (at (slots_of shape) first nobody within, subst (λ (k : ℕ). NumberedFrom shape (first + 1) (take n (drop k (slots_of shape))))
-        (sym next) (numbered shape n (first + 1) (omega arith)))
+    subst (λ (s : List Slot). NumberedFrom shape first (take (suc n) s)) (sym cut) (
+      at (slots_of shape) first nobody within,
+      subst (λ (k : ℕ). NumberedFrom shape (first + 1) (take n (drop k (slots_of shape))))
+          (sym next) (numbered shape n (first + 1) (omega arith)),
+    )
   where
     at : (xs : List Slot) (k : ℕ) (d : Slot) → k < length xs → slice_get xs k ≡ Some (get_or xs k d)
     at [] k d lt = absurd (omega arith)
@@ -134,8 +141,8 @@ pub log-places : (shape : Shape) (first : ℕ) (done : List Post) (slots : List 
     → NumberedFrom shape (first + length done) slots → length slots ≡ length posts
     → first + length done + length slots ≤ slot_count shape
     → fold (λ log (pair : Slot × Post). filled log pair.0 pair.1)
-        (record { shape = shape; posts = places_of first (slot_count shape) done }) (zip slots posts) ≡ record
-        { shape = shape; posts = places_of first (slot_count shape) (done ++ posts) }
+    (record { shape = shape; posts = places_of first (slot_count shape) done }) (zip slots posts) ≡ record
+    { shape = shape; posts = places_of first (slot_count shape) (done ++ posts) }
 log-places shape first done [] [] numbers long within = ap (λ (p : List Post). record
     { shape = shape; posts = places_of first (slot_count shape) p }) (sym (append-nil done))
 log-places shape first done [] (post ∷ posts) numbers long within = absurd (omega arith)
@@ -145,9 +152,9 @@ log-places shape first done (slot ∷ slots) (post ∷ posts) numbers long withi
     let step : Log → Slot × Post → Log = λ log pair. filled log pair.0 pair.1 in
     let more : first + length (done ++ post ∷ []) ≡ first + length done + 1 = omega (arith, length-append done (post ∷ [])) in
     let next = ap (λ (k : ℕ). log (slice_set (places_of first (slot_count shape) done) k (Some post)))
-        (slot_at-is shape (first + length done) slot numbers.0).1 ∙ ap log (places-next first (slot_count shape) done post (omega arith)) in
+    (slot_at-is shape (first + length done) slot numbers.0).1 ∙ ap log (places-next first (slot_count shape) done post (omega arith)) in
     let others = log-places shape first (done ++ post ∷ []) slots posts (subst (λ (k : ℕ). NumberedFrom shape k slots) (sym more) numbers.1)
-        (omega arith) (omega arith) in
+    (omega arith) (omega arith) in
     ap (λ (l : Log). fold step l (zip slots posts)) next
     ∙ others
     ∙ ap (λ (p : List Post). log (places_of first (slot_count shape) p)) (append_assoc done (post ∷ []) posts)
@@ -168,7 +175,7 @@ pub record Spans (shape : Shape) (content : Content) : Type 0 where
 -- how many posts a closing body embeds, by whether it assents
 counts : (shape : Shape) (stage : ℕ) (kind : StageKind) (body : Body) → IsClosingBody shape stage kind body
     → ((is_assent body ≡ true) × (length (posts_embedded body) ≡ shape.members))
-        ⊎ ((is_assent body ≡ false) × (length (posts_embedded body) ≡ slots_before shape stage))
+    ⊎ ((is_assent body ≡ false) × (length (posts_embedded body) ≡ slots_before shape stage))
 counts shape stage (AtFinal shuffle) (Keys keys) is = absurd is
 counts shape stage (AtFinal shuffle) (Submit ciphertext) is = absurd is
 counts shape stage (AtFinal shuffle) (Shuffled list) is = absurd is
@@ -244,7 +251,7 @@ spans shape content grammar closing =
           let few : b - a ≡ shape.members = omega (arith, votes) in
           let own : slots_embedded shape content ≡ take (b - a) (drop a all) = cond-true (is_assent content.body) _ _ assents.0 in
           let is : slots_embedded shape content ≡ take shape.members (drop (first_embedded shape content) all) = own
-              ∙ ap (λ (n : ℕ). take n (drop a all)) few ∙ ap (λ (k : ℕ). take shape.members (drop k all)) (sym first) in
+          ∙ ap (λ (n : ℕ). take n (drop a all)) few ∙ ap (λ (k : ℕ). take shape.members (drop k all)) (sym first) in
           record {
             count = shape.members;
             slots_are = is;
@@ -286,9 +293,16 @@ log_with shape posts = record { shape = shape; posts = posts }
 places_long : (first count : ℕ) (posts : List Post) → first + length posts ≤ count → length (places_of first count posts) ≡ count
 places_long first count posts le =
     let rest : ℕ = count - (first + length posts) in
-    omega (arith, length-append (replicate first none_post) (map (λ x. Some x) posts ++ replicate rest none_post), length-append
-        (map (λ x. Some x) posts) (replicate rest none_post), length_replicate first none_post, length_replicate rest none_post, length-map
-        posts (λ (x : Post). Some x))
+    omega (
+      arith,
+      length-append (replicate first none_post) (map (λ x. Some x) posts ++ replicate rest none_post),
+      length-append
+          (map (λ x. Some x) posts) (replicate rest none_post),
+      length_replicate first none_post,
+      length_replicate rest none_post,
+      length-map
+          posts (λ (x : Post). Some x),
+    )
 
 -- of the posts that a closing content embeds so many are read, and a log keeps them
 pub record Embeds (roster : Roster) (round : ℕ) (content : Content) (log : Log) (place : ℕ) : Type 0 where
@@ -296,9 +310,12 @@ pub record Embeds (roster : Roster) (round : ℕ) (content : Content) (log : Log
   pub long : length done ≡ place
   pub so_far : posts_for roster round 0 (embedded_pairs roster content)
       ≡ (posts_for roster round place (zip (drop place (slots_embedded (shape_of_roster roster) content))
-          (drop place (posts_embedded content.body))) >>= λ others. posts_ok (done ++ others))
-  pub keeps : log ≡ record { shape = shape_of_roster roster; posts = places_of (first_embedded (shape_of_roster roster) content)
-      (slot_count (shape_of_roster roster)) done }
+      (drop place (posts_embedded content.body))) >>= λ others. posts_ok (done ++ others))
+  pub keeps : log ≡ record {
+    shape = shape_of_roster roster;
+    posts = places_of (first_embedded (shape_of_roster roster) content)
+        (slot_count (shape_of_roster roster)) done;
+  }
   pub stand : StandAll log
 
 pub embeds-none : (roster : Roster) (round : ℕ) (content : Content) (log : Log) → Spans (shape_of_roster roster) content
@@ -323,7 +340,7 @@ pub record Next (roster : Roster) (content : Content) (place : ℕ) (bytes : Lis
   pub at : slot_at (shape_of_roster roster) (first_embedded (shape_of_roster roster) content + place) ≡ Some slot
   pub pairs : zip (drop place (slots_embedded (shape_of_roster roster) content)) (drop place (posts_embedded content.body))
       ≡ (slot, bytes) ∷ zip (drop (place + 1) (slots_embedded (shape_of_roster roster) content))
-          (drop (place + 1) (posts_embedded content.body))
+      (drop (place + 1) (posts_embedded content.body))
 
 pub next_of : (roster : Roster) (content : Content) (place : ℕ) (bytes : List ℕ) → Spans (shape_of_roster roster) content
     → place < length (posts_embedded content.body) → bytes ≡ get_or (posts_embedded content.body) place bytes
@@ -336,13 +353,13 @@ next_of roster content place bytes span lt is =
     let within : place < length slots = omega (arith, span.slots_long, span.posts_long) in
     let next : suc place ≡ place + 1 = omega arith in
     let numbers = subst (λ (s : List Slot). NumberedFrom shape (first_embedded shape content) s) (sym span.slots_are)
-        (numbered shape span.count (first_embedded shape content) span.within) in
+    (numbered shape span.count (first_embedded shape content) span.within) in
     record {
       slot = get_or slots place nobody;
       at = numbered-at shape (first_embedded shape content) slots place nobody numbers within;
       pairs = ap (λ (s : List Slot). zip s (drop place posts)) (drop-cons slots place nobody within)
           ∙ ap (λ (p : List (List ℕ)). zip (get_or slots place nobody ∷ drop (suc place) slots) p)
-              (drop-cons posts place bytes lt ∙ ap (λ (b : List ℕ). b ∷ drop (suc place) posts) (sym is))
+          (drop-cons posts place bytes lt ∙ ap (λ (b : List ℕ). b ∷ drop (suc place) posts) (sym is))
           ∙ ap (λ (k : ℕ). (get_or slots place nobody, bytes) ∷ zip (drop k slots) (drop k posts)) next;
     }
 
@@ -354,10 +371,10 @@ unfolding embedded_log posts_for
 embeds-bad roster round content log place bytes next so bad =
     let why = failed (post_for_slot roster round next.slot bytes) bad in
     let here : posts_for roster round place (zip (drop place (slots_embedded (shape_of_roster roster) content))
-        (drop place (posts_embedded content.body))) ≡ Err (record { place = place; why = why.0 }) =
+    (drop place (posts_embedded content.body))) ≡ Err (record { place = place; why = why.0 }) =
     ap (posts_for roster round place) next.pairs ∙ fails (post_for_slot roster round next.slot bytes) _ why.0 why.1 in
     let all : posts_for roster round 0 (embedded_pairs roster content) ≡ Err (record { place = place; why = why.0 }) = so.so_far
-        ∙ rw here refl in
+    ∙ rw here refl in
     rw all refl
   where
     fails : (r : Result Post WhyNot) (rest : Post → Result (List Post) BadPost) (why : WhyNot) → r ≡ Err why
@@ -373,9 +390,9 @@ embeds-bad roster round content log place bytes next so bad =
 pub embeds-next : (roster : Roster) (round : ℕ) (content : Content) (log now : Log) (place : ℕ) (bytes : List ℕ) (slot : Slot) (post : Post)
     (next : Next roster content place bytes) → Spans (shape_of_roster roster) content → place < length (posts_embedded content.body)
     → Embeds roster round content log place → post_for_slot roster round next.slot bytes ≡ Ok post
-        → slot_number (shape_of_roster roster) slot.stage slot.sender ≡ first_embedded (shape_of_roster roster) content + place
+    → slot_number (shape_of_roster roster) slot.stage slot.sender ≡ first_embedded (shape_of_roster roster) content + place
     → StandsThere (shape_of_roster roster) slot.stage slot.sender post.content → now ≡ put_log log slot post
-        → Embeds roster round content now (place + 1)
+    → Embeds roster round content now (place + 1)
 unfolding posts_for
 embeds-next roster round content log now place bytes slot post next span lt so is number stands put =
     let shape : Shape = shape_of_roster roster in
@@ -386,20 +403,20 @@ embeds-next roster round content log now place bytes slot post next span lt so i
     let shape_is : log.shape ≡ shape = ap (λ (l : Log). l.shape) so.keeps in
     let number_is : slot_number shape slot.stage slot.sender ≡ first + length so.done = number ∙ ap (λ (k : ℕ). first + k) (sym so.long) in
     let kept : kept_in (record { shape = shape; posts = places_of first count so.done }) slot ≡ None = cond-true
-        (is_slot shape slot.stage slot.sender) (option_flatten (slice_get (places_of first count so.done)
-        (slot_number shape slot.stage slot.sender))) None stands.there
+    (is_slot shape slot.stage slot.sender) (option_flatten (slice_get (places_of first count so.done)
+    (slot_number shape slot.stage slot.sender))) None stands.there
     ∙ ap (λ (k : ℕ). option_flatten (slice_get (places_of first count so.done) k)) number_is
     ∙ ap (λ (o : Option (Option Post)). option_flatten o) (slice_get_read (places_of first count so.done)
-        (length (places_of first count so.done)) (first + length so.done) none_post refl
-        (omega (arith, places_long first count so.done (omega (arith, few)), few)) (sym (place-empty first count so.done few))) in
+    (length (places_of first count so.done)) (first + length so.done) none_post refl
+    (omega (arith, places_long first count so.done (omega (arith, few)), few)) (sym (place-empty first count so.done few))) in
     let filled_is : put_log (record { shape = shape; posts = places_of first count so.done }) slot post ≡ record
-        { shape = shape; posts = places_of first count (so.done ++ post ∷ []) } =
+    { shape = shape; posts = places_of first count (so.done ++ post ∷ []) } =
     sym (put_log-empty (record { shape = shape; posts = places_of first count so.done }) slot post (first + length so.done) kept
-        (sym number_is)) ∙ ap (λ (p : List (Option Post)). log_with shape p) (places-next first count so.done post few) in
+    (sym number_is)) ∙ ap (λ (p : List (Option Post)). log_with shape p) (places-next first count so.done post few) in
     let rest : Result (List Post) BadPost = posts_for roster round (place + 1)
-        (zip (drop (place + 1) (slots_embedded shape content)) (drop (place + 1) (posts_embedded content.body))) in
+    (zip (drop (place + 1) (slots_embedded shape content)) (drop (place + 1) (posts_embedded content.body))) in
     let step : posts_for roster round place (zip (drop place (slots_embedded shape content)) (drop place (posts_embedded content.body))) ≡
-        (rest >>= λ posts. posts_ok (post ∷ posts)) =
+    (rest >>= λ posts. posts_ok (post ∷ posts)) =
     ap (posts_for roster round place) next.pairs ∙ rw is refl in
     record {
       done = so.done ++ post ∷ [];
@@ -429,18 +446,20 @@ embeds-all roster round content log place span so end =
     let posts : List (List ℕ) = posts_embedded content.body in
     let none : drop place slots ≡ [] = drop_of_length-le slots (omega (arith, end, span.slots_long, span.posts_long)) in
     let nothing : posts_for roster round place (zip (drop place slots) (drop place posts)) ≡ Ok [] = ap
-        (λ (s : List Slot). posts_for roster round place (zip s (drop place posts))) none in
+    (λ (s : List Slot). posts_for roster round place (zip s (drop place posts))) none in
     let found : posts_for roster round 0 (embedded_pairs roster content) ≡ Ok so.done = so.so_far
-        ∙ rw nothing (ap posts_ok (append-nil so.done)) in
+    ∙ rw nothing (ap posts_ok (append-nil so.done)) in
     let firsts : map (λ (pair : Slot × List ℕ). pair.0) (embedded_pairs roster content) ≡ slots = firsts-zip slots posts
-        (span.posts_long ∙ sym span.slots_long) in
+    (span.posts_long ∙ sym span.slots_long) in
     let first : ℕ = first_embedded shape content in
     let numbers = subst (λ (s : List Slot). NumberedFrom shape first s) (sym span.slots_are) (numbered shape span.count first span.within)
-        in
+    in
     let zero_more : first + 0 ≡ first = omega arith in
     let logs = log-places shape first [] slots so.done (subst (λ (k : ℕ). NumberedFrom shape k slots) (sym zero_more) numbers)
-        (omega (arith, so.long, end, span.slots_long, span.posts_long)) (omega (arith, span.slots_long, span.within)) in
+    (omega (arith, so.long, end, span.slots_long, span.posts_long)) (omega (arith, span.slots_long, span.within)) in
     let made : log_of shape (zip slots so.done) ≡ log = ap (λ (l : Log). fold (λ (log : Log) (pair : Slot × Post). filled log pair.0 pair.1)
-        l (zip slots so.done)) (places-empty shape first (omega (arith, span.within))) ∙ logs ∙ sym so.keeps in
-    (record { posts = so.done; found = found; long = so.long ∙ end; keeps = so.keeps }, rw found
-        (ap (λ (s : List Slot). log_ok (log_of shape (zip s so.done))) firsts ∙ ap log_ok made))
+    l (zip slots so.done)) (places-empty shape first (omega (arith, span.within))) ∙ logs ∙ sym so.keeps in (
+      record { posts = so.done; found = found; long = so.long ∙ end; keeps = so.keeps },
+      rw found
+          (ap (λ (s : List Slot). log_ok (log_of shape (zip s so.done))) firsts ∙ ap log_ok made),
+    )

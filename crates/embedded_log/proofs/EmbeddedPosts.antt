@@ -68,7 +68,7 @@ checked-refused roster round bytes post refusal fits framed e = rw framed (by_ad
   where
     by_admission : (r : Result Header PostRefusal) → admission_of roster round post ≡ r
         → IsErr ((r >>= λ header. fault_as (λ offence. RefusedBody offence.at offence.rule)
-            (content_read (shape_of_roster roster) post.content)) >>= λ content. post_ok (post, content))
+        (content_read (shape_of_roster roster) post.content)) >>= λ content. post_ok (post, content))
     by_admission (Err refused) is = refl
     by_admission (Ok header) is =
         let there = (admits_exactly roster round post header (framed-bytes bytes post fits framed)).0 is in
@@ -81,7 +81,7 @@ pub checked-offends : (roster : Roster) (round : ℕ) (bytes : List ℕ) (post :
 unfolding checked_post check_of
 checked-offends roster round bytes post header offence fits framed e read =
     let is : admission_of roster round post ≡ Ok header = (admits_exactly roster round post header (framed-bytes bytes post fits framed)).1
-        (admitted roster round bytes post header fits framed e) in
+    (admitted roster round bytes post header fits framed e) in
     rw (framed, is, read) refl
 
 -- and one of the grammar is one
@@ -91,7 +91,7 @@ pub checked-found : (roster : Roster) (round : ℕ) (bytes : List ℕ) (post : P
 unfolding checked_post check_of
 checked-found roster round bytes post header content fits framed e read =
     let is : admission_of roster round post ≡ Ok header = (admits_exactly roster round post header (framed-bytes bytes post fits framed)).1
-        (admitted roster round bytes post header fits framed e) in
+    (admitted roster round bytes post header fits framed e) in
     rw (framed, is, read) refl
 
 abbrev header_ok : Header → Result Header Short
@@ -102,7 +102,7 @@ pub header-same : (roster : Roster) (round : ℕ) (post : Post) (header : Header
     → content_read (shape_of_roster roster) post.content ≡ Ok content → content.header ≡ header
 header-same roster round post header content there read =
     let same : header_ok content.header ≡ header_ok header = sym (content-header (shape_of_roster roster) post.content content read)
-        ∙ there.reads in
+    ∙ there.reads in
     cc
 
 -- such a content stands in the slot of its header
@@ -134,7 +134,7 @@ placed-unchecked roster round slot bytes e = unchecked (checked_post roster roun
 pub placed-elsewhere : (roster : Roster) (round number : ℕ) (slot : Slot) (bytes : List ℕ) (post : Post) (content : Content)
     (header : Header) → checked_post roster round bytes ≡ Ok (post, content) → content.header ≡ header
     → slot_at (shape_of_roster roster) number ≡ Some slot → slot_number (shape_of_roster roster) header.stage header.sender ≢ number
-        → IsErr (post_for_slot roster round slot bytes)
+    → IsErr (post_for_slot roster round slot bytes)
 unfolding post_for_slot
 placed-elsewhere roster round number slot bytes post content header checked same at other =
     let shape : Shape = shape_of_roster roster in
@@ -143,24 +143,24 @@ placed-elsewhere roster round number slot bytes post content header checked same
     let stage : header.stage ≡ slot.stage = sym (ap (λ (h : Header). h.stage) same) ∙ eqb-true _ _ parts.0 in
     let sender : header.sender ≡ slot.sender = sym (ap (λ (h : Header). h.sender) same) ∙ eqb-true _ _ parts.1 in
     other (ap (λ (t : ℕ). slot_number shape t header.sender) stage ∙ ap (λ (m : ℕ). slot_number shape slot.stage m) sender
-        ∙ (slot_at-is shape number slot at).1)) in
+    ∙ (slot_at-is shape number slot at).1)) in
     rw (checked, names) refl
 
 pub placed-there : (roster : Roster) (round number : ℕ) (slot : Slot) (bytes : List ℕ) (post : Post) (content : Content) (header : Header)
     → checked_post roster round bytes ≡ Ok (post, content) → content.header ≡ header
     → is_slot (shape_of_roster roster) header.stage header.sender ≡ true → slot_at (shape_of_roster roster) number ≡ Some slot
-        → slot_number (shape_of_roster roster) header.stage header.sender ≡ number → post_for_slot roster round slot bytes ≡ Ok post
+    → slot_number (shape_of_roster roster) header.stage header.sender ≡ number → post_for_slot roster round slot bytes ≡ Ok post
 unfolding post_for_slot
 placed-there roster round number slot bytes post content header checked same there at is =
     let shape : Shape = shape_of_roster roster in
     let here : Slot = record { stage = header.stage; sender = header.sender } in
     let both : slot_some slot ≡ slot_some here = sym at ∙ ap (slot_at shape) (sym is)
-        ∙ slot_at-number shape header.stage header.sender there in
+    ∙ slot_at-number shape header.stage header.sender there in
     let one : slot ≡ here = cc in
     let stage : (content.header.stage == slot.stage) ≡ true = eq-eqb _ _
-        (ap (λ (h : Header). h.stage) same ∙ sym (ap (λ (s : Slot). s.stage) one)) in
+    (ap (λ (h : Header). h.stage) same ∙ sym (ap (λ (s : Slot). s.stage) one)) in
     let sender : (content.header.sender == slot.sender) ≡ true = eq-eqb _ _
-        (ap (λ (h : Header). h.sender) same ∙ sym (ap (λ (s : Slot). s.sender) one)) in
+    (ap (λ (h : Header). h.sender) same ∙ sym (ap (λ (s : Slot). s.sender) one)) in
     rw (checked, stage, sender) refl
   where
     slot_some : Slot → Option Slot
@@ -179,6 +179,6 @@ pub framed_content : (bytes : List ℕ) (post : Post) → IsBytes bytes → fram
 framed_content bytes post fits framed =
     let spelled = (framed-found bytes post fits framed).1 in
     let whole : IsBytes (to_be_bytes w32 (length post.content) ++ post.content ++ post.signature) = subst (λ (x : List ℕ). IsBytes x)
-        spelled fits in
+    spelled fits in
     IsBytes-back (to_be_bytes w32 (length post.content)) post.content
-        (IsBytes-front (to_be_bytes w32 (length post.content) ++ post.content) post.signature whole)
+    (IsBytes-front (to_be_bytes w32 (length post.content) ++ post.content) post.signature whole)

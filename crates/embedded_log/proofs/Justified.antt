@@ -39,7 +39,7 @@ embedded_places shape content posts span long =
     let count : span.count ≡ length (map some_post posts) = omega (arith, length-map posts some_post, long, span.posts_long) in
     span.places_are (places_of first (slot_count shape) posts)
     ∙ ap (λ (k : ℕ). take span.count (drop k (replicate first none_post ++ (map some_post posts ++ rest))))
-        (sym (length_replicate first none_post))
+    (sym (length_replicate first none_post))
     ∙ ap (take span.count) (drop-append_seam (replicate first none_post) (map some_post posts ++ rest))
     ∙ ap (λ (n : ℕ). take n (map some_post posts ++ rest)) count
     ∙ take-append_seam (map some_post posts) rest
@@ -56,8 +56,8 @@ before_embedded roster round content log k span objects =
     let places : List (Option Post) = places_of (first_embedded shape content) (slot_count shape) k.posts in
     ap (λ (l : Log). before l content.header.stage) k.keeps
     ∙ ap all_some (sym (cond-false (is_assent content.body) (slice_range places (slots_before shape (content.header.stage - 1))
-        (slots_before shape (content.header.stage - 1 + 1))) (take (slots_before shape content.header.stage) places) objects)
-        ∙ embedded_places shape content k.posts span k.long)
+    (slots_before shape (content.header.stage - 1 + 1))) (take (slots_before shape content.header.stage) places) objects)
+    ∙ embedded_places shape content k.posts span k.long)
     ∙ all_some-map k.posts
 
 -- the log keeps what the content embeds
@@ -76,14 +76,14 @@ holds_embedded roster round content log k span = by_assent (is_assent content.bo
         let shape : Shape = shape_of_roster roster in
         let places : List (Option Post) = places_of (first_embedded shape content) (slot_count shape) k.posts in
         let row = sym (cond-true (is_assent content.body) (slice_range places (slots_before shape (content.header.stage - 1))
-            (slots_before shape (content.header.stage - 1 + 1))) (take (slots_before shape content.header.stage) places) e)
-            ∙ embedded_places shape content k.posts span k.long in
+        (slots_before shape (content.header.stage - 1 + 1))) (take (slots_before shape content.header.stage) places) e)
+        ∙ embedded_places shape content k.posts span k.long in
         let whole : is_complete log (content.header.stage - 1) ≡ true = ap (λ (l : Log). is_complete l (content.header.stage - 1)) k.keeps
-            ∙ ap (list_all is_some) row ∙ all_there k.posts in
+        ∙ ap (list_all is_some) row ∙ all_there k.posts in
         subst (λ (b : Bool). HoldsFor b content.header.stage log) (sym e) whole
     by_assent false e =
         let there : IsSome (before log content.header.stage) = subst (λ (o : Option (List Post)). IsSome o)
-            (sym (before_embedded roster round content log k span e)) (some_there k.posts) in
+        (sym (before_embedded roster round content log k span e)) (some_there k.posts) in
         subst (λ (b : Bool). HoldsFor b content.header.stage log) (sym e) there
 
 -- what is justified by the log is justified

@@ -13,7 +13,7 @@ told : (log other : Log) (slot : Slot) (o p : Option (Bor Post)) (r b : Bool) �
     → r ≡ are_different (option_copied o) (option_copied p) → r ≡ b → are_different (kept_in log slot) (kept_in other slot) ≡ b
 told log other slot o p r b e e' is be =
     sym (ap (λ (k : Option Post). are_different k (option_copied p)) e ∙ ap (λ (k : Option Post). are_different (kept_in log slot) k) e')
-        ∙ sym is ∙ be
+    ∙ sym is ∙ be
 
 pub differing-some : (log other : Log) (slot : Slot) (o p : Option (Bor Post)) (r : Bool) → option_copied o ≡ kept_in log slot
     → option_copied p ≡ kept_in other slot

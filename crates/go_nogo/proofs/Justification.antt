@@ -73,9 +73,9 @@ unfolding is_justified are_unanimous
 assent-justified log content votes agree assents e is =
     let embedded : List (List ℕ) = contents_in (embedded_of log.shape content log.posts) in
     let own : embedded ≡ contents_in (posts_in log (content.header.stage - 1)) = ap contents_in
-        (cond-true (is_assent content.body) _ _ assents) in
+    (cond-true (is_assent content.body) _ _ assents) in
     is ∙ sym (cond-true (is_assent content.body) (are_unanimous log.shape embedded) _ assents ∙ ap (are_unanimous log.shape) own
-        ∙ ap has_unanimous e)
+    ∙ ap has_unanimous e)
 
 -- the contents that one embeds that doesn't assent
 past_embedded : (log : Log) (content : Content) (posts : List Post) → is_assent content.body ≡ false
@@ -83,24 +83,24 @@ past_embedded : (log : Log) (content : Content) (posts : List Post) → is_assen
     → contents_in (embedded_of log.shape content log.posts) ≡ contents_of posts
 past_embedded log content posts objects e =
     ap contents_in (cond-false (is_assent content.body) _ _ objects
-        ∙ all_some-is (take (slots_before log.shape content.header.stage) log.posts) posts e)
+    ∙ all_some-is (take (slots_before log.shape content.header.stage) log.posts) posts e)
     ∙ contents_in-map posts
 
 -- and its votes
 past_votes : (log : Log) (content : Content) (posts : List Post) (votes : List Vote) → 1 ≤ content.header.stage
     → before log content.header.stage ≡ Some posts
     → log_votes log (content.header.stage - 1) ≡ Some votes → votes_agree log.shape (contents_of posts) content.header.stage ≡ is_unanimous
-        votes
+    votes
 unfolding are_unanimous
 past_votes log content posts votes least e votes_are =
     ap (are_unanimous log.shape) (sym (contents_in-past log (content.header.stage - 1) content.header.stage posts (omega arith) e))
-        ∙ ap has_unanimous votes_are
+    ∙ ap has_unanimous votes_are
 
 -- of one that doesn't
 pub objection-justified : (log : Log) (content : Content) (votes : List Vote) (agree r : Bool) (view : List ℕ)
     → is_assent content.body ≡ false → 1 ≤ content.header.stage
     → HoldsEmbedded content log → log_votes log (content.header.stage - 1) ≡ Some votes → agree ≡ is_unanimous votes
-        → log_view log content.header.stage ≡ Some view
+    → log_view log content.header.stage ≡ Some view
     → r ≡ (not agree && bytes_eq content.header.view view)
     → r ≡ is_justified log.shape content (contents_in (embedded_of log.shape content log.posts))
 unfolding is_justified
@@ -110,22 +110,22 @@ objection-justified log content votes agree r view objects least holds votes_are
     let embedded : List (List ℕ) = contents_in (embedded_of log.shape content log.posts) in
     let own = past_embedded log content past.0 objects past.1 in
     let agreed : agree ≡ votes_agree log.shape (contents_of past.0) content.header.stage = agree_is
-        ∙ sym (past_votes log content past.0 votes least past.1 votes_are) in
+    ∙ sym (past_votes log content past.0 votes least past.1 votes_are) in
     let seen : view ≡ view_of log.shape (contents_of past.0) content.header.stage = sym
-        (view_same (before log content.header.stage) past.0 past.1 view_is) in
+    (view_same (before log content.header.stage) past.0 past.1 view_is) in
     is
     ∙ ap (λ (b : Bool). not b && bytes_eq content.header.view view) agreed
     ∙ ap (λ (v : List ℕ). not (votes_agree log.shape (contents_of past.0) content.header.stage) && bytes_eq content.header.view v) seen
     ∙ ap (λ (p : List (List ℕ)). not (votes_agree log.shape p content.header.stage) && bytes_eq content.header.view
-        (view_of log.shape p content.header.stage)) (sym own)
+    (view_of log.shape p content.header.stage)) (sym own)
     ∙ sym (cond-false (is_assent content.body) (are_unanimous log.shape embedded)
-        (not (votes_agree log.shape embedded content.header.stage) && bytes_eq content.header.view
-        (view_of log.shape embedded content.header.stage)) objects)
+    (not (votes_agree log.shape embedded content.header.stage) && bytes_eq content.header.view
+    (view_of log.shape embedded content.header.stage)) objects)
   where
     view_same : (o : Option (List Post)) (posts : List Post) → o ≡ Some posts
         → option_map (λ posts. view_of log.shape (contents_of posts) content.header.stage) o ≡ Some view
         → view_of log.shape (contents_of posts) content.header.stage ≡ view
     view_same o posts e v =
         let both : Some (view_of log.shape (contents_of posts) content.header.stage) ≡ Some view = sym
-            (ap (option_map (λ posts. view_of log.shape (contents_of posts) content.header.stage)) e) ∙ v in
+        (ap (option_map (λ posts. view_of log.shape (contents_of posts) content.header.stage)) e) ∙ v in
         cc

@@ -25,7 +25,7 @@ kept-slot log slot post e =
       | inl speaks_there ↦ speaks_there
       | inr silent ↦
           let none : kept_in log slot ≡ None = cond-false (is_slot log.shape slot.stage slot.sender)
-              (option_flatten (slice_get log.posts (slot_number log.shape slot.stage slot.sender))) None silent in
+          (option_flatten (slice_get log.posts (slot_number log.shape slot.stage slot.sender))) None silent in
           absurd (nothing (kept_in log slot) post none e)
     ]
   where
@@ -38,7 +38,7 @@ kept-slot log slot post e =
 differ-found : (log other : Log) (slot : Slot) → Differ log other slot → differing log other slot ≡ Some slot
 differ-found log other slot differ =
     let unlike : bytes_eq differ.post.content differ.other_post.content ≡ false = false_from_ne_true _
-        (λ same. differ.contents ((bytes_eq-Decides _ _).0 same)) in
+    (λ same. differ.contents ((bytes_eq-Decides _ _).0 same)) in
     cond-true (are_different (kept_in log slot) (kept_in other slot)) (Some slot) None
     (ap (λ (o : Option Post). are_different o (kept_in other slot)) differ.kept
     ∙ ap (λ (o : Option Post). are_different (Some differ.post) o) differ.other_kept
@@ -78,7 +78,7 @@ not-before : (log other : Log) (slot : Slot) → Differ log other slot → diffe
 not-before log other slot differ none =
     let bounds = slot-bounds log.shape slot.stage slot.sender (kept-slot log slot differ.post differ.kept) in
     let each = first_below-each (λ place. differing log other (record { stage = slot.stage; sender = place + 1 })) log.shape.members none
-        (slot.sender - 1) (omega (arith, bounds.1, bounds.2)) in
+    (slot.sender - 1) (omega (arith, bounds.1, bounds.2)) in
     let same : slot.sender - 1 + 1 ≡ slot.sender = omega (arith, bounds.1) in
     let never = ap (λ (s : ℕ). differing log other (record { stage = slot.stage; sender = s })) same in
     let some = differ-found log other slot differ in
@@ -89,7 +89,7 @@ first-difference log other found e =
     let at = first_below-found (difference_at log other) (stage_count log.shape) found e in
     let stage : ℕ = at.0 in
     let place = first_below-found (λ place. differing log other (record { stage = stage; sender = place + 1 })) log.shape.members found at.2
-        in
+    in
     let here : Slot = record { stage = stage; sender = place.0 + 1 } in
     let differ = found-differ log other here found place.2 in
     record {
@@ -123,7 +123,7 @@ first-difference log other found e =
             let sender : slot.sender - 1 + 1 ≡ slot.sender = omega (arith, bounds.1) in
             let some = differ-found log other slot differ in
             let there = ap (λ (s : ℕ). differing log other (record { stage = stage; sender = s })) sender
-                ∙ ap (λ (t : ℕ). differing log other (record { stage = t; sender = slot.sender })) same in
+            ∙ ap (λ (t : ℕ). differing log other (record { stage = t; sender = slot.sender })) same in
             apart _ slot (sym there ∙ none (omega (arith, bounds.1, bounds.2))) some
 
 -- what the definition gives is the first of all, or there is none

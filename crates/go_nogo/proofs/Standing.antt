@@ -53,14 +53,14 @@ kept-entry : (log : Log) (slot : Slot) (post : Post) → kept_in log slot ≡ So
 kept-entry log slot post e =
     let entry : Option (Option Post) = slice_get log.posts (slot_number log.shape slot.stage slot.sender) in
     flatten-some entry post (sym (cond-true (is_slot log.shape slot.stage slot.sender) (option_flatten entry) None
-        (kept-slot log slot post e)) ∙ e)
+    (kept-slot log slot post e)) ∙ e)
 
 -- slots of one number are one
 one-slot : (shape : Shape) (slot other : Slot) → is_slot shape slot.stage slot.sender ≡ true → is_slot shape other.stage other.sender ≡ true
     → slot_number shape other.stage other.sender ≡ slot_number shape slot.stage slot.sender → other ≡ slot
 one-slot shape slot other speaks other_speaks e =
     let at : Some other ≡ Some slot = sym (slot_at-number shape other.stage other.sender other_speaks) ∙ ap (slot_at shape) e
-        ∙ slot_at-number shape slot.stage slot.sender speaks in
+    ∙ slot_at-number shape slot.stage slot.sender speaks in
     cc
 
 -- what a log keeps once a slot is filled was kept before, or is the post that filled it
@@ -71,7 +71,7 @@ kept-filled log slot other post kept speaks e =
     let there = kept-slot (filled log slot post) other kept e in
     let number : ℕ = slot_number log.shape other.stage other.sender in
     elim (get-set log.posts (slot_number log.shape slot.stage slot.sender) number (Some post) (Some kept)
-        (kept-entry (filled log slot post) other kept e)) [
+    (kept-entry (filled log slot post) other kept e)) [
       | inl old ↦ inl (cond-true (is_slot log.shape other.stage other.sender) (option_flatten (slice_get log.posts number)) None there
           ∙ ap option_flatten old)
       | inr new ↦ inr (one-slot log.shape slot other speaks there new.0, cc)
@@ -95,7 +95,7 @@ stand-put log slot post stage speaks stand said = by_kept (kept_in log slot) ref
           | inr new ↦
               let stands = said (sym (ap (λ (s : Slot). s.stage) new.0)) in
               subst (λ (s : Slot). StandsIn log.shape s kept.content) (sym new.0)
-                  (subst (λ (p : Post). StandsIn log.shape slot p.content) (sym new.1) stands)
+              (subst (λ (p : Post). StandsIn log.shape slot p.content) (sym new.1) stands)
         ]
 
     by_kept : (o : Option Post) → kept_in log slot ≡ o → StandAt (put_log log slot post) stage
@@ -113,6 +113,6 @@ pub stand-all : (log now : Log) (post : Post) (said : Content) → StandAll log 
     → now ≡ put_log log (slot_of said) post → StandAll now
 stand-all log now post said stand grammar spelled is =
     let stands : StandsIn log.shape (slot_of said) post.content = record
-        { said = said; spelled = spelled; grammar = grammar; stage_is = refl; sender_is = refl } in
+    { said = said; spelled = spelled; grammar = grammar; stage_is = refl; sender_is = refl } in
     subst (λ (l : Log). StandAll l) (sym is) (λ stage. stand-put log (slot_of said) post stage grammar.0.slot_is (stand stage)
-        (λ _. stands))
+    (λ _. stands))

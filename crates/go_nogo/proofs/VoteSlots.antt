@@ -81,7 +81,7 @@ stands_vote shape slot bytes vote is =
     let said : Content = is.said in
     let read = ap (content_read shape) is.spelled ∙ content-is_read shape said is.grammar in
     let at : is_vote (kind_of_stage shape said.header.stage) ≡ true = subst (λ (t : ℕ). is_vote (kind_of_stage shape t) ≡ true)
-        (sym is.stage_is) vote in
+    (sym is.stage_is) vote in
     subst (λ r. IsSome (vote_read r)) (sym read) (body_is_vote shape said.header.stage said.header.view said.body at is.grammar.1)
 
 -- ---- lists
@@ -113,7 +113,7 @@ pub all_some-append : {A : Type 0} (xs zs : List (Option A)) (ys ws : List A) �
     → all_some (xs ++ zs) ≡ Some (ys ++ ws)
 all_some-append {A} xs zs ys ws e e' =
     ap all_some (ap (λ (t : List (Option A)). t ++ zs) (all_some-is xs ys e)
-        ∙ ap (λ (t : List (Option A)). map (λ x. Some x) ys ++ t) (all_some-is zs ws e') ∙ sym (map-append (λ x. Some x) ys ws))
+    ∙ ap (λ (t : List (Option A)). map (λ x. Some x) ys ++ t) (all_some-is zs ws e') ∙ sym (map-append (λ x. Some x) ys ws))
     ∙ all_some-map (ys ++ ws)
 
 -- a vote more
@@ -153,8 +153,12 @@ vote_count shape stage (Some AtConfirm) e vote = absurd cc
 -- there is one for each member
 pub vote_row : (log : Log) (stage : ℕ) → IsLog log → is_vote (kind_of_stage log.shape stage) ≡ true
     → length (posts_in log stage) ≡ log.shape.members
-vote_row log stage is vote = omega (arith, length-posts_in log stage is, vote_count log.shape stage (kind_of_stage log.shape stage) refl
-    vote)
+vote_row log stage is vote = omega (
+  arith,
+  length-posts_in log stage is,
+  vote_count log.shape stage (kind_of_stage log.shape stage) refl
+      vote,
+)
 
 -- what a log keeps of the member at a place
 kept-place : (log : Log) (stage place : ℕ) → is_vote (kind_of_stage log.shape stage) ≡ true → place < log.shape.members
@@ -170,7 +174,7 @@ kept-place log stage place vote lt =
     let found = slot_at-is log.shape (a + place) slot at in
     let behind : place < b - a = omega (arith, count) in
     cond-true (is_slot log.shape stage (place + 1)) (option_flatten (slice_get log.posts (slot_number log.shape stage (place + 1)))) None
-        found.0
+    found.0
     ∙ ap (λ (k : ℕ). option_flatten (slice_get log.posts k)) found.1
     ∙ ap option_flatten (sym (slice_get-take (drop a log.posts) (b - a) place behind ∙ get_drop log.posts a place))
 
@@ -182,8 +186,12 @@ pub place-post : (log : Log) (stage place : ℕ) → IsLog log → is_vote (kind
 place-post log stage place is vote full lt =
     let row : List (Option Post) = posts_in log stage in
     let posts = whole row full in
-    let within : place < length posts.0 = omega (arith, vote_row log stage is vote, ap (λ (t : List (Option Post)). length t) posts.1,
-        length-somes posts.0) in
+    let within : place < length posts.0 = omega (
+      arith,
+      vote_row log stage is vote,
+      ap (λ (t : List (Option Post)). length t) posts.1,
+      length-somes posts.0,
+    ) in
     let found = pick posts.0 place within in (
       found.0,
       kept-place log stage place vote lt
@@ -217,7 +225,7 @@ place-vote log stage place is vote full stand lt =
 pub votes-next : (log : Log) (stage place : ℕ) (votes : List Vote) (vote : Vote) → IsLog log
     → is_vote (kind_of_stage log.shape stage) ≡ true → is_complete log stage ≡ true → place < log.shape.members
     → votes_of log.shape (contents_in (take place (posts_in log stage))) ≡ Some votes
-        → kept_vote log (record { stage = stage; sender = place + 1 }) ≡ Some vote
+    → kept_vote log (record { stage = stage; sender = place + 1 }) ≡ Some vote
     → votes_of log.shape (contents_in (take (place + 1) (posts_in log stage))) ≡ Some (votes ++ vote ∷ [])
 votes-next log stage place votes vote is kind full lt e e' =
     let found = place-post log stage place is kind full lt in

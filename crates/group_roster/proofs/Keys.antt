@@ -60,7 +60,7 @@ key_of-is r (suc k) bytes key least most is reads =
     let place : suc k - 1 ≡ k = omega arith in
     let here : bytes ≡ get_or r.keys k bytes = subst (λ (i : ℕ). bytes ≡ get_or r.keys i bytes) place is in
     ap (λ (o : Option (List ℕ)). option_and_then (λ key. result_ok (key_read key)) o)
-        (slice_get_read r.keys (length r.keys) k bytes refl (omega arith) here)
+    (slice_get_read r.keys (length r.keys) k bytes refl (omega arith) here)
     ∙ ap result_ok reads
 
 -- a key whose reading is no error reads

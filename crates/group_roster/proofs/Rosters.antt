@@ -108,7 +108,7 @@ key_right bytes k r =
     let o2 = type_offence (key_place k) (key_read (key_at bytes k)) in
     let o3 = fault_unless (not (repeats bytes k)) (offence (key_place k) Duplicate) in
     first_some-none o1 (o2 ∷ o3 ∷ []) (fault_unless-true (nat_le (key_place (k + 1)) (length bytes)) (offence (key_place k) Short)
-        (le-leb _ _ r.whole))
+    (le-leb _ _ r.whole))
     ∙ first_some-none o2 (o3 ∷ []) (untyped (key_place k) (key_read (key_at bytes k)) r.reads)
     ∙ first_some-none o3 [] (fault_unless-true (not (repeats bytes k)) (offence (key_place k) Duplicate) (ap not r.once))
 
@@ -157,7 +157,7 @@ offends_not bytes u =
     first_some-none (head_offence bytes) (keys_offence bytes (size_of bytes) ∷ t ∷ []) head
     ∙ first_some-none (keys_offence bytes (size_of bytes)) (t ∷ []) (first_below-none (key_offence bytes) (size_of bytes) u.keys)
     ∙ first_some-none t [] (fault_unless-true (nat_le (length bytes) (key_place (size_of bytes)))
-        (offence (key_place (size_of bytes)) Trailing) (le-leb _ _ u.ends))
+    (offence (key_place (size_of bytes)) Trailing) (le-leb _ _ u.ends))
 
 record HasSize (bytes : List ℕ) : Type 0 where
   there : 5 < length bytes
@@ -185,11 +185,14 @@ distinct_keys bytes n right i j d lt within =
     let short : j < n = omega (arith, length-map-range_with_len (key_at bytes) 0 n) in
     let r = right_key bytes j (right j short) in
     let differ : bytes_eq (key_at bytes i) (key_at bytes j) ≡ false = none_passes (λ m. bytes_eq (key_at bytes m) (key_at bytes j)) 0 j i
-        r.once (omega arith) (omega arith) in
-    rw (get_or-map-range_with_len (key_at bytes) 0 n i i d (omega arith) (omega arith), get_or-map-range_with_len (key_at bytes) 0 n j j d
-        short (omega arith))
+    r.once (omega arith) (omega arith) in
+    rw (
+      get_or-map-range_with_len (key_at bytes) 0 n i i d (omega arith) (omega arith),
+      get_or-map-range_with_len (key_at bytes) 0 n j j d
+          short (omega arith),
+    )
     (λ same. absurd (let equal : bytes_eq (key_at bytes i) (key_at bytes j) ≡ true = (bytes_eq-Decides (key_at bytes i) (key_at bytes j)).1
-        same in cc))
+    same in cc))
 
 -- what has no offence is spelled so
 pub roster_found : (bytes : List ℕ) → roster_offence bytes ≡ None → IsRosterFile (spelled_roster bytes)
@@ -206,9 +209,14 @@ roster_found bytes e =
     let m3 = byte_there bytes 3 79 (first_unlike-each roster_magic bytes u.magic 3 (omega arith)) in
     let last = right_key bytes (n - 1) (u.keys (n - 1) (omega (arith, s.least))) in
     let rest : concat (keys_at bytes n) ≡ drop 6 bytes = concat-keys_at bytes n
-        ∙ take_all (56 * n) (drop 6 bytes) (omega (arith, length-drop 6 bytes, u.ends)) in
-    let form : IsRosterForm (spelled_roster bytes) = record { version = version.1; least = omega (arith, count, s.least); most = omega
-        (arith, count, s.most); keys = right_keys bytes n u.keys } in (
+    ∙ take_all (56 * n) (drop 6 bytes) (omega (arith, length-drop 6 bytes, u.ends)) in
+    let form : IsRosterForm (spelled_roster bytes) = record {
+      version = version.1;
+      least = omega (arith, count, s.least);
+      most = omega
+          (arith, count, s.most);
+      keys = right_keys bytes n u.keys;
+    } in (
       record { form = form; distinct = distinct_keys bytes n u.keys },
       six_front bytes (omega (arith, s.there)) ∙ rw (m0.1, m1.1, m2.1, m3.1, count, rest) refl,
     )
@@ -285,7 +293,7 @@ roster_again r file =
       ends = omega (arith, long);
     }) in
     ap (λ (o : Option Offence). fault_as numbered (value_unless o (spelled_roster bytes))) none
-        ∙ ap (λ (keys : List (List ℕ)). ok (record { version = r.version; keys = keys })) (spelled_keys r form)
+    ∙ ap (λ (keys : List (List ℕ)). ok (record { version = r.version; keys = keys })) (spelled_keys r form)
   where
     ok : Roster → Result Roster (ℕ × ℕ)
     ok r = Ok r
@@ -294,7 +302,7 @@ roster_again r file =
 pub roster_read-found : (bytes : List ℕ) (r : Roster) → roster_read bytes ≡ Ok r → IsRosterFile r × (bytes ≡ roster_spelling r)
 roster_read-found bytes r e =
     let parts = value_unless-ok (roster_offence bytes) (spelled_roster bytes) r
-        (fault_as_ok numbered (value_unless (roster_offence bytes) (spelled_roster bytes)) r e) in
+    (fault_as_ok numbered (value_unless (roster_offence bytes) (spelled_roster bytes)) r e) in
     subst (λ (r : Roster). IsRosterFile r × (bytes ≡ roster_spelling r)) parts.1 (roster_found bytes parts.0)
 
 -- the same of what a decoder returned, seen by a view
@@ -342,7 +350,7 @@ pub offence-read : (bytes : List ℕ) (broken : Offence) → value_unless (roste
     → roster_read bytes ≡ Err (numbered broken)
 offence-read bytes broken e =
     ap (λ (o : Option Offence). fault_as numbered (value_unless o (spelled_roster bytes)))
-        (value_unless-err (roster_offence bytes) (size_of bytes) broken e)
+    (value_unless-err (roster_offence bytes) (size_of bytes) broken e)
 
 -- the same of keys that are these
 pub form-keys : (bytes : List ℕ) (n : ℕ) (keys : List (List ℕ)) → keys ≡ keys_at bytes n

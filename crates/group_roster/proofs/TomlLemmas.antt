@@ -63,7 +63,7 @@ length-list_of vs = ap length (list_of-items (map view vs)) ∙ length-map vs vi
 
 in_a_group : (vs : List Value)
     → (nat_le 2 (length vs) && nat_le (length vs) 8) ≡ (nat_le 2 (length (list_of (items_view vs))) && nat_le
-        (length (list_of (items_view vs))) 8)
+    (length (list_of (items_view vs))) 8)
 in_a_group vs = ap (λ (k : ℕ). nat_le 2 k && nat_le k 8) (sym (length-list_of vs))
 
 pub group-some : (vs : List Value) (found : Option Items) → Some (items_view vs) ≡ found
@@ -114,7 +114,7 @@ keys-none front number entry rest all none so_far = sym so_far ∙ rw none refl
 
 pub keys-some : (front : List (List ℕ)) (number : ℕ) (entry : Data) (rest : List Data) (key : List ℕ) (all : Result (List (List ℕ)) (ℕ × ℕ))
     → key_of_entry entry ≡ Some key → with_keys front (keys_from number (entry ∷ rest)) ≡ all
-        → with_keys (front ++ key ∷ []) (keys_from (number + 1) rest) ≡ all
+    → with_keys (front ++ key ∷ []) (keys_from (number + 1) rest) ≡ all
 unfolding keys_from
 keys-some front number entry rest key all some so_far = joined front key (keys_from (number + 1) rest) ∙ rw some at so_far
 

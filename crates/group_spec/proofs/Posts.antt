@@ -83,7 +83,7 @@ unfolding was-asked has-put_off
 due-before c a Unasked e w due =
     let lt = slot-in_round c a.stand.at due in
     let posts : length a.made + 0 ≤ a.stand.at + 0 = subst (λ (m : Mood). length a.made + has-put_off m ≤ a.stand.at + was-asked m) e
-        w.posts in
+    w.posts in
     record { posts = omega (arith, posts); stages = omega (arith, lt) }
 due-before c a (PutOff bytes) e w due = absurd (false≢true due)
 due-before c a Spoken e w due = absurd (false≢true due)
@@ -124,9 +124,9 @@ repeat-within : (replies : Replies) (c : Configuration) (a : Actor) (mood : Mood
 unfolding was-asked has-put_off
 repeat-within replies c a (PutOff bytes) e w =
     let posts : length a.made + 1 ≤ a.stand.at + 1 = subst (λ (m : Mood). length a.made + has-put_off m ≤ a.stand.at + was-asked m) e
-        w.posts in
+    w.posts in
     let stages : a.stand.at + 1 ≤ stage_count (shape_in c) = subst (λ (m : Mood). a.stand.at + was-asked m ≤ stage_count (shape_in c)) e
-        w.stages in
+    w.stages in
     answer-within c a (speech_about replies c a bytes) (record { posts = omega (arith, posts); stages = stages })
 repeat-within replies c a Unasked e w = w
 repeat-within replies c a Spoken e w = w

@@ -43,13 +43,30 @@ vote-row shape stage closing = by_kind (kind_of_stage shape stage) refl closing
         × IsVoteRow shape (stage - 1)
     by_kind None e is = absurd cc
     by_kind (Some (Final shuffle)) e is =
-        let follows = closing-follows shape stage (Final shuffle) (Go shuffle) e refl in
-        (follows.0, record { kind = Go shuffle; at = follows.1; votes = refl; place = λ member. refl; all_speak = λ member there. there;
-            count = refl })
+        let follows = closing-follows shape stage (Final shuffle) (Go shuffle) e refl in (
+          follows.0,
+          record {
+            kind = Go shuffle;
+            at = follows.1;
+            votes = refl;
+            place = λ member. refl;
+            all_speak = λ member there. there;
+            count = refl;
+          },
+        )
     by_kind (Some Confirm) e is =
-        let follows = closing-follows shape stage Confirm Check e refl in
-        (follows.0, record { kind = Check; at = follows.1; votes = refl; place = λ member. refl; all_speak = λ member there. there; count =
-            refl })
+        let follows = closing-follows shape stage Confirm Check e refl in (
+          follows.0,
+          record {
+            kind = Check;
+            at = follows.1;
+            votes = refl;
+            place = λ member. refl;
+            all_speak = λ member there. there;
+            count =
+                refl;
+          },
+        )
     by_kind (Some Keys) e is = absurd cc
     by_kind (Some (Submit shuffle)) e is = absurd cc
     by_kind (Some (Shuffle shuffle k)) e is = absurd cc
@@ -72,7 +89,7 @@ pub agree-log : (log : Log) (stage : ℕ) (posts : List Post) (votes : List Vote
 unfolding are_unanimous
 agree-log log stage posts votes least e e' =
     ap (λ (contents : List (List ℕ)). has_unanimous (votes_of log.shape contents))
-        (sym (contents_in-past log (stage - 1) stage posts (omega arith) e))
+    (sym (contents_in-past log (stage - 1) stage posts (omega arith) e))
     ∙ ap has_unanimous e'
 
 -- the post of the member at a place is that of the past
@@ -86,9 +103,9 @@ vote-kept log stage place posts least e row lt =
     let behind : place < b - a = omega (arith, count, row.count) in
     let at : slot_number log.shape (stage - 1) (place + 1) ≡ a + place
     = ap (λ (o : Option StageKind). a + place_in o (place + 1)) row.at ∙ ap (λ (k : ℕ). a + k) (row.place (place + 1))
-        ∙ ap (λ (k : ℕ). a + k) (let same : place + 1 - 1 ≡ place = omega arith in same) in
+    ∙ ap (λ (k : ℕ). a + k) (let same : place + 1 - 1 ≡ place = omega arith in same) in
     kept-at log stage (record { stage = stage - 1; sender = place + 1 }) posts e
-        (row-slot log.shape (stage - 1) (place + 1) row (omega arith) (omega arith)) (omega arith)
+    (row-slot log.shape (stage - 1) (place + 1) row (omega arith) (omega arith)) (omega arith)
     ∙ ap (slice_get posts) at
     ∙ sym (slice_get-take (drop a posts) (b - a) place behind ∙ get_drop posts a place)
 

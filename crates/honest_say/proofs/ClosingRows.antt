@@ -21,7 +21,7 @@ pub final-votes : (shape : Shape) (posts : List Post) (stage : ℕ) (votes : Lis
 unfolding final_row
 final-votes shape posts stage votes inner outer opening e =
     revealed (votes_agree shape (contents_of posts) stage) votes (written (posts_at shape posts (stage - 1))) (written posts) inner outer
-        opening e
+    opening e
 
 disputed : (b : Bool) (posts w all : List (List ℕ)) (inner outer opening : List ℕ) → All posts ≡ (if b then Votes w else All all)
     → Dispute posts outer opening ≡ (if b then Reveal w inner else Dispute all outer opening)
@@ -34,7 +34,7 @@ pub final-all : (shape : Shape) (posts : List Post) (stage : ℕ) (all : List (L
 unfolding final_row
 final-all shape posts stage all inner outer opening e =
     disputed (votes_agree shape (contents_of posts) stage) all (written (posts_at shape posts (stage - 1))) (written posts) inner outer
-        opening e
+    opening e
 
 confirmed : (b : Bool) (votes w all : List (List ℕ)) → Votes votes ≡ (if b then Votes w else All all)
     → Confirm votes ≡ (if b then Confirm w else Differ all)
@@ -64,10 +64,10 @@ pub embeds-votes : (shape : Shape) (posts : List Post) (stage : ℕ) (votes : Li
     → votes ≡ written (posts_at shape posts (stage - 1)) → Votes votes ≡ embedded_in shape posts stage
 embeds-votes shape posts stage votes agree e =
     ap (λ (v : List (List ℕ)). Votes v) e ∙ ap (λ (b : Bool). if b then Votes (written (posts_at shape posts (stage - 1))) else All
-        (written posts)) (sym agree)
+    (written posts)) (sym agree)
 
 pub embeds-all : (shape : Shape) (posts : List Post) (stage : ℕ) (all : List (List ℕ)) → votes_agree shape (contents_of posts) stage ≡ false
     → all ≡ written posts → All all ≡ embedded_in shape posts stage
 embeds-all shape posts stage all agree e =
     ap (λ (v : List (List ℕ)). All v) e ∙ ap (λ (b : Bool). if b then Votes (written (posts_at shape posts (stage - 1))) else All
-        (written posts)) (sym agree)
+    (written posts)) (sym agree)

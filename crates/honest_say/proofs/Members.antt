@@ -42,11 +42,11 @@ keys-count shape past place = length-map-range_with_len (key_said shape past pla
 -- as a call has it
 pub column-said : (shape : Shape) (past : List (List ℕ)) (given rows : List (List (List ℕ))) (place : ℕ) (keys : List (List ℕ))
     → keys ≡ map (λ (row : List (List ℕ)). slice_index_or row place []) given → given ≡ rows
-        → rows ≡ map (keys_by shape past) (range_with_len 1 shape.members)
+    → rows ≡ map (keys_by shape past) (range_with_len 1 shape.members)
     → keys ≡ keys_said shape past place
 column-said shape past given rows place keys is same are =
     is ∙ ap (λ (r : List (List (List ℕ))). map (λ (row : List (List ℕ)). slice_index_or row place []) r) same
-        ∙ column-of shape past rows place are
+    ∙ column-of shape past rows place are
 
 pub column-count : (shape : Shape) (past : List (List ℕ)) (place : ℕ) (keys : List (List ℕ)) → keys ≡ keys_said shape past place
     → length keys ≡ shape.members

@@ -36,7 +36,7 @@ pub keys-stand : (log : Log) (stage sender : ℕ) → IsLog log → IsSome (befo
     → AreFiveKeys (said_in log.shape (past_of log stage) 0 sender)
 keys-stand log stage sender is complete later stand least most =
     let said = said-stands log stage (record { stage = 0; sender = sender }) is complete (keys-slot log.shape sender least most)
-        (omega arith) stand in
+    (omega arith) stand in
     subst AreFiveKeys (sym said.said) (keys-form log.shape 0 said.content.body (keys_is log.shape 0 refl) said.body)
 
 -- ---- pads
@@ -46,22 +46,22 @@ pub pads-stand : (log : Log) (stage sender : ℕ) → IsLog log → IsSome (befo
     → ArePads log.shape (said_in log.shape (past_of log stage) (pad_stage log.shape) sender)
 pads-stand log stage sender is complete later stand least most =
     let said = said-stands log stage (record { stage = pad_stage log.shape; sender = sender }) is complete
-        (pad-slot log.shape sender least most) later (stand (pad_stage log.shape)) in
+    (pad-slot log.shape sender least most) later (stand (pad_stage log.shape)) in
     subst (ArePads log.shape) (sym said.said) (pads-form log.shape (pad_stage log.shape) said.content.body
-        (pad_is log.shape (pad_stage log.shape) refl) said.body)
+    (pad_is log.shape (pad_stage log.shape) refl) said.body)
 
 -- ---- lists
 
 turn-stands : (log : Log) (stage shuffle turn : ℕ) → IsLog log → IsSome (before log stage) → 1 ≤ shuffle → shuffle ≤ 2 → 1 ≤ turn
     → turn ≤ log.shape.members
     → submit_stage log.shape shuffle + turn < stage → StandAll log
-        → IsTurnBody log.shape (said_in log.shape (past_of log stage) (submit_stage log.shape shuffle + turn) turn)
+    → IsTurnBody log.shape (said_in log.shape (past_of log stage) (submit_stage log.shape shuffle + turn) turn)
 turn-stands log stage shuffle turn is complete first last least most later stand =
     let at : ℕ = submit_stage log.shape shuffle + turn in
     let said = said-stands log stage (record { stage = at; sender = turn }) is complete
-        (turn-slot log.shape shuffle turn first last least most) later (stand at) in
+    (turn-slot log.shape shuffle turn first last least most) later (stand at) in
     subst (IsTurnBody log.shape) (sym said.said) (turn-form log.shape at shuffle turn said.content.body
-        (turn-kind log.shape shuffle turn first last least most) said.body)
+    (turn-kind log.shape shuffle turn first last least most) said.body)
 
 list-count : (shape : Shape) (body : Body) (entries : List (List ℕ)) → IsTurnBody shape body → list_of body ≡ Some entries
     → length entries ≡ shape.members
@@ -75,13 +75,13 @@ list-count shape body entries (inr said) e =
 pub last-count : (log : Log) (stage shuffle : ℕ) (entries : List (List ℕ)) → IsLog log → IsSome (before log stage) → 1 ≤ shuffle
     → shuffle ≤ 2
     → final_stage log.shape shuffle < stage → StandAll log → list_said log.shape (past_of log stage) shuffle log.shape.members ≡ Some
-        entries → length entries ≡ log.shape.members
+    entries → length entries ≡ log.shape.members
 last-count log stage shuffle entries is complete first last later stand e =
     let n : ℕ = log.shape.members in
     let least : 1 ≤ n = omega (arith, is.shape.least) in
     let stands = turn-stands log stage shuffle n is complete first last least (omega arith) (omega arith) stand in
     list-count log.shape (said_in log.shape (past_of log stage) (submit_stage log.shape shuffle + n) n) entries stands
-        (list-said log.shape (past_of log stage) shuffle n least ∙ e)
+    (list-said log.shape (past_of log stage) shuffle n least ∙ e)
 
 -- ---- what it opens to
 
@@ -117,7 +117,7 @@ descriptors-are shape past n found opened members is same =
 pub states-are : (shape : Shape) (past : List (List ℕ)) (found : List (Option Description)) (table : List (List (List ℕ)))
     (states : List SlotState)
     → found ≡ descriptors_opened shape past → table ≡ pads_sent shape past → states ≡ slot_states found table
-        → states ≡ slots_of_past shape past
+    → states ≡ slots_of_past shape past
 unfolding slots_of_past
 states-are shape past found table states are_found are_sent is =
     is ∙ ap (λ (d : List (Option Description)). slot_states d table) are_found ∙ ap (slot_states (descriptors_opened shape past)) are_sent
@@ -125,11 +125,11 @@ states-are shape past found table states are_found are_sent is =
 pub are-slots : (n members : ℕ) (found : List (Option Description)) (opened : List (Option (List ℕ))) (table : List (List (List ℕ)))
     → n ≡ members
     → found ≡ map (option_and_then (descriptor_read n)) opened → length opened ≡ members → length table ≡ members
-        → All (λ row. length row ≡ members) table
+    → All (λ row. length row ≡ members) table
     → All (λ slot. IfSome slot (λ d. length d.pad_hashes ≡ n)) found → AreSlots found table
 are-slots n members found opened table same is opened_count table_count rows hashes =
     let count : length found ≡ members = ap (λ (t : List (Option Description)). length t) is
-        ∙ length-map opened (option_and_then (descriptor_read n)) ∙ opened_count in
+    ∙ length-map opened (option_and_then (descriptor_read n)) ∙ opened_count in
     record {
       members = table_count ∙ sym count;
       pads = λ k d lt. rows k d lt ∙ sym count;
@@ -141,7 +141,7 @@ are-slots n members found opened table same is opened_count table_count rows has
 pub states-count : (members : ℕ) (found : List (Option Description)) (opened : List (Option (List ℕ))) (table : List (List (List ℕ)))
     (states : List SlotState) (n : ℕ)
     → found ≡ map (option_and_then (descriptor_read n)) opened → length opened ≡ members → states ≡ slot_states found table
-        → length states ≡ members
+    → length states ≡ members
 states-count members found opened table states n is opened_count are =
     ap (λ (t : List SlotState). length t) are
     ∙ length-map (enumerate_from 0 found) (λ (p : ℕ × Option Description). slot_state p.1 (pads_for table p.0))

@@ -36,7 +36,7 @@ layers c seat opening shuffle side is own =
 pub submits : (c : Configuration) (seat : Seat) (secrets : ShuffleSecrets) (keys : ShuffleKeys) (own item : List ℕ) (past : List (List ℕ))
     (shuffle : ℕ)
     → IsSeatOf c seat → AreShuffleSecrets c shuffle secrets → AreShuffleKeys (shape_in c) past shuffle keys
-        → item ≡ own_item c own past shuffle
+    → item ≡ own_item c own past shuffle
     → submission_of keys.inner keys.outer (layer_seeds_of secrets.inner_opening seat.round shuffle 1 seat.number seat.shape.members)
     (layer_seeds_of secrets.outer_opening seat.round shuffle 2 seat.number seat.shape.members) item
     ≡ own_submission c own past shuffle
@@ -48,13 +48,13 @@ submits c seat secrets keys own item past shuffle is own_secrets said own_item_i
     let given_outer : List (List ℕ) = layer_seeds_of secrets.outer_opening seat.round shuffle 2 seat.number seat.shape.members in
     ap (λ (k : List (List ℕ)). submission_of k keys.outer given_inner given_outer item) said.inner
     ∙ ap (λ (k : List (List ℕ)). submission_of (keys_said (shape_in c) past (inner_place shuffle)) k given_inner given_outer item)
-        said.outer
+    said.outer
     ∙ ap (λ (s : List (List ℕ)). submission_of (keys_said (shape_in c) past (inner_place shuffle))
-        (keys_said (shape_in c) past (outer_place shuffle)) s given_outer item) inner_seeds
+    (keys_said (shape_in c) past (outer_place shuffle)) s given_outer item) inner_seeds
     ∙ ap (λ (s : List (List ℕ)). submission_of (keys_said (shape_in c) past (inner_place shuffle))
-        (keys_said (shape_in c) past (outer_place shuffle)) (own_layer_seeds c shuffle 1) s item) outer_seeds
+    (keys_said (shape_in c) past (outer_place shuffle)) (own_layer_seeds c shuffle 1) s item) outer_seeds
     ∙ ap (λ (x : List ℕ). submission_of (keys_said (shape_in c) past (inner_place shuffle))
-        (keys_said (shape_in c) past (outer_place shuffle)) (own_layer_seeds c shuffle 1) (own_layer_seeds c shuffle 2) x) own_item_is
+    (keys_said (shape_in c) past (outer_place shuffle)) (own_layer_seeds c shuffle 1) (own_layer_seeds c shuffle 2) x) own_item_is
 
 -- with keys and seeds as a call has them
 pub submitted : (c : Configuration) (seat : Seat) (secrets : ShuffleSecrets) (keys : ShuffleKeys) (own item : List ℕ) (past : List (List ℕ))
@@ -63,7 +63,7 @@ pub submitted : (c : Configuration) (seat : Seat) (secrets : ShuffleSecrets) (ke
     → inner_seeds ≡ layer_seeds_of secrets.inner_opening seat.round shuffle 1 seat.number seat.shape.members
     → outer_seeds ≡ layer_seeds_of secrets.outer_opening seat.round shuffle 2 seat.number seat.shape.members
     → IsSeatOf c seat → AreShuffleSecrets c shuffle secrets → AreShuffleKeys (shape_in c) past shuffle keys
-        → item ≡ own_item c own past shuffle
+    → item ≡ own_item c own past shuffle
     → submission_of inner outer inner_seeds outer_seeds item ≡ own_submission c own past shuffle
 submitted c seat secrets keys own item past shuffle inner outer inner_seeds outer_seeds is_inner is_outer are_inner are_outer is own_secrets
     said own_item_is =
@@ -71,14 +71,14 @@ submitted c seat secrets keys own item past shuffle inner outer inner_seeds oute
     ∙ ap (λ (k : List (List ℕ)). submission_of keys.inner k inner_seeds outer_seeds item) is_outer
     ∙ ap (λ (s : List (List ℕ)). submission_of keys.inner keys.outer s outer_seeds item) are_inner
     ∙ ap (λ (s : List (List ℕ)). submission_of keys.inner keys.outer
-        (layer_seeds_of secrets.inner_opening seat.round shuffle 1 seat.number seat.shape.members) s item) are_outer
+    (layer_seeds_of secrets.inner_opening seat.round shuffle 1 seat.number seat.shape.members) s item) are_outer
     ∙ submits c seat secrets keys own item past shuffle is own_secrets said own_item_is
 
 -- its item of shuffle B
 pub accuses : (c : Configuration) (secrets : BulkSecrets) (own : List ℕ) (past : List (List ℕ)) (opened : List (Option (List ℕ)))
     (states : List SlotState) (seeds : List (List ℕ))
     → AreBulkSecrets c secrets → opened ≡ items_opened (shape_in c) past 1 → states ≡ slots_of_past (shape_in c) past
-        → seeds ≡ secrets.pad_seeds
+    → seeds ≡ secrets.pad_seeds
     → item_row own opened states seeds ≡ own_item c own past 2
 unfolding own_item
 accuses c secrets own past opened states seeds own_secrets is_opened are_states are_seeds =
@@ -89,7 +89,7 @@ accuses c secrets own past opened states seeds own_secrets is_opened are_states 
 pub describes : (c : Configuration) (seat : Seat) (secrets : BulkSecrets) (keys past : List (List ℕ)) (message : List ℕ) → IsSeatOf c seat
     → AreBulkSecrets c secrets
     → message ≡ c.message → keys ≡ keys_said (shape_in c) past bulk_place
-        → made_descriptor keys secrets.pad_seeds seat.number message ≡ own_description c past
+    → made_descriptor keys secrets.pad_seeds seat.number message ≡ own_description c past
 describes c seat secrets keys past message is own same said =
     ap (λ (k : List (List ℕ)). made_descriptor k secrets.pad_seeds seat.number message) said
     ∙ ap (λ (s : List (List ℕ)). made_descriptor (keys_said (shape_in c) past bulk_place) s seat.number message) own.pad_seeds

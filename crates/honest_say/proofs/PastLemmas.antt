@@ -63,7 +63,7 @@ past-kept log stage posts is e = λ k d lt.
     ∙ ap (λ (t : List (Option Post)). get_or t k (Some d)) (all_some-is (take n log.posts) posts e)
     ∙ get_or-map Some posts k d (Some d) lt in
     subst (λ (o : Option Post). IfSome o (λ (post : Post). IsKept post.content)) there
-        (is.contents k (Some d) (omega (arith, within, long, lt)))
+    (is.contents k (Some d) (omega (arith, within, long, lt)))
 
 flattened : {A : Type 0} (o : Option A) → option_flatten (option_map Some o) ≡ o
 flattened {A} None = refl
@@ -81,7 +81,7 @@ kept-at log stage slot posts e speaks lt =
     cond-true (is_slot log.shape slot.stage slot.sender) (option_flatten (slice_get log.posts number)) None speaks
     ∙ ap (λ (o : Option (Option Post)). option_flatten o)
     (sym (slice_get-take log.posts n number (omega (arith, within.1)))
-        ∙ ap (λ (t : List (Option Post)). slice_get t number) (all_some-is (take n log.posts) posts e) ∙ slice_get-map Some posts number)
+    ∙ ap (λ (t : List (Option Post)). slice_get t number) (all_some-is (take n log.posts) posts e) ∙ slice_get-map Some posts number)
     ∙ flattened (slice_get posts number)
 
 get-there : {A : Type 0} (xs : List A) (k : ℕ) → k < length xs → (x : A) × (slice_get xs k ≡ Some x)

@@ -20,7 +20,7 @@ pub submit-kind : (shape : Shape) (shuffle : ℕ) → 1 ≤ shuffle → shuffle 
     → kind_of_stage shape (submit_stage shape shuffle) ≡ Some (Submit shuffle)
 submit-kind shape shuffle least most =
     of_both (λ s. kind_of_stage shape (submit_stage shape s) ≡ Some (Submit s)) shuffle least most (submit_a_is shape 1 refl)
-        (submit_b_is shape (shape.members + 7) refl)
+    (submit_b_is shape (shape.members + 7) refl)
 
 pub turn-kind : (shape : Shape) (shuffle turn : ℕ) → 1 ≤ shuffle → shuffle ≤ 2 → 1 ≤ turn → turn ≤ shape.members
     → kind_of_stage shape (submit_stage shape shuffle + turn) ≡ Some (Shuffle shuffle turn)
@@ -65,13 +65,13 @@ pub submit-slot : (shape : Shape) (shuffle sender : ℕ) → 1 ≤ shuffle → s
     → is_slot shape (submit_stage shape shuffle) sender ≡ true
 submit-slot shape shuffle sender first last least most =
     slot-of shape (submit_stage shape shuffle) sender (Submit shuffle) (submit-kind shape shuffle first last)
-        (member-there shape.members sender least most)
+    (member-there shape.members sender least most)
 
 pub turn-slot : (shape : Shape) (shuffle turn : ℕ) → 1 ≤ shuffle → shuffle ≤ 2 → 1 ≤ turn → turn ≤ shape.members
     → is_slot shape (submit_stage shape shuffle + turn) turn ≡ true
 turn-slot shape shuffle turn first last least most =
     slot-of shape (submit_stage shape shuffle + turn) turn (Shuffle shuffle turn) (turn-kind shape shuffle turn first last least most)
-        (eq-eqb turn turn refl)
+    (eq-eqb turn turn refl)
 
 pub pad-slot : (shape : Shape) (sender : ℕ) → 1 ≤ sender → sender ≤ shape.members → is_slot shape (pad_stage shape) sender ≡ true
 pad-slot shape sender least most = slot-of shape (pad_stage shape) sender Pad (pad_is shape (pad_stage shape) refl)
@@ -81,4 +81,4 @@ pub final-slot : (shape : Shape) (shuffle sender : ℕ) → 1 ≤ shuffle → sh
     → is_slot shape (final_stage shape shuffle) sender ≡ true
 final-slot shape shuffle sender first last least most =
     slot-of shape (final_stage shape shuffle) sender (Final shuffle) (final-kind shape shuffle first last)
-        (member-there shape.members sender least most)
+    (member-there shape.members sender least most)

@@ -48,11 +48,11 @@ seeds-stay log stage later shuffle reached first last behind =
     (λ member. seed_in (said_in log.shape (past_of log later) (final_stage log.shape shuffle) member))
     (λ member least most. ap seed_in
     (said-stays log stage later (final_stage log.shape shuffle) member reached (final-slot log.shape shuffle member first last least most)
-        behind))
+    behind))
 
 list-stays : (log : Log) (stage later shuffle turn : ℕ) → AreReached log stage later → 1 ≤ shuffle → shuffle ≤ 2 → turn ≤ log.shape.members
     → submit_stage log.shape shuffle + turn < stage → list_said log.shape (past_of log stage) shuffle turn ≡ list_said log.shape
-        (past_of log later) shuffle turn
+    (past_of log later) shuffle turn
 list-stays log stage later shuffle zero reached first last within behind =
     let at : ℕ = submit_stage log.shape shuffle in
     ap (λ (list : List (List ℕ)). Some list)
@@ -62,7 +62,7 @@ list-stays log stage later shuffle zero reached first last within behind =
     (said-stays log stage later at member reached (submit-slot log.shape shuffle member first last least most) (omega (arith, behind)))))
 list-stays log stage later shuffle (suc turn) reached first last within behind =
     ap list_of (said-stays log stage later (submit_stage log.shape shuffle + suc turn) (suc turn) reached
-        (turn-slot log.shape shuffle (suc turn) first last (omega arith) within) behind)
+    (turn-slot log.shape shuffle (suc turn) first last (omega arith) within) behind)
 
 pub items_stay : ItemsStay
 unfolding items_opened
@@ -71,7 +71,7 @@ items_stay log stage later shuffle reached first last behind =
     let earlier : submit_stage log.shape shuffle + n < stage = omega (arith, behind) in
     let list = list-stays log stage later shuffle n reached first last (omega arith) earlier in
     ap (λ (seeds : List (List ℕ)). entries_opened log.shape seeds (list_said log.shape (past_of log stage) shuffle n))
-        (seeds-stay log stage later shuffle reached first last behind)
+    (seeds-stay log stage later shuffle reached first last behind)
     ∙ ap (entries_opened log.shape (seeds_revealed log.shape (past_of log later) shuffle)) list
 
 pads-stay : (log : Log) (stage later : ℕ) → AreReached log stage later → pad_stage log.shape < stage
@@ -81,18 +81,18 @@ pads-stay log stage later reached behind =
     same-members log.shape (λ member. pads_in (said_in log.shape (past_of log stage) (pad_stage log.shape) member))
     (λ member. pads_in (said_in log.shape (past_of log later) (pad_stage log.shape) member))
     (λ member least most. ap pads_in (said-stays log stage later (pad_stage log.shape) member reached (pad-slot log.shape member least most)
-        behind))
+    behind))
 
 descriptors-stay : (log : Log) (stage later : ℕ) → AreReached log stage later → pad_stage log.shape < stage
     → descriptors_opened log.shape (past_of log stage) ≡ descriptors_opened log.shape (past_of log later)
 unfolding descriptors_opened
 descriptors-stay log stage later reached behind =
     ap (λ (items : List (Option (List ℕ))). map (option_and_then (descriptor_read log.shape.members)) items)
-        (items_stay log stage later 1 reached (omega arith) (omega arith) (omega (arith, behind)))
+    (items_stay log stage later 1 reached (omega arith) (omega arith) (omega (arith, behind)))
 
 pub slots_stay : SlotsStay
 unfolding slots_of_past
 slots_stay log stage later reached behind =
     ap (λ (d : List (Option Description)). slot_states d (pads_sent log.shape (past_of log stage)))
-        (descriptors-stay log stage later reached behind)
+    (descriptors-stay log stage later reached behind)
     ∙ ap (slot_states (descriptors_opened log.shape (past_of log later))) (pads-stay log stage later reached behind)

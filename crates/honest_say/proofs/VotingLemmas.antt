@@ -96,9 +96,9 @@ turns-count shape shuffle (suc j) first last le =
     let s : ℕ = submit_stage shape shuffle in
     let next = slots_next shape (s + suc j) (Shuffle shuffle (suc j)) (turn-kind shape shuffle (suc j) first last (omega arith) le) in
     let before : slots_before shape (s + suc j) ≡ slots_before shape (s + 1 + j) = ap (slots_before shape)
-        (let e : s + suc j ≡ s + 1 + j = omega arith in e) in
+    (let e : s + suc j ≡ s + 1 + j = omega arith in e) in
     let behind : slots_before shape (s + 1 + suc j) ≡ slots_before shape (s + suc j + 1) = ap (slots_before shape)
-        (let e : s + 1 + suc j ≡ s + suc j + 1 = omega arith in e) in
+    (let e : s + 1 + suc j ≡ s + suc j + 1 = omega arith in e) in
     let so_far = turns-count shape shuffle j first last (omega arith) in
     omega (arith, next, before, behind, so_far)
 
@@ -108,9 +108,9 @@ turn-number shape shuffle turn first last least most =
     let s : ℕ = submit_stage shape shuffle in
     let count = turns-count shape shuffle (turn - 1) first last (omega arith) in
     let at : slots_before shape (s + turn) ≡ slots_before shape (s + 1 + (turn - 1)) = ap (slots_before shape)
-        (let e : s + turn ≡ s + 1 + (turn - 1) = omega arith in e) in
+    (let e : s + turn ≡ s + 1 + (turn - 1) = omega arith in e) in
     let place : place_in (kind_of_stage shape (s + turn)) turn ≡ 0 = ap (λ (o : Option StageKind). place_in o turn)
-        (turn-kind shape shuffle turn first last least most) in
+    (turn-kind shape shuffle turn first last least most) in
     omega (arith, count, at, place)
 
 go-count : (shape : Shape) (shuffle : ℕ) → 1 ≤ shuffle → shuffle ≤ 2
@@ -119,7 +119,7 @@ go-count shape shuffle first last =
     let s : ℕ = submit_stage shape shuffle in
     let count = turns-count shape shuffle shape.members first last (omega arith) in
     let at : slots_before shape (final_stage shape shuffle - 1) ≡ slots_before shape (s + 1 + shape.members) = ap (slots_before shape)
-        (let e : final_stage shape shuffle - 1 ≡ s + 1 + shape.members = omega arith in e) in
+    (let e : final_stage shape shuffle - 1 ≡ s + 1 + shape.members = omega arith in e) in
     at ∙ count
 
 -- the lists that are read of them
@@ -148,14 +148,14 @@ turn-read shape past shuffle turn first last long least most =
     let f : List ℕ → Option (List (List ℕ)) = λ bytes. list_read (content_read shape bytes) in
     let count = go-count shape shuffle first last in
     let number : a + (turn - 1) ≡ slot_number shape (submit_stage shape shuffle + turn) turn = omega
-        (arith, count, turn-number shape shuffle turn first last least most) in
+    (arith, count, turn-number shape shuffle turn first last least most) in
     let within : turn - 1 < b - a = omega (arith, count) in
     slice_get-map f (turns_before shape past (final_stage shape shuffle - 1)) (turn - 1)
     ∙ ap (option_map f) (slice_get-take (drop a past) (b - a) (turn - 1) within ∙ get_drop past a (turn - 1)
-        ∙ there-or past (a + (turn - 1)) [] (omega (arith, count)))
+    ∙ there-or past (a + (turn - 1)) [] (omega (arith, count)))
     ∙ ap (λ (k : ℕ). Some (f (get_or past k []))) number
     ∙ ap (λ (o : Option (List (List ℕ))). Some o) (read_list (content_read shape
-        (get_or past (slot_number shape (submit_stage shape shuffle + turn) turn) [])))
+    (get_or past (slot_number shape (submit_stage shape shuffle + turn) turn) [])))
 
 -- ---- the last list
 
@@ -174,7 +174,7 @@ last-stands shape inner xs last full e = by_all (all_some xs) refl full
     by_all (Some lists) all full =
         flat (slice_get lists (shape.members - 1))
         (sym (slice_get-map (λ (l : List (List ℕ)). Some l) lists (shape.members - 1))
-            ∙ ap (λ (t : List (Option (List (List ℕ)))). slice_get t (shape.members - 1)) (sym (all_some-is xs lists all)) ∙ e)
+        ∙ ap (λ (t : List (Option (List (List ℕ)))). slice_get t (shape.members - 1)) (sym (all_some-is xs lists all)) ∙ e)
 
 -- ---- a turn by the byte of its kind
 
@@ -248,14 +248,14 @@ past-long log stage is complete =
 
 turn-kept : (log : Log) (shuffle turn : ℕ) → IsVotedOn log shuffle → 1 ≤ turn → turn ≤ log.shape.members
     → slice_get (turns_read log.shape (voted_on log shuffle) shuffle) (turn - 1) ≡ Some
-        (list_of (body_kept log (turn_slot log.shape shuffle turn)))
+    (list_of (body_kept log (turn_slot log.shape shuffle turn)))
 turn-kept log shuffle turn voted least most =
     let stage : ℕ = final_stage log.shape shuffle - 1 in
     let earlier : submit_stage log.shape shuffle + turn < stage = omega (arith, least, most) in
     turn-read log.shape (past_of log stage) shuffle turn voted.first voted.last (past-long log stage voted.is voted.complete) least most
     ∙ ap (λ (body : Body). Some (list_of body))
     (sym (kept-said log stage (turn_slot log.shape shuffle turn) voted.complete
-        (turn-slot log.shape shuffle turn voted.first voted.last least most) earlier))
+    (turn-slot log.shape shuffle turn voted.first voted.last least most) earlier))
 
 none-is : {A : Type 0} (o : Option A) → is_none o ≡ true → o ≡ None
 none-is None e = refl
@@ -284,9 +284,11 @@ no-missing-turn log shuffle voted each =
     all-there (turns_read log.shape (past_of log stage) shuffle) (λ i lt.
     let most : i + 1 ≤ log.shape.members = omega (arith, count, lt) in
     let there = some-is (list_of (body_kept log (turn_slot log.shape shuffle (i + 1)))) (each (i + 1) (omega arith) most) in
-    let at : i + 1 - 1 ≡ i = omega arith in
-    (there.0, ap (slice_get (turns_read log.shape (past_of log stage) shuffle)) (sym at)
-        ∙ turn-kept log shuffle (i + 1) voted (omega arith) most ∙ ap (λ (o : Option (List (List ℕ))). Some o) there.1))
+    let at : i + 1 - 1 ≡ i = omega arith in (
+      there.0,
+      ap (slice_get (turns_read log.shape (past_of log stage) shuffle)) (sym at)
+          ∙ turn-kept log shuffle (i + 1) voted (omega arith) most ∙ ap (λ (o : Option (List (List ℕ))). Some o) there.1,
+    ))
 
 -- and the last of them is that of the last turn
 pub last-list : (log : Log) (shuffle : ℕ) (inner : List ℕ) → IsVotedOn log shuffle
@@ -298,9 +300,9 @@ last-list log shuffle inner voted full =
     let stage : ℕ = final_stage log.shape shuffle - 1 in
     let least : 1 ≤ n = omega (arith, voted.is.shape.least) in
     let read = turn-read log.shape (past_of log stage) shuffle n voted.first voted.last (past-long log stage voted.is voted.complete) least
-        (omega arith) in
+    (omega arith) in
     last-stands log.shape inner (turns_read log.shape (past_of log stage) shuffle)
-        (list_of (said_in log.shape (past_of log stage) (submit_stage log.shape shuffle + n) n)) full read
+    (list_of (said_in log.shape (past_of log stage) (submit_stage log.shape shuffle + n) n)) full read
     ∙ ap (stands_in inner) (list-said log.shape (past_of log stage) shuffle n least)
 
 -- where there are not all lists, nothing stands in the last

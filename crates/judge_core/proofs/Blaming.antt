@@ -38,7 +38,7 @@ three-parts : (case : Case) (first : Said) (others : List Said) (u v : Option Fa
     → replay_answer case (first ∷ others) ≡ answer_of (first_some (u ∷ v ∷ culprit_in case first others ∷ []))
 three-parts case first others u v e f =
     ap (λ (x : Option FailedCheck). answer_of (first_some (x ∷ unlike_from case (past_in case first) 2 others ∷ culprit_in case first others
-        ∷ []))) e
+    ∷ []))) e
     ∙ ap (λ (x : Option FailedCheck). answer_of (first_some (u ∷ x ∷ culprit_in case first others ∷ []))) f
 
 behind-first : (case : Case) (first : Said) (others : List Said) → is_justified_in case first ≡ true
@@ -63,7 +63,7 @@ pub other-unjustified : (case : Case) (first : Said) (others : List Said) (faile
 other-unjustified case first others None good unjustified = tt
 other-unjustified case first others (Some failed) good unjustified =
     three-parts case first others (Some failed) (unlike_from case (past_in case first) 2 others)
-        (behind-first case first others good ∙ unjustified) refl
+    (behind-first case first others good ∙ unjustified) refl
 
 -- where all are justified, and two logs differ
 pub logs-differ : (case : Case) (first : Said) (others : List Said) (failed : FailedCheck) → is_justified_in case first ≡ true
@@ -97,12 +97,12 @@ pub inquiry-is : (case : Case) (first : Said) (others : List Said) (shows : Show
 inquiry-is case first others shows told s e =
     let shape : shows.log.shape ≡ shape_in case = ap (λ (l : Log). l.shape) s.keeps.keeps in
     let posts : before shows.log first.header.stage ≡ Some s.keeps.posts = before-past (shape_in case) first.header.stage
-        (past_in case first) shows.log s.keeps in
+    (past_in case first) shows.log s.keeps in
     let past : contents_of (unwrap_or (before shows.log first.header.stage) []) ≡ past_in case first = ap
-        (λ (o : Option (List Post)). contents_of (unwrap_or o [])) posts ∙ s.keeps.contents in
+    (λ (o : Option (List Post)). contents_of (unwrap_or o [])) posts ∙ s.keeps.contents in
     ap (λ (stage : ℕ). inquiry_of shows.log stage case.round told) s.stage
     ∙ ap (λ (x : Shape). asked x (contents_of (unwrap_or (before shows.log first.header.stage) [])) first.header.stage case.round told)
-        shape
+    shape
     ∙ ap (λ (x : List (List ℕ)). asked (shape_in case) x first.header.stage case.round told) past
     ∙ ap (λ (x : List Shown). asked (shape_in case) (past_in case first) first.header.stage case.round x) e
 
@@ -140,7 +140,7 @@ pub shown-complete : (case : Case) (first : Said) (shows : Shows) (s : IsShown c
 shown-complete case first shows s =
     subst (λ (o : Option (List Post)). IsSome o)
     (sym (ap (λ (stage : ℕ). before shows.log stage) s.stage ∙ before-past (shape_in case) first.header.stage (past_in case first) shows.log
-        s.keeps))
+    s.keeps))
     (some_there s.keeps.posts)
   where
     some_there : (posts : List Post) → IsSome (Some posts)

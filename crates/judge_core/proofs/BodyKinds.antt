@@ -26,9 +26,11 @@ kind-byte shape bytes c fits e =
     let found = content-is_spelled shape bytes c fits e in
     let head : List ℕ = header_text c.header in
     let rest : List ℕ = kind_number c.body ∷ body_text c.body in
-    let long : length head ≡ 75 = length-header_text shape c.header found.1.0 in
-    (omega (arith, long, ap length found.0, length-append head rest), ap (λ (b : List ℕ). get_or b 75 0) found.0
-        ∙ get_or-append_right head rest 75 75 0 long (omega arith))
+    let long : length head ≡ 75 = length-header_text shape c.header found.1.0 in (
+      omega (arith, long, ap length found.0, length-append head rest),
+      ap (λ (b : List ℕ). get_or b 75 0) found.0
+          ∙ get_or-append_right head rest 75 75 0 long (omega arith),
+    )
 
 -- bytes without an offence are read
 pub no_offence : (read : Result Content Offence) → None ≡ result_err read → (c : Content) × (read ≡ Ok c)

@@ -75,12 +75,12 @@ left-at others place said lt is =
 pub compares-fails : (case : Case) (past : List (List ℕ)) (kind : Option StageKind) (first : Said) (others : List Said) (place : ℕ)
     (difference : Option FailedCheck) (told : List Shown) (said : Said)
     → ComparesTo case past kind first others place difference told → place < length others → get_or others place said ≡ said
-        → is_justified_in case said ≡ false
+    → is_justified_in case said ≡ false
     → unjustified_from case 2 others ≡ Some (NotJustified (place + 2))
 compares-fails case past kind first others place difference told said so lt is bad =
     so.justified ∙ ap (unjustified_from case (place + 2)) (left-at others place said lt is)
     ∙ cond-false (is_justified_in case said) (unjustified_from case (place + 2 + 1) (drop (place + 1) others))
-        (Some (NotJustified (place + 2))) bad
+    (Some (NotJustified (place + 2))) bad
 
 either-first : (difference one rest : Option FailedCheck) → first_some (difference ∷ first_some (one ∷ rest ∷ []) ∷ []) ≡ first_some
     (option_or difference one ∷ rest ∷ [])
@@ -93,7 +93,7 @@ either-first (Some a) one rest = refl
 pub compares-next : (case : Case) (past : List (List ℕ)) (kind : Option StageKind) (first : Said) (others : List Said) (place : ℕ)
     (difference now : Option FailedCheck) (told more part : List Shown) (said : Said)
     → ComparesTo case past kind first others place difference told → place < length others → get_or others place said ≡ said
-        → is_justified_in case said ≡ true
+    → is_justified_in case said ≡ true
     → now ≡ option_or difference (unlike_log case past (place + 2) said) → part ≡ parts_shown case kind (said ∷ []) → more ≡ told ++ part
     → ComparesTo case past kind first others (place + 1) now more
 compares-next case past kind first others place difference now told more part said so lt is good differs shows tells =
@@ -107,7 +107,7 @@ compares-next case past kind first others place difference now told more part sa
       differs = so.differs ∙ ap (λ (l : List Said). first_some (difference ∷ unlike_from case past (place + 2) l ∷ [])) left
           ∙ either-first difference (unlike_log case past (place + 2) said) (unlike_from case past (place + 2 + 1) rest)
           ∙ ap (λ (n : ℕ). first_some (option_or difference (unlike_log case past (place + 2) said) ∷ unlike_from case past n rest ∷ []))
-              next
+          next
           ∙ ap (λ (o : Option FailedCheck). first_some (o ∷ unlike_from case past (place + 1 + 2) rest ∷ [])) (sym differs);
       parts = ap (λ (t : List Shown). t ++ parts_shown case kind rest) (tells ∙ ap (λ (p : List Shown). told ++ p) shows)
           ∙ append_assoc told (parts_shown case kind (said ∷ [])) (parts_shown case kind rest)
@@ -124,7 +124,7 @@ pub compares-all : (case : Case) (past : List (List ℕ)) (kind : Option StageKi
     (difference : Option FailedCheck) (told : List Shown)
     → ComparesTo case past kind first others place difference told → drop place others ≡ []
     → (unjustified_from case 2 others ≡ None) × (difference ≡ unlike_from case past 2 others)
-        × (told ≡ parts_shown case kind (first ∷ others))
+    × (told ≡ parts_shown case kind (first ∷ others))
 compares-all case past kind first others place difference told so is = (
   so.justified ∙ ap (unjustified_from case (place + 2)) is,
   sym (so.differs ∙ ap (λ (l : List Said). first_some (difference ∷ unlike_from case past (place + 2) l ∷ [])) is ∙ first-alone difference),
@@ -136,9 +136,12 @@ compares-all case past kind first others place difference told so is = (
 -- what stands at a place
 given-at : (others : List GivenSaid) (place : ℕ) (d : GivenSaid) → place < length others
     → (place < length (map said_of others)) × (get_or (map said_of others) place (said_of (get_or others place d)) ≡ said_of
-        (get_or others place d))
-given-at others place d lt = (omega (arith, lt, length-map others said_of), get_or-map said_of others place d
-    (said_of (get_or others place d)) lt)
+    (get_or others place d))
+given-at others place d lt = (
+  omega (arith, lt, length-map others said_of),
+  get_or-map said_of others place d
+      (said_of (get_or others place d)) lt,
+)
 
 -- one that shows nothing ends it
 pub fails-at : (case : Case) (past : List (List ℕ)) (kind : Option StageKind) (first : Said) (others : List GivenSaid) (place : ℕ)
@@ -149,7 +152,7 @@ fails-at case past kind first others place d difference told None so lt nothing 
 fails-at case past kind first others place d difference told (Some failed) so lt nothing =
     let at = given-at others place d lt in
     compares-fails case past kind first (map said_of others) place difference told (said_of (get_or others place d)) so at.0 at.1 nothing.1
-        ∙ ap
+    ∙ ap
     (λ (f : FailedCheck). some f) (sym nothing.0)
   where
     some : FailedCheck → Option FailedCheck
@@ -166,12 +169,12 @@ pub goes-at : (case : Case) (first : Said) (own : Shows) (others : List GivenSai
     (difference now unlike : Option FailedCheck) (told more : List Shown) (shows : Shows)
     → IsShown case first own → AreObjections case own.stage others
     → ComparesTo case (past_in case first) (kind_of_stage (shape_in case) first.header.stage) first (map said_of others) place difference
-        told → place < length others
+    told → place < length others
     → IsShown case (said_of (get_or others place d)) shows → FindsUnlike (place + 2) own.log shows.log unlike
-        → now ≡ option_or difference unlike
+    → now ≡ option_or difference unlike
     → more ≡ told ++ option_to_list shows.shown
     → ComparesTo case (past_in case first) (kind_of_stage (shape_in case) first.header.stage) first (map said_of others) (place + 1) now
-        more
+    more
 goes-at case first own others place d difference now unlike told more shows s objects so lt shown finds is tells =
     let one : GivenSaid = get_or others place d in
     let stage : one.header.stage ≡ first.header.stage = (objects place d lt).0.at ∙ s.stage in
@@ -183,6 +186,6 @@ goes-at case first own others place d difference now unlike told more shows s ob
     let at = given-at others place d lt in
     let part = shown.told ∙ ap (λ (n : ℕ). parts_shown case (kind_of_stage (shape_in case) n) (said_of one ∷ [])) stage in
     compares-next case (past_in case first) (kind_of_stage (shape_in case) first.header.stage) first (map said_of others) place difference
-        now told more
+    now told more
     (option_to_list shows.shown) (said_of one)
     so at.0 at.1 shown.justified (is ∙ ap (option_or difference) found) part tells

@@ -37,7 +37,7 @@ pub two_posts : (posts rest others : List (List ℕ)) (first second : List ℕ) 
     → length posts ≡ 2 → posts ≡ first ∷ second ∷ []
 two_posts posts rest others first second e f two =
     e ∙ ap (λ (x : List (List ℕ)). first ∷ x) (f ∙ ap (λ (x : List (List ℕ)). second ∷ x)
-        (nil_from_length others (omega (arith, ap length e, ap length f))))
+    (nil_from_length others (omega (arith, ap length e, ap length f))))
 
 abbrev said_ok : Said → Result Said FailedCheck
 said_ok said = Ok said
@@ -210,7 +210,7 @@ unfolding taken_of
 taken-read case first number bytes said bodies e =
     let heard = bind_ok (heard_of case first number bytes) _ said e in
     let rest = sym (cond-true (is_of_bodies case.claim) (content_of case first number heard.0.content >>= λ content. said_ok heard.0)
-        (said_ok heard.0) bodies) ∙ heard.2 in
+    (said_ok heard.0) bodies) ∙ heard.2 in
     let read = bind_ok (content_of case first number heard.0.content) (λ content. said_ok heard.0) said rest in
     (read.0, ap (λ (x : Said). content_of case first number x.content) (sym (one_said heard.0 said read.2)) ∙ read.1)
   where
@@ -223,7 +223,7 @@ pub taken-again : (case : Case) (first : Option Header) (number : ℕ) (bytes : 
 unfolding taken_of
 taken-again case first number bytes said content heard read =
     ap (λ (r : Result Said FailedCheck). r >>= λ said. if is_of_bodies case.claim then
-        (content_of case first number said.content >>= λ content. said_ok said) else said_ok said) heard
+    (content_of case first number said.content >>= λ content. said_ok said) else said_ok said) heard
     ∙ either (is_of_bodies case.claim) (content_of case first number said.content) read
   where
     either : (b : Bool) (r : Result Content FailedCheck) → r ≡ Ok content
@@ -243,9 +243,9 @@ unfolding content_of
 taken-grammar case first number bytes said bodies e =
     let looked = taken-read case first number bytes said bodies e in
     let read = bind_ok (fault_as (λ offence. FailedBody number offence.at) (content_read (shape_of_roster case.roster) said.content)) _
-        looked.0 looked.1 in
+    looked.0 looked.1 in
     ok_is (content_read (shape_of_roster case.roster) said.content) read.0
-        (fault_as_ok (λ offence. FailedBody number offence.at) (content_read (shape_of_roster case.roster) said.content) read.0 read.1)
+    (fault_as_ok (λ offence. FailedBody number offence.at) (content_read (shape_of_roster case.roster) said.content) read.0 read.1)
 
 -- where the only post is taken, all are
 pub one-wants : (case : Case) (only : List ℕ) (a : Said) → is_of_logs case.claim ≡ true → taken_of case None 1 only ≡ Ok a
@@ -291,14 +291,14 @@ heard-parts case first number bytes x e =
     let framed = bind_ok (fault_as (λ at. Frame at) (frame_of bytes)) _ a.0 found in
     let header = bind_ok (framed_admission_of case.roster case.round framed.0) _ a.0 framed.2 in
     let reads = bind_ok (fault_as (λ (short : Short). Frame 0) (header_of framed.0.content))
-        (λ header. value_unless (header_refusal case.roster case.round framed.0 header) header) header.0 header.1 in
+    (λ header. value_unless (header_refusal case.roster case.round framed.0 header) header) header.0 header.1 in
     let kept = value_unless-ok (header_refusal case.roster case.round framed.0 reads.0) reads.0 header.0 reads.2 in
     let same : (header.0, framed.0.content) ≡ a.0 = (let e : admitted_ok (header.0, framed.0.content) ≡ admitted_ok a.0 = header.2 in cc) in
     let is : header_of framed.0.content ≡ Ok header.0 = fault_as_ok (λ (short : Short). Frame 0) (header_of framed.0.content) reads.0
-        reads.1 ∙ ap header_ok kept.1 in
+    reads.1 ∙ ap header_ok kept.1 in
     let there : header_of a.0.1 ≡ Ok a.0.0 = subst (λ (y : Header × List ℕ). header_of y.1 ≡ Ok y.0) same is in
     subst (λ (x : Said). (header_of x.content ≡ Ok x.header) × (is_asked case first number x.header ≡ true)) asked.1
-        (there, not-false (is_asked case first number a.0.0) asked.0)
+    (there, not-false (is_asked case first number a.0.0) asked.0)
 
 -- a closing post that is taken
 pub closing-post : (case : Case) (first : Option Header) (number : ℕ) (bytes : List ℕ) (said : Said) → is_of_bodies case.claim ≡ true
@@ -317,4 +317,4 @@ pub asked-as : (case : Case) (claim : Claim) (first : Option Header) (number : �
     → is_slot_asked claim case (kind_of_stage (shape_in case) said.header.stage) first number said.header ≡ true
 asked-as case claim first number bytes said is e =
     subst (λ (c : Claim). is_slot_asked c case (kind_of_stage (shape_in case) said.header.stage) first number said.header ≡ true) is
-        (heard-parts case first number bytes said (taken-heard case first number bytes said e)).1
+    (heard-parts case first number bytes said (taken-heard case first number bytes said e)).1

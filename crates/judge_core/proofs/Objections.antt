@@ -37,18 +37,23 @@ unfolding content_of
 objection case first number bytes said is e =
     let kind : Option StageKind = kind_of_stage (shape_in case) said.header.stage in
     let asked = and_parts ((said.header.sender == number) && is_closing_stage kind) (is_of_one_stage first said.header)
-        (asked-as case Replay first number bytes said is e) in
+    (asked-as case Replay first number bytes said is e) in
     let closing = and_parts (said.header.sender == number) (is_closing_stage kind) asked.0 in
     let bodies = ap is_of_bodies is in
     let looked = taken-read case first number bytes said bodies e in
     let read = bind_ok (fault_as (λ offence. FailedBody number offence.at) (read_of case said)) _ looked.0 looked.1 in
     let right = guard_ok (not (is_kind_asked case.claim first read.0.body)) (Kind number (kind_number read.0.body)) read.0 looked.0 read.2
-        in
+    in
     let found = fault_as_ok (λ offence. FailedBody number offence.at) (read_of case said) read.0 read.1 in
     let dissents : is_dissent read.0.body ≡ true = subst (λ (c : Claim). is_kind_asked c first read.0.body ≡ true) is
-        (not-false (is_kind_asked case.claim first read.0.body) right.0) in
-    (record { post = closing-post case first number bytes said bodies e closing.1; dissents = subst Dissents (sym found) dissents; at = refl
-        }, asked.1)
+    (not-false (is_kind_asked case.claim first read.0.body) right.0) in (
+      record {
+        post = closing-post case first number bytes said bodies e closing.1;
+        dissents = subst Dissents (sym found) dissents;
+        at = refl;
+      },
+      asked.1,
+    )
 
 -- the same at the stage of the first
 at-stage : (case : Case) (stage : ℕ) (said : Said) → IsObjection case said.header.stage said → said.header.stage ≡ stage
@@ -62,7 +67,7 @@ others-object : (case : Case) (first : Header) (number : ℕ) (posts : List (Lis
 unfolding hearing_of
 others-object case first number [] said is e =
     subst (λ (s : List Said). (length s ≡ 0) × All (IsObjection case first.stage) s) (list_is [] said e)
-        (refl, All-nil (IsObjection case first.stage))
+    (refl, All-nil (IsObjection case first.stage))
 others-object case first number (post ∷ posts) said is e =
     let a = bind_ok (taken_of case (Some first) number post) _ said e in
     let others = bind_ok (hearing_of case (Some first) (number + 1) posts) _ said a.2 in
@@ -70,7 +75,7 @@ others-object case first number (post ∷ posts) said is e =
     let o = objection case (Some first) number post a.0 is a.1 in
     let here = at-stage case first.stage a.0 o.0 (eqb-true a.0.header.stage first.stage o.1) in
     subst (λ (s : List Said). (length s ≡ length (post ∷ posts)) × All (IsObjection case first.stage) s)
-        (list_is (a.0 ∷ others.0) said others.2)
+    (list_is (a.0 ∷ others.0) said others.2)
     (omega (arith, rest.0), All-cons (IsObjection case first.stage) a.0 others.0 here rest.1)
 
 -- all that are taken
@@ -79,14 +84,14 @@ all-object : (case : Case) (posts : List (List ℕ)) (said : List Said) → case
 unfolding hearing_of
 all-object case [] said is e =
     subst (λ (s : List Said). (length s ≡ 0) × ((stage : ℕ) × All (IsObjection case stage) s)) (list_is [] said e)
-        (refl, (0, All-nil (IsObjection case 0)))
+    (refl, (0, All-nil (IsObjection case 0)))
 all-object case (post ∷ posts) said is e =
     let a = bind_ok (taken_of case None 1 post) _ said e in
     let others = bind_ok (hearing_of case (Some a.0.header) 2 posts) _ said a.2 in
     let rest = others-object case a.0.header 2 posts others.0 is others.1 in
     let here = (objection case None 1 post a.0 is a.1).0 in
     subst (λ (s : List Said). (length s ≡ length (post ∷ posts)) × ((stage : ℕ) × All (IsObjection case stage) s))
-        (list_is (a.0 ∷ others.0) said others.2)
+    (list_is (a.0 ∷ others.0) said others.2)
     (omega (arith, rest.0), (a.0.header.stage, All-cons (IsObjection case a.0.header.stage) a.0 others.0 here rest.1))
 
 -- the same of what the code holds
@@ -100,9 +105,11 @@ objections case posts given is e short =
       omega (arith, length-map given said_of, all.0),
       (
         stage,
-        λ k d lt.
-            (subst (IsObjection case stage) (get_or-map said_of given k d (said_of d) lt)
-                (all.1.1 k (said_of d) (omega (arith, length-map given said_of, lt))), short k d lt),
+        λ k d lt. (
+          subst (IsObjection case stage) (get_or-map said_of given k d (said_of d) lt)
+              (all.1.1 k (said_of d) (omega (arith, length-map given said_of, lt))),
+          short k d lt,
+        ),
       ),
     )
 
@@ -118,7 +125,7 @@ pub first-object : (case : Case) (stage : ℕ) (all : List GivenSaid) (first : G
 first-object case stage all first others split each =
     let these : AreObjections case stage (first ∷ others) = subst (AreObjections case stage) split each in
     let head = All-head (λ (one : GivenSaid). IsObjection case stage (said_of one) × (length one.content.now < 2 ^ 32)) first others these
-        in
+    in
     record {
       object = record { post = head.0.post; dissents = head.0.dissents; at = refl };
       short = head.1;

@@ -42,9 +42,9 @@ pub pads-body : (case : Case) (one : GivenSaid) (content : Content) → IsPadsPo
     → (pads : List (List ℕ)) × (content.body ≡ Pads pads) × (length pads ≡ (shape_in case).members)
 pads-body case one content is read grammar =
     let header = header_is content.header one.header (sym (content-header (shape_in case) one.content.now content read)
-        ∙ is.readable.header) in
+    ∙ is.readable.header) in
     pads-said (shape_in case) content.header.stage content.body (ap (λ (h : Header). kind_of_stage (shape_in case) h.stage) header ∙ is.at)
-        grammar.1
+    grammar.1
 
 -- ---- descriptors
 
@@ -101,15 +101,15 @@ are-slots case shape pads seeds list descriptors table same is rows count opened
 pub holds-by-log : (case : Case) (shape : Shape) (past seeds list pads keys : List (List ℕ)) (table : List (List (List ℕ)))
     (descriptors : List (Option Description)) (a : Accusation) (r : Result (Unit {0}) AccusationRefusal)
     → shape ≡ shape_in case → seeds ≡ seeds_revealed (shape_in case) past 1
-        → list_said (shape_in case) past 1 (shape_in case).members ≡ Some list
+    → list_said (shape_in case) past 1 (shape_in case).members ≡ Some list
     → descriptors ≡ map (option_and_then (descriptor_read shape.members)) (opened_list seeds list) → table ≡ table_of case pads
-        → keys ≡ keys_said shape past bulk_place
+    → keys ≡ keys_said shape past bulk_place
     → r ≡ value_unless (refusal_of a descriptors table keys) (tt {0}) → r ≡ value_unless
     (refusal_of a (descriptors_opened (shape_in case) past) (table_of case pads) (keys_said (shape_in case) past bulk_place)) (tt {0})
 holds-by-log case shape past seeds list pads keys table descriptors a r same e said opened is own answers =
     let n = ap (λ (s : Shape). map (option_and_then (descriptor_read s.members)) (opened_list seeds list)) same in
     let found : descriptors ≡ descriptors_opened (shape_in case) past = opened ∙ n
-        ∙ descriptors-are (shape_in case) past seeds list e said in
+    ∙ descriptors-are (shape_in case) past seeds list e said in
     let bulk : keys ≡ keys_said (shape_in case) past bulk_place = own ∙ ap (λ (s : Shape). keys_said s past bulk_place) same in
     answers ∙ ap (λ (d : List (Option Description)). value_unless (refusal_of a d table keys) (tt {0})) found
     ∙ ap (λ (t : List (List (List ℕ))). value_unless (refusal_of a (descriptors_opened (shape_in case) past) t keys) (tt {0})) is
@@ -121,9 +121,9 @@ accused-refusal : (case : Case) (past pads : List (List ℕ)) (a : Accusation) �
 accused-refusal case past pads a is =
     let refuted : Option FailedCheck =
     option_map (λ refusal. Refuted refusal) (refusal_of a (descriptors_opened (shape_in case) past) (table_of case pads)
-        (keys_said (shape_in case) past bulk_place)) in
+    (keys_said (shape_in case) past bulk_place)) in
     ap (λ (o : Option FailedCheck). first_some (o ∷ refuted ∷ []))
-        (fault_unless-true (a.member == case.accused) OtherMember (eq-eqb a.member case.accused is))
+    (fault_unless-true (a.member == case.accused) OtherMember (eq-eqb a.member case.accused is))
     ∙ only refuted
   where
     only : (o : Option FailedCheck) → first_some (None ∷ o ∷ []) ≡ o
@@ -144,25 +144,25 @@ pub accusation-fails : (case : Case) (past pads : List (List ℕ)) (detail : Opt
     (r : Result (Unit {0}) AccusationRefusal)
     → detail ≡ Some a → a.member ≡ case.accused → r ≡ Err refusal
     → r ≡ value_unless (refusal_of a (descriptors_opened (shape_in case) past) (table_of case pads)
-        (keys_said (shape_in case) past bulk_place)) (tt {0})
+    (keys_said (shape_in case) past bulk_place)) (tt {0})
     → value_unless (accusation_failure case past pads detail) (tt {0}) ≡ Err (Refuted refusal)
 accusation-fails case past pads detail a refusal r is own e answers =
     ap (λ (d : Option Accusation). value_unless (accusation_failure case past pads d) (tt {0})) is
     ∙ ap (λ (o : Option FailedCheck). value_unless o (tt {0})) (accused-refusal case past pads a own)
     ∙ refuted (refusal_of a (descriptors_opened (shape_in case) past) (table_of case pads) (keys_said (shape_in case) past bulk_place))
-        refusal (sym answers ∙ e)
+    refusal (sym answers ∙ e)
 
 pub accusation-holds : (case : Case) (past pads : List (List ℕ)) (detail : Option Accusation) (a : Accusation)
     (r : Result (Unit {0}) AccusationRefusal)
     → detail ≡ Some a → a.member ≡ case.accused → r ≡ Ok tt
     → r ≡ value_unless (refusal_of a (descriptors_opened (shape_in case) past) (table_of case pads)
-        (keys_said (shape_in case) past bulk_place)) (tt {0})
+    (keys_said (shape_in case) past bulk_place)) (tt {0})
     → value_unless (accusation_failure case past pads detail) (tt {0}) ≡ Ok tt
 accusation-holds case past pads detail a r is own e answers =
     ap (λ (d : Option Accusation). value_unless (accusation_failure case past pads d) (tt {0})) is
     ∙ ap (λ (o : Option FailedCheck). value_unless o (tt {0})) (accused-refusal case past pads a own)
     ∙ borne (refusal_of a (descriptors_opened (shape_in case) past) (table_of case pads) (keys_said (shape_in case) past bulk_place))
-        (sym answers ∙ e)
+    (sym answers ∙ e)
 
 -- ---- all checks
 
@@ -181,9 +181,9 @@ checks-are case said log pads is long =
     let end : count ≡ length front = sym long ∙ sym (length-map log said_of) in
     let past : map content (take count (front ++ said_of pads ∷ [])) ≡ contents_said log =
     ap (λ (k : ℕ). map content (take k (front ++ said_of pads ∷ []))) end ∙ ap (map content) (take-append_seam front (said_of pads ∷ []))
-        ∙ map_map said_of content log in
+    ∙ map_map said_of content log in
     let last : slice_get (front ++ said_of pads ∷ []) count ≡ Some (said_of pads) = ap (slice_get (front ++ said_of pads ∷ [])) end
-        ∙ last-got front (said_of pads) in
+    ∙ last-got front (said_of pads) in
     ap (pad_answer case) all
     ∙ ap (λ (p : List (List ℕ)). value_unless (pad_failure_of case p (slice_get (front ++ said_of pads ∷ []) count)) (tt {0})) past
     ∙ ap (λ (o : Option Said). value_unless (pad_failure_of case (contents_said log) o) (tt {0})) last
@@ -222,5 +222,11 @@ accusation-decides (Some f) o a e is = absurd cc
 pub split-long : (case : Case) (said log : List GivenSaid) (pads : GivenSaid) → ArePadPosts case said → said ≡ log ++ pads ∷ []
     → length log ≡ count_before_pads (shape_in case)
 split-long case said log pads are is =
-    omega (arith, ap (λ (l : List GivenSaid). length l) (sym is ∙ are.all), length-append log (pads ∷ []), length-append are.log
-        (are.pads ∷ []), are.is_log.whole)
+    omega (
+      arith,
+      ap (λ (l : List GivenSaid). length l) (sym is ∙ are.all),
+      length-append log (pads ∷ []),
+      length-append are.log
+          (are.pads ∷ []),
+      are.is_log.whole,
+    )

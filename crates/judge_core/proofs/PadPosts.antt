@@ -53,7 +53,7 @@ each-taken case first number (post ∷ posts) said e =
     let others = bind_ok (hearing_of case (Some (unwrap_or first a.0.header)) (number + 1) posts) _ said a.2 in
     let rest = each-taken case (Some (unwrap_or first a.0.header)) (number + 1) posts others.0 others.1 in
     subst (λ (s : List Said). (length s ≡ length (post ∷ posts)) × AreTaken case number (post ∷ posts) s)
-        (list_is (a.0 ∷ others.0) said others.2)
+    (list_is (a.0 ∷ others.0) said others.2)
     (omega (arith, rest.0), taken-more case number post posts a.0 others.0 (record { first = first; taken = a.1 }) rest.1)
 
 -- ---- where it stands
@@ -77,7 +77,7 @@ asked-slot case kind first number header lt =
     cond-false (number == claim_posts (shape_in case) Pad) (header.sender == case.accused && is_pad_stage kind)
     (slot_number (shape_in case) header.stage header.sender == number - 1)
     (false_from_ne_true (number == claim_posts (shape_in case) Pad)
-        (λ e. let same = eqb-true number (claim_posts (shape_in case) Pad) e in absurd (omega arith)))
+    (λ e. let same = eqb-true number (claim_posts (shape_in case) Pad) e in absurd (omega arith)))
 
 -- and the last is of the accused, at the stage of pads
 pub asked-last : (case : Case) (kind : Option StageKind) (first : Option Header) (number : ℕ) (header : Header)
@@ -108,7 +108,7 @@ stands : (case : Case) (place : ℕ) (bytes : List ℕ) (one : GivenSaid) → ca
 stands case place bytes one is lt t short =
     let kind : Option StageKind = kind_of_stage (shape_in case) one.header.stage in
     let asked = sym (asked-slot case kind t.first (1 + place) one.header (omega (arith, lt)))
-        ∙ asked-as case Pad t.first (1 + place) bytes (said_of one) is t.taken in
+    ∙ asked-as case Pad t.first (1 + place) bytes (said_of one) is t.taken in
     let there = eqb-true (slot_number (shape_in case) one.header.stage one.header.sender) (1 + place - 1) asked in
     record { readable = readable case (1 + place) bytes one is t short; there = omega (arith, there) }
 
@@ -118,7 +118,7 @@ is-pads case bytes one is t short =
     let number : ℕ = 1 + count_before_pads (shape_in case) in
     let kind : Option StageKind = kind_of_stage (shape_in case) one.header.stage in
     let asked = sym (asked-last case kind t.first number one.header (omega arith))
-        ∙ asked-as case Pad t.first number bytes (said_of one) is t.taken in
+    ∙ asked-as case Pad t.first number bytes (said_of one) is t.taken in
     record { readable = readable case number bytes one is t short; at = (pad-at case one.header asked).1 }
 
 -- ---- all of them
@@ -150,7 +150,7 @@ pad-posts case posts given is count e short =
             let within : place < length given = omega (arith, lt, front, long) in
             subst (StandsAt (shape_in case) place) (sym (get_or-take n given place x (omega (arith, lt, front))))
             (stands case place (get_or posts place []) (get_or given place x) is (omega (arith, lt, front)) (at place x within)
-                (short place x within));
+            (short place x within));
       };
       is_pads = is-pads case (get_or posts n []) (get_or given n d) is (at n d (omega (arith, long))) (short n d (omega (arith, long)));
     }

@@ -46,11 +46,11 @@ length-said log = length-map log content_in
 pub slot-said : (shape : Shape) (log : List GivenSaid) (stage sender : ℕ) (d : GivenSaid) (content : Content)
     → slot_number shape stage sender < length log
     → content_read shape (get_or log (slot_number shape stage sender) d).content.now ≡ Ok content
-        → content.body ≡ said_in shape (contents_said log) stage sender
+    → content.body ≡ said_in shape (contents_said log) stage sender
 unfolding said_in
 slot-said shape log stage sender d content lt read =
     let there : get_or (contents_said log) (slot_number shape stage sender) [] ≡ (get_or log (slot_number shape stage sender) d).content.now
-        =
+    =
     get_or-map content_in log (slot_number shape stage sender) d [] lt in
     sym (ap (λ (bytes : List ℕ). body_of (content_read shape bytes)) there ∙ ap body_of read)
 
@@ -58,7 +58,7 @@ slot-said shape log stage sender d content lt read =
 pub slot-body : (shape : Shape) (log : List GivenSaid) (stage sender : ℕ) (d : GivenSaid) (content : Content) → IsListedLog shape log
     → slot_number shape stage sender < length log → is_slot shape stage sender ≡ true
     → content_read shape (get_or log (slot_number shape stage sender) d).content.now ≡ Ok content → OfGrammar shape content
-        → IsBody shape stage content.body
+    → IsBody shape stage content.body
 slot-body shape log stage sender d content is lt there read grammar =
     let stands = is.stand (slot_number shape stage sender) d lt in
     let one : GivenSaid = get_or log (slot_number shape stage sender) d in
@@ -133,7 +133,7 @@ one-fails {A} p f a (suc n) k least lt e = some-fails p (f a) (map f (range_with
 -- whether all members revealed
 pub all-revealed : (shape : Shape) (past : List (List ℕ))
     → ((k : ℕ) → 1 ≤ k → k < 1 + shape.members → is_reveal (said_in shape past (final_stage shape 1) k) ≡ true)
-        → are_revealed shape past ≡ true
+    → are_revealed shape past ≡ true
 all-revealed shape past each = all-pass is_reveal (said_in shape past (final_stage shape 1)) 1 shape.members each
 
 pub one-hides : (shape : Shape) (past : List (List ℕ)) (k : ℕ) → 1 ≤ k → k ≤ shape.members
@@ -216,8 +216,11 @@ pub range-some : (shape : Shape) (log : List GivenSaid) (stage : ℕ) → IsShap
 range-some shape log stage is listed lt =
     let a : ℕ = slots_before shape stage in
     let b : ℕ = slots_before shape (stage + 1) in
-    omega (arith, length-take-le (b - a) (drop a log) (omega (arith, length-drop a log, listed.whole, stage-within shape stage lt)),
-        stage-some shape stage is lt)
+    omega (
+      arith,
+      length-take-le (b - a) (drop a log) (omega (arith, length-drop a log, listed.whole, stage-within shape stage lt)),
+      stage-some shape stage is lt,
+    )
 
 pub seen-next : (shape : Shape) (log : List GivenSaid) (stage : ℕ) (posts : List GivenSaid) (running : RunningView)
     → posts ≡ slice_range log (slots_before shape stage) (slots_before shape (stage + 1))
@@ -226,4 +229,4 @@ pub seen-next : (shape : Shape) (log : List GivenSaid) (stage : ℕ) (posts : Li
 seen-next shape log stage posts running is carries =
     subst (λ (view : List ℕ). Carries running view [])
     (ap (λ (p : List GivenSaid). hash_of View (view_of shape (contents_said log) stage ∷ contents_said p)) is ∙ next-view shape log stage)
-        carries
+    carries

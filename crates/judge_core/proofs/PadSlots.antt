@@ -187,7 +187,7 @@ pub last-entries : (shape : Shape) (stage : ℕ) (body : Body) (list : List (Lis
 last-entries shape stage body list is at said e =
     turn-entries shape (slots_before shape stage) shape.members body list is.most
     (body-at shape stage (AtShuffle 1 shape.members) body (turn_a shape stage shape.members at (omega (arith, is.least)) (omega arith))
-        said) e
+    said) e
 
 -- pads, one for each slot of the list
 pub pads-said : (shape : Shape) (stage : ℕ) (body : Body) → kind_of_stage shape stage ≡ Some AtPad → IsBody shape stage body

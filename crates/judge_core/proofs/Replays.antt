@@ -66,7 +66,7 @@ one-more : (case : Case) (first : Header) (number : ℕ) (post : List ℕ) (post
     → taken_of case (Some first) number post ≡ Ok a
     → ((k : ℕ) → k < length posts → taken_of case (Some first) (number + 1 + k) (slice_index_or posts k []) ≡ Ok (get_or others k d))
     → (k : ℕ) → k < length (post ∷ posts) → taken_of case (Some first) (number + k) (slice_index_or (post ∷ posts) k []) ≡ Ok
-        (get_or (a ∷ others) k d)
+    (get_or (a ∷ others) k d)
 one-more case first number post posts a others d e rest zero lt =
     let same : number + 0 ≡ number = omega arith in
     ap (λ (n : ℕ). taken_of case (Some first) n post) same ∙ e
@@ -84,7 +84,7 @@ behind-taken case first number (post ∷ posts) said d e k lt =
     let a = bind_ok (taken_of case (Some first) number post) _ said e in
     let others = bind_ok (hearing_of case (Some first) (number + 1) posts) _ said a.2 in
     let here = one-more case first number post posts a.0 others.0 d a.1 (behind-taken case first (number + 1) posts others.0 d others.1) k
-        lt in
+    lt in
     here ∙ ap (λ (s : List Said). said_ok (get_or s k d)) (list_is (a.0 ∷ others.0) said others.2)
 
 behind-long : (case : Case) (first : Header) (number : ℕ) (posts : List (List ℕ)) (said : List Said)
@@ -109,7 +109,7 @@ behind-heard case first number (post ∷ posts) [] d long each = absurd (omega a
 behind-heard case first number (post ∷ posts) (s ∷ said) d long each =
     let zero_more : number ≡ number + 0 = omega arith in
     let here : taken_of case (Some first) number post ≡ Ok s = ap (λ (n : ℕ). taken_of case (Some first) n post) zero_more
-        ∙ each 0 (omega arith) in
+    ∙ each 0 (omega arith) in
     let rest = behind-heard case first (number + 1) posts said d (omega arith)
     (λ k lt. let next : number + 1 + k ≡ number + suc k = omega arith in
     ap (λ (n : ℕ). taken_of case (Some first) n (slice_index_or posts k [])) next ∙ each (suc k) (omega arith)) in
@@ -172,7 +172,7 @@ justified-each case number (one ∷ others) e = elim (cases_Bool (is_justified_i
   | inl good ↦
       All-cons (λ (one : Said). is_justified_in case one ≡ true) one others good
       (justified-each case (number + 1) others (sym (cond-true (is_justified_in case one) (unjustified_from case (number + 1) others)
-          (Some (NotJustified number)) good) ∙ e))
+      (Some (NotJustified number)) good) ∙ e))
   | inr bad ↦ absurd (none-some (NotJustified number) (sym e ∙ cond-false (is_justified_in case one)
       (unjustified_from case (number + 1) others) (Some (NotJustified number)) bad))
 ]
@@ -232,7 +232,7 @@ unfolding unlike_place
 past-same past =
     first_below-none (λ place. fault_unless (is_alike past past place) place) (length past)
     (λ place lt. fault_unless-true (is_alike past past place) place
-        ((bytes_eq-Decides (slice_index_or past place []) (slice_index_or past place [])).1 refl))
+    ((bytes_eq-Decides (slice_index_or past place []) (slice_index_or past place [])).1 refl))
 
 alike-each : (case : Case) (past : List (List ℕ)) (number : ℕ) (said : List Said) → unlike_from case past number said ≡ None
     → All (λ (one : Said). unlike_place past (past_in case one) ≡ None) said
@@ -267,13 +267,13 @@ past-long case stage one content grammar o read good =
     let span = spans shape content grammar (closing-content case one content o.post read) in
     let objects = span.objects (dissent-objects content.body (read-dissents (read_of case one) content read o.dissents)) in
     let justified : is_content_justified case.roster case.round content ≡ true = sym (ap (is_read_justified case.roster case.round) read)
-        ∙ good in
+    ∙ good in
     let found = justified-posts case.roster case.round content justified in
     let past : past_in case one ≡ contents_of found.0 = ap (contents_embedded case.roster case.round) read ∙ ap contents_found found.1 in
     let pairs = posts-long case.roster case.round 0 (embedded_pairs case.roster content) found.0 found.1 in
     let at : slots_before shape content.header.stage ≡ slots_before shape stage =
     ap (λ (h : Header). slots_before shape h.stage) (sym (read-header case one content o.post.header read))
-        ∙ ap (slots_before shape) o.at in
+    ∙ ap (slots_before shape) o.at in
     omega (
       arith,
       ap (λ (p : List (List ℕ)). length p) past,
@@ -302,7 +302,7 @@ by_range f g a (one ∷ others) d each =
 parts-same : (case : Case) (kind : Option StageKind) (all : List Said) (d : Said) (said : ℕ → Content)
     → length all ≡ (shape_in case).members
     → ((k : ℕ) → k < length all → shown_of case (get_or all k d) ≡ shown_in (said (1 + k)).body)
-        → parts_shown case kind all ≡ parts_said (shape_in case) kind said
+    → parts_shown case kind all ≡ parts_said (shape_in case) kind said
 parts-same case (Some (AtFinal shuffle)) all d said long each =
     by_range (shown_of case) (λ member. shown_in (said member).body) 1 all d each
     ∙ ap (λ (n : ℕ). map (λ member. shown_in (said member).body) (range_with_len 1 n)) long
@@ -326,7 +326,7 @@ inquiry-by : (case : Case) (first : Said) (all : List Said) (d : Said) (stage : 
 inquiry-by case first all d stage past said own at long each =
     let shape : Shape = shape_in case in
     ap (λ (p : List (List ℕ)). asked shape p first.header.stage case.round (parts_shown case (kind_of_stage shape first.header.stage) all))
-        own
+    own
     ∙ ap (λ (s : ℕ). asked shape past s case.round (parts_shown case (kind_of_stage shape s) all)) at
     ∙ ap (λ (p : List Shown). asked shape past stage case.round p) (parts-same case (kind_of_stage shape stage) all d said long each)
 
@@ -335,8 +335,12 @@ inquiry-by case first all d stage past said own at long each =
 -- of what blames the accused its fault
 blamed : (accused : ℕ) (o : Option Fault) → culprit_failure accused o ≡ None → (fault : Fault) × (o ≡ Some fault) × (fault.member ≡ accused)
 blamed accused None e = absurd cc
-blamed accused (Some fault) e = (fault, refl, eqb-true fault.member accused
-    (fault_unless-holds (fault.member == accused) (Culprit fault.member) e))
+blamed accused (Some fault) e = (
+  fault,
+  refl,
+  eqb-true fault.member accused
+      (fault_unless-holds (fault.member == accused) (Culprit fault.member) e),
+)
 
 -- what was read, or else another content
 abbrev content_or : Content → Result Content Offence → Content
@@ -387,7 +391,7 @@ stands-at case posts first others is each fits good k lt =
 objects : (case : Case) (posts : List (List ℕ)) (first : Said) (place : ℕ) (one : Said) (past : List (List ℕ))
     (s : StandsAt case posts first place one) → case.claim ≡ Replay
     → past_in case one ≡ past → Objects case.roster case.round first.header.stage past (place + 1) (slice_index_or posts place [])
-        s.taken.content
+    s.taken.content
 objects case posts first place one past s is same =
     let header : Option Header = first_header first.header place in
     let kind : Option StageKind = kind_of_stage (shape_in case) one.header.stage in
@@ -395,7 +399,7 @@ objects case posts first place one past s is same =
     (asked-found case Replay header (place + 1) one.header is s.taken.asked) in
     let sender = and_parts (one.header.sender == place + 1) (is_closing_stage kind) slot.0 in
     let justified : is_content_justified case.roster case.round s.taken.content ≡ true = sym
-        (ap (is_read_justified case.roster case.round) s.taken.reads) ∙ s.justified in
+    (ap (is_read_justified case.roster case.round) s.taken.reads) ∙ s.justified in
     let found = justified-posts case.roster case.round s.taken.content justified in
     record {
       file = s.taken.file;
@@ -412,7 +416,7 @@ objects case posts first place one past s is same =
 by-place : (case : Case) (t : Transcript) (stage : ℕ) (past : List (List ℕ)) (place member : ℕ) (content said : Content)
     → place ≡ member - 1 → 1 ≤ member → content ≡ said
     → Objects case.roster case.round stage past (place + 1) (slice_index_or t.posts place []) content
-        → Objects case.roster case.round stage past member (post_listed t member) said
+    → Objects case.roster case.round stage past member (post_listed t member) said
 by-place case t stage past place member content said at least same o =
     let back : place + 1 ≡ member = omega arith in
     subst (λ (c : Content). Objects case.roster case.round stage past member (post_listed t member) c) same
@@ -438,7 +442,7 @@ past-at case posts first others stands long alike (suc k) lt =
 found-of : (roster : Roster) (t : Transcript) (first : Said) (others : List Said) → t.claim ≡ Replay
     → length t.posts ≡ (shape_of_roster roster).members
     → AllByRecursion IsBytes t.posts → length (first ∷ others) ≡ length t.posts
-        → EachTaken (case_of_transcript roster t) t.posts first others
+    → EachTaken (case_of_transcript roster t) t.posts first others
     → replay_failure (case_of_transcript roster t) (first ∷ others) ≡ None → 0 < length t.posts → ReplaysFault roster t
 found-of roster t first others is count fits long taken passes some =
     let case : Case = case_of_transcript roster t in
@@ -454,7 +458,7 @@ found-of roster t first others is count fits long taken passes some =
     let same = past-at case t.posts first others stands long (alike-each case past 2 others b.0) in
     let fault = blamed t.accused (culprit_of (inquiry_in case first all)) c.0 in
     let read : (k : ℕ) (lt : k < length t.posts) → read_of case (get_or all k first) ≡ Ok (stands k lt).taken.content = λ k lt.
-        (stands k lt).taken.reads in
+    (stands k lt).taken.reads in
     record {
       count = count;
       stage = first.header.stage;
@@ -464,13 +468,13 @@ found-of roster t first others is count fits long taken passes some =
       object = λ member least most.
           let lt : member - 1 < length t.posts = omega (arith, count) in
           by-place case t first.header.stage past (member - 1) member (stands (member - 1) lt).taken.content (said_by case first all member)
-              refl least
+          refl least
           (sym (ap (content_or (record { header = first.header; body = Abort })) (read (member - 1) lt)))
           (objects case t.posts first (member - 1) (get_or all (member - 1) first) past (stands (member - 1) lt) is (same (member - 1) lt));
       fault = fault.0;
       blames = ap culprit_of (sym (inquiry-by case first all first first.header.stage past (said_by case first all) refl refl (long ∙ count)
           (λ k lt. shown-by case first all k (stands k (omega (arith, lt, long))).taken.content (read k (omega (arith, lt, long))))))
-              ∙ fault.1;
+          ∙ fault.1;
       accused = fault.2;
     }
   where
@@ -556,18 +560,18 @@ one-stage first (suc place) header e = eq-eqb _ _ e
 speaks-taken : (roster : Roster) (t : Transcript) (r : ReplaysFault roster t) → t.claim ≡ Replay → (first : Header) → first.stage ≡ r.stage
     → (place : ℕ) (one : Said)
     → Speaks roster t r place one → taken_of (case_of_transcript roster t) (first_header first place) (place + 1)
-        (slice_index_or t.posts place []) ≡ Ok one
+    (slice_index_or t.posts place []) ≡ Ok one
 speaks-taken roster t r is first at place one s =
     let case : Case = case_of_transcript roster t in
     let content : Content = r.said (place + 1) in
     let kind : Option StageKind = kind_of_stage (shape_in case) content.header.stage in
     let closing : is_closing_stage kind ≡ true =
     closing-is kind (subst (λ (stage : ℕ). IsSome (option_and_then vote_of (kind_of_stage (shape_in case) stage))) (sym s.objects.at)
-        r.closing) in
+    r.closing) in
     let sender : (content.header.sender == place + 1) ≡ true = eq-eqb _ _ s.objects.sender in
     let stage = one-stage first place content.header (s.objects.at ∙ sym at) in
     let slot = asked-again case Replay (first_header first place) (place + 1) content.header is
-        (both-true _ _ (both-true _ _ sender closing) stage) in
+    (both-true _ _ (both-true _ _ sender closing) stage) in
     let dissents = subst (λ (c : Claim). is_kind_asked c (first_header first place) content.body ≡ true) (sym is) s.objects.dissents in
     file-taken case (first_header first place) (place + 1) (slice_index_or t.posts place []) content s.objects.file slot dissents
     ∙ ap said_ok (sym s.is)
@@ -613,7 +617,7 @@ again-of roster t r is first others long each =
     shown-said k one s =
         let next : k + 1 ≡ 1 + k = omega arith in
         ap (λ (x : Result Content Offence). shown_in (body_of x)) (speaks-read roster t r k one s)
-            ∙ ap (λ (n : ℕ). shown_in (r.said n).body) next
+        ∙ ap (λ (n : ℕ). shown_in (r.said n).body) next
 
 pub replay-again : (roster : Roster) (t : Transcript) → 0 < (shape_of_roster roster).members → t.claim ≡ Replay → ReplaysFault roster t
     → conviction_of (case_of_transcript roster t) t.posts ≡ Ok tt
@@ -622,7 +626,7 @@ replay-again roster t some is r =
     let all = listed n 0 (Speaks roster t r) (λ k lt. let zero_more : k ≡ 0 + k = omega arith in
     let s = speaks roster t r k lt in (s.0, subst (λ (j : ℕ). Speaks roster t r j s.0) zero_more s.1)) in
     by_list all.0 all.1 (λ k d lt. let zero_more : 0 + k ≡ k = omega arith in subst (λ (j : ℕ). Speaks roster t r j (get_or all.0 k d))
-        zero_more (all.2 k d lt))
+    zero_more (all.2 k d lt))
   where
     by_list : (all : List Said) → length all ≡ (shape_of_roster roster).members
         → ((k : ℕ) (d : Said) → k < (shape_of_roster roster).members → Speaks roster t r k (get_or all k d))

@@ -56,7 +56,7 @@ keys-content case bytes said is e =
     let found = fault_as_ok (λ offence. FailedBody 1 offence.at) (read_of case said) read.0 read.1 in
     let header = read-header case said read.0 (heard-parts case None 1 bytes said (taken-heard case None 1 bytes said e)).0 found in
     let parts = and_parts (said.header.sender == case.accused) (is_keys_stage (kind_of_stage (shape_in case) said.header.stage))
-        (asked-as case WrongSeed None 1 bytes said is e) in
+    (asked-as case WrongSeed None 1 bytes said is e) in
     let at = is-keys (kind_of_stage (shape_in case) said.header.stage) parts.1 in
     record {
       content = read.0;
@@ -73,10 +73,10 @@ reveals-seed case first bytes said is e =
     let looked = taken-read case (Some first) 2 bytes said (ap is_of_bodies is) e in
     let read = bind_ok (fault_as (λ offence. FailedBody 2 offence.at) (read_of case said)) _ looked.0 looked.1 in
     let right = guard_ok (not (is_kind_asked case.claim (Some first) read.0.body)) (Kind 2 (kind_number read.0.body)) read.0 looked.0 read.2
-        in
+    in
     let found = fault_as_ok (λ offence. FailedBody 2 offence.at) (read_of case said) read.0 read.1 in
     let body = reveal_body read.0.body (subst (λ (c : Claim). is_kind_asked c (Some first) read.0.body ≡ true) is
-        (not-false (is_kind_asked case.claim (Some first) read.0.body) right.0)) in
+    (not-false (is_kind_asked case.claim (Some first) read.0.body) right.0)) in
     record {
       header = read.0.header;
       votes = body.0;
@@ -96,7 +96,7 @@ pub seed-right : (kind : Option StageKind) (first last : Result Content Offence)
     → is_seed_of_key kind first last ≡ bytes_eq (key_of_seed seed) (inner_key shuffle keys)
 seed-right kind first last a b shuffle keys votes seed e1 e2 e3 e4 e5 =
     rw (e1, e2, e3) (ap (λ (body : Body). is_seed_in (Some (AtFinal shuffle)) body b.body) e4
-        ∙ ap (λ (body : Body). is_seed_in (Some (AtFinal shuffle)) (Keys keys) body) e5)
+    ∙ ap (λ (body : Body). is_seed_in (Some (AtFinal shuffle)) (Keys keys) body) e5)
 
 pub ended-is : (kind : Option StageKind) (shuffle : ℕ) → shuffle_ended kind ≡ Some shuffle → kind ≡ Some (AtFinal shuffle)
 ended-is (Some (AtFinal s)) shuffle e = let same : s ≡ shuffle = cc in ap (λ (k : ℕ). some_final k) same
@@ -174,8 +174,12 @@ keys-laid shape bytes fits k =
     let text : bytes ≡ front ++ rest =
     found.0 ∙ ap (λ (b : Body). header_text c.header ++ ((kind_number b ∷ []) ++ body_text b)) body.1
     ∙ sym (append_assoc (header_text c.header) (1 ∷ []) rest) in
-    let front_long : length front ≡ 76 = omega (arith, length-append (header_text c.header) (1 ∷ []), length-header_text shape c.header
-        found.1.0) in
+    let front_long : length front ≡ 76 = omega (
+      arith,
+      length-append (header_text c.header) (1 ∷ []),
+      length-header_text shape c.header
+          found.1.0,
+    ) in
     record {
       header = c.header;
       keys = keys;

@@ -128,7 +128,7 @@ part-told case said content read at closing dissents =
     let shape : Shape = shape_in case in
     let kind = closing_kind (kind_of_stage shape said.header.stage) closing in
     let body = closings_are_read shape said.content content kind.0 kind.1 read (ap (λ (stage : ℕ). kind_of_stage shape stage) at ∙ kind.2)
-        kind.3 in
+    kind.3 in
     part-of_body shape content.header.stage kind.0 content.body body dissents
     ∙ ap (λ (r : Result Content Offence). part_in kind.0 (shown_in (body_of r))) (sym read)
     ∙ sym (part-shown case kind.0 said)
@@ -153,13 +153,13 @@ pub closing-content : (case : Case) (said : Said) (content : Content) → IsClos
     → IsClosing (shape_in case) content
 closing-content case said content post read =
     subst (λ (h : Header). IsSome (option_and_then vote_of (kind_of_stage (shape_in case) h.stage)))
-        (read-header case said content post.header read) post.closing
+    (read-header case said content post.header read) post.closing
 
 -- where a log justifies what a post that dissents says, it shows this log
 pub shown-is : (case : Case) (stage : ℕ) (said : Said) (content : Content) (log : Log) (shown : Option Shown) → IsObjection case stage said
     → read_of case said ≡ Ok content → OfGrammar (shape_in case) content
     → KeepsEmbedded case.roster case.round content log → true ≡ is_content_justified case.roster case.round content
-        → shown ≡ shown_by content.body
+    → shown ≡ shown_by content.body
     → IsShown case said (record { stage = said.header.stage; log = log; shown = shown })
 shown-is case stage said content log shown o read grammar keeps justified told =
     let shape : Shape = shape_in case in
@@ -167,14 +167,14 @@ shown-is case stage said content log shown o read grammar keeps justified told =
     let dissents : is_dissent content.body ≡ true = read-dissents (read_of case said) content read o.dissents in
     let span = spans shape content grammar (closing-content case said content o.post read) in
     let past : KeepsPast shape content.header.stage (contents_found (posts_in_content case.roster case.round content)) log = keeps-past
-        case.roster case.round content log keeps span (dissent-objects content.body dissents) in
+    case.roster case.round content log keeps span (dissent-objects content.body dissents) in
     record {
       justified = ap (is_read_justified case.roster case.round) read ∙ sym justified;
       stage = refl;
       keeps = subst (λ (r : Result Content Offence). KeepsPast shape said.header.stage (contents_embedded case.roster case.round r) log)
           (sym read)
           (subst (λ (h : Header). KeepsPast shape h.stage (contents_found (posts_in_content case.roster case.round content)) log)
-              (sym header) past);
+          (sym header) past);
       told = ap (λ (o : Option Shown). option_to_list o) told
           ∙ part-told case said content read (ap (λ (h : Header). h.stage) (sym header)) o.post.closing dissents;
     }

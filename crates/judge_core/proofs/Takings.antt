@@ -40,7 +40,7 @@ takes-none case posts = record {
 pub takes-fails : (case : Case) (posts left : List (List ℕ)) (post : List ℕ) (rest : List (List ℕ)) (first : Option Header) (number : ℕ)
     (lost : Bool) (kept : List GivenSaid) (e : FailedCheck)
     → Takes case posts left first number lost kept → left ≡ post ∷ rest → taken_of case first number post ≡ Err e
-        → hearing_of case None 1 posts ≡ Err e
+    → hearing_of case None 1 posts ≡ Err e
 unfolding hearing_of
 takes-fails case posts left post rest first number lost kept e so is failed =
     so.so_far ∙ ap (λ (l : List (List ℕ)). hearing_of case first number l >>= λ others. list_ok (so.done ++ others)) is ∙ rw failed refl
@@ -49,26 +49,26 @@ takes-fails case posts left post rest first number lost kept e so is failed =
 pub takes-next : (case : Case) (posts left : List (List ℕ)) (post : List ℕ) (rest : List (List ℕ)) (first next : Option Header) (number : ℕ)
     (lost now : Bool) (kept more : List GivenSaid) (given : GivenSaid)
     → Takes case posts left first number lost kept → left ≡ post ∷ rest → taken_of case first number post ≡ Ok (said_of given)
-        → length given.content.now < 2 ^ 32 → next ≡ Some (unwrap_or first given.header)
+    → length given.content.now < 2 ^ 32 → next ≡ Some (unwrap_or first given.header)
     → (now ≡ false → (lost ≡ false) × (more ≡ kept ++ given ∷ [])) → All (λ (one : GivenSaid). length one.content.now < 2 ^ 32) more
-        → Takes case posts rest next (number + 1) now more
+    → Takes case posts rest next (number + 1) now more
 unfolding hearing_of
 takes-next case posts left post rest first next number lost now kept more given so is taken short header pushed shorts =
     let said : Said = said_of given in
     let rest_from : Option Header → Result (List Said) FailedCheck = λ h. hearing_of case h (number + 1) rest in
     let opened : hearing_of case first number (post ∷ rest) ≡ (taken_of case first number post >>= λ said. rest_from
-        (Some (unwrap_or first said.header)) >>= λ others. list_ok (said ∷ others)) = refl in
+    (Some (unwrap_or first said.header)) >>= λ others. list_ok (said ∷ others)) = refl in
     let heard : hearing_of case first number (post ∷ rest) ≡ (rest_from (Some (unwrap_or first given.header)) >>= λ others. list_ok
-        (said ∷ others)) =
+    (said ∷ others)) =
     opened ∙ ap (λ (t : Result Said FailedCheck). t >>= λ said. rest_from (Some (unwrap_or first said.header)) >>= λ others. list_ok
-        (said ∷ others)) taken in
+    (said ∷ others)) taken in
     record {
       done = so.done ++ said ∷ [];
       so_far = so.so_far ∙ ap (λ (l : List (List ℕ)). hearing_of case first number l >>= λ others. list_ok (so.done ++ others)) is
           ∙ ap (λ (r : Result (List Said) FailedCheck). r >>= λ others. list_ok (so.done ++ others)) heard
           ∙ joined (rest_from (Some (unwrap_or first given.header)))
           ∙ ap (λ (h : Option Header). hearing_of case h (number + 1) rest >>= λ others. list_ok ((so.done ++ said ∷ []) ++ others))
-              (sym header);
+          (sym header);
       from_one = omega (arith, so.from_one);
       counted = omega (arith, so.counted, ap (λ (l : List (List ℕ)). length l) is);
       whole = λ e.
@@ -88,4 +88,4 @@ pub takes-all : (case : Case) (posts left : List (List ℕ)) (first : Option Hea
 unfolding hearing_of
 takes-all case posts left first number lost kept so is =
     so.so_far ∙ ap (λ (l : List (List ℕ)). hearing_of case first number l >>= λ others. list_ok (so.done ++ others)) is
-        ∙ ap list_ok (append-nil so.done)
+    ∙ ap list_ok (append-nil so.done)

@@ -63,15 +63,15 @@ kept-in : (shape : Shape) (stage : ℕ) (past : List (List ℕ)) (log : Log) (k 
 kept-in shape stage past log k slot there =
     ap (λ (l : Log). kept_in l slot) k.keeps
     ∙ cond-true (is_slot shape slot.stage slot.sender) (option_flatten
-        (slice_get (places_of 0 (slot_count shape) k.posts) (slot_number shape slot.stage slot.sender))) None there
+    (slice_get (places_of 0 (slot_count shape) k.posts) (slot_number shape slot.stage slot.sender))) None there
 
 kept-at : (shape : Shape) (stage : ℕ) (past : List (List ℕ)) (log : Log) (k : KeepsPast shape stage past log) (slot : Slot)
     → is_slot shape slot.stage slot.sender ≡ true
     → slot_number shape slot.stage slot.sender < length k.posts
-        → kept_in log slot ≡ Some (get_or k.posts (slot_number shape slot.stage slot.sender) nothing)
+    → kept_in log slot ≡ Some (get_or k.posts (slot_number shape slot.stage slot.sender) nothing)
 kept-at shape stage past log k slot there lt =
     kept-in shape stage past log k slot there ∙ kept-front k.posts (replicate (slot_count shape - (0 + length k.posts)) none_post)
-        (slot_number shape slot.stage slot.sender) lt
+    (slot_number shape slot.stage slot.sender) lt
 
 past-at : (shape : Shape) (stage : ℕ) (past : List (List ℕ)) (log : Log) (k : KeepsPast shape stage past log) (n : ℕ) → n < length k.posts
     → slice_index_or past n [] ≡ (get_or k.posts n nothing).content
@@ -79,8 +79,13 @@ past-at shape stage past log k n lt = ap (λ (c : List (List ℕ)). slice_index_
 
 past-long : (shape : Shape) (stage : ℕ) (past : List (List ℕ)) (log : Log) → KeepsPast shape stage past log
     → length past ≡ slots_before shape stage
-past-long shape stage past log k = omega (arith, ap (λ (c : List (List ℕ)). length c) k.contents, length-map k.posts
-    (λ (post : Post). post.content), k.long)
+past-long shape stage past log k = omega (
+  arith,
+  ap (λ (c : List (List ℕ)). length c) k.contents,
+  length-map k.posts
+      (λ (post : Post). post.content),
+  k.long,
+)
 
 -- ---- places and slots in which two of them differ
 
@@ -102,7 +107,7 @@ differ-at shape stage past others log other k k' place lt unlike =
     let slot : Slot = get_or (slots_of shape) place nobody in
     let long = past-long shape stage past log k in
     let is = slot_at-is shape place slot (slice_get-get_or (slots_of shape) place nobody
-        (omega (arith, lt, long, slots_before-most shape stage, length-slots_of shape))) in
+    (omega (arith, lt, long, slots_before-most shape stage, length-slots_of shape))) in
     let within : slot_number shape slot.stage slot.sender < length k.posts = omega (arith, is.1, lt, long, k.long) in
     let within' : slot_number shape slot.stage slot.sender < length k'.posts = omega (arith, is.1, lt, long, k'.long) in
     let at : place < length k.posts = omega (arith, lt, long, k.long) in
@@ -119,7 +124,7 @@ differ-at shape stage past others log other k k' place lt unlike =
         contents = λ same. apart (slice_index_or past place []) (slice_index_or others place []) unlike
             (past-at shape stage past log k place at
             ∙ ap (λ (n : ℕ). (get_or k.posts n nothing).content) (sym is.1) ∙ same
-                ∙ ap (λ (n : ℕ). (get_or k'.posts n nothing).content) is.1
+            ∙ ap (λ (n : ℕ). (get_or k'.posts n nothing).content) is.1
             ∙ sym (past-at shape stage others other k' place at'));
       };
     }
@@ -140,14 +145,17 @@ kept-within : (shape : Shape) (stage : ℕ) (past : List (List ℕ)) (log : Log)
     (post : Post)
     → is_slot shape slot.stage slot.sender ≡ true
     → kept_in log slot ≡ Some post → (slot_number shape slot.stage slot.sender < length k.posts)
-        × (post ≡ get_or k.posts (slot_number shape slot.stage slot.sender) nothing)
+    × (post ≡ get_or k.posts (slot_number shape slot.stage slot.sender) nothing)
 kept-within shape stage past log k slot post there kept =
     elim (cases_lt (slot_number shape slot.stage slot.sender) (length k.posts)) [
-      | inl lt ↦ (lt, post-is post (get_or k.posts (slot_number shape slot.stage slot.sender) nothing)
-          (sym kept ∙ kept-at shape stage past log k slot there lt))
+      | inl lt ↦ (
+        lt,
+        post-is post (get_or k.posts (slot_number shape slot.stage slot.sender) nothing)
+            (sym kept ∙ kept-at shape stage past log k slot there lt),
+      )
       | inr le ↦ absurd (never post
           (sym (kept-in shape stage past log k slot there ∙ kept-behind k.posts (slot_count shape - (0 + length k.posts))
-              (slot_number shape slot.stage slot.sender) le) ∙ kept))
+          (slot_number shape slot.stage slot.sender) le) ∙ kept))
     ]
   where
     never : (post : Post) → none_post ≡ some_post post → ⊥
@@ -159,7 +167,7 @@ number-of : (shape : Shape) (stage : ℕ) (past others : List (List ℕ)) (log o
 number-of shape stage past others log other k k' slot differ =
     let n : ℕ = slot_number shape slot.stage slot.sender in
     let there : is_slot shape slot.stage slot.sender ≡ true = subst (λ (s : Shape). is_slot s slot.stage slot.sender ≡ true)
-        (ap (λ (l : Log). l.shape) k.keeps) (kept-slot log slot differ.post differ.kept) in
+    (ap (λ (l : Log). l.shape) k.keeps) (kept-slot log slot differ.post differ.kept) in
     let one = kept-within shape stage past log k slot differ.post there differ.kept in
     let two = kept-within shape stage others other k' slot differ.other_post there differ.other_kept in
     record {
@@ -181,7 +189,7 @@ number-first shape a b here there (inl later) = omega (arith, slot_number-later 
 number-first shape a b here there (inr same) =
     let at : is_slot shape a.stage b.sender ≡ true = subst (λ (s : ℕ). is_slot shape s b.sender ≡ true) (sym same.0) there in
     let stage : slot_number shape a.stage b.sender ≡ slot_number shape b.stage b.sender = ap (λ (s : ℕ). slot_number shape s b.sender)
-        same.0 in
+    same.0 in
     elim (cases_lt a.sender b.sender) [
       | inl below ↦ omega (arith, slot_number-rises shape a.stage a.sender b.sender here at below, stage)
       | inr above ↦
@@ -209,7 +217,7 @@ unlike-is shape stage past others log other k k' (Some slot) first =
     (slot_number shape slot.stage slot.sender)
     own.within (λ place lt. earlier own place lt)
     (fault_unless-false (is_same past others (slot_number shape slot.stage slot.sender)) (slot_number shape slot.stage slot.sender)
-        own.unlike))
+    own.unlike))
   where
     earlier : NumberOf shape past others slot → (place : ℕ) → place < slot_number shape slot.stage slot.sender
         → fault_unless (is_same past others place) place ≡ None

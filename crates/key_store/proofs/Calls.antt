@@ -77,7 +77,7 @@ module _ {D : Type 0} (told : D → Option (List ℕ)) (may_leave : D → List �
   rest_says disk image file content least e rest keeps =
       let here : may_leave disk file = subst (λ (o : Option (List ℕ)). IfSome o (may_leave disk)) e (read_is_image disk) in
       let at_rest : IsAtRest (Some file) (may_leave disk) image = subst (λ (o : Option (List ℕ)). IsAtRest o (may_leave disk) image) e rest
-          in
+      in
       subst (Keeps least) at_rest.0 (keeps file here)
 
   -- a raise, whether it was Done or failed
@@ -103,7 +103,7 @@ module _ {D : Type 0} (told : D → Option (List ℕ)) (may_leave : D → List �
   pub raise_hands : (new : D) (now : List ℕ) (content least : KeyContent) (h : Handed) (round n : ℕ) → IsSome (told new)
       → IsAtRest (told new) (may_leave new) now
       → key_read now ≡ Ok record content { kept = record { round = round; next = content.kept.next + n } } → IsPaired now
-          → content.kept.round < round
+      → content.kept.round < round
       → h ≡ record { round = round; first = content.kept.next; leaves = n } → Says least content → IsRaised least h (may_leave new)
   raise_hands new now content least h round n some rest read paired later is said =
       subst (λ (h : Handed). IsRaised least h (may_leave new)) (sym is) record {
@@ -125,7 +125,7 @@ pub handed_is : (round n : ℕ) (run : RunState) (secret : SecretState) (content
     → run ≡ record { parts = secret.parts; first = secret.next; left = n }
     → secret ≡ record { parts = parts_in content; next = content.kept.next }
     → ◌≡◌ {A = Handed} record { round = round; first = run.first; leaves = run.left } record
-        { round = round; first = content.kept.next; leaves = n }
+    { round = round; first = content.kept.next; leaves = n }
 handed_is round n run secret content reserved secret_is =
     ap (λ (r : RunState). let h : Handed = record { round = round; first = r.first; leaves = r.left } in h) reserved
     ∙ ap (λ (s : SecretState). let h : Handed = record { round = round; first = s.next; leaves = n } in h) secret_is
@@ -133,7 +133,7 @@ handed_is round n run secret content reserved secret_is =
 -- a disk at rest as the key file last saw it
 pub rest_seen : (told : Option (List ℕ)) (images : List ℕ → Type 0) (key : KeyState) (image : List ℕ) (secret : SecretState) (failed : Bool)
     → ◌≡◌ {A = KeyState} record { parts = secret.parts; image = image; failed = failed } key → failed ≡ false → IsCurrent key told images
-        → IsAtRest told images image
+    → IsAtRest told images image
 rest_seen told images key image secret failed view works current =
     subst (IsAtRest told images) (sym (ap (λ (k : KeyState). k.image) view)) (current (sym (ap (λ (k : KeyState). k.failed) view) ∙ works))
 
@@ -141,7 +141,7 @@ rest_seen told images key image secret failed view works current =
 pub rises : (content : KeyContent) (image : List ℕ) (at total round n : ℕ) → total ≡ made_leaves content.height → at ≡ chosen total image
     → key_read image ≡ Ok content
     → content.kept.round < round → content.kept.next + n ≤ made_leaves content.height → 0 < n → IsPaired image
-        → IsRise content image at round (content.kept.next + n)
+    → IsRise content image at round (content.kept.next + n)
 rises content image at total round n found chose read later enough some paired = record {
   read = read;
   paired = paired;

@@ -152,16 +152,16 @@ module _ {D : Type 0} (told : D → Option (List ℕ)) (may_leave : D → List �
       by_case (Some file) rest =
           let here : (image : List ℕ) → may_leave old image → IsClosing at file image =
           λ image left. subst (IsClosing at file) (sym (rest.1 image left)) record
-              { beside = torn_nowhere file at 1; closed_already = λ zero. refl } in
+          { beside = torn_nowhere file at 1; closed_already = λ zero. refl } in
           goes_on may_leave moment left_since old old new (IsClosing at file)
-              (started may_leave moment left_since only_now old (IsClosing at file) here) time
+          (started may_leave moment left_since only_now old (IsClosing at file) here) time
           (λ image left. here image (same image left))
 
   -- a write and a sync where it is not
   pub leaves-closing : (old new : D) (image : List ℕ) (at : ℕ) → length image ≡ 128 → at < 128 → slice_index image at ≢ 0
       → IsAtRest (told old) (may_leave old) image
       → LeavesOf moment left_since (told old) old new (λ file. IsTorn file at 1)
-          → LeavesOf moment left_since (told old) old new (IsClosing at)
+      → LeavesOf moment left_since (told old) old new (IsClosing at)
   leaves-closing old new image at whole within gate rest run = by_case (told old) rest run
     where
       by_case : (o : Option (List ℕ)) → IsAtRest o (may_leave old) image → LeavesOf moment left_since o old new (λ file. IsTorn file at 1)

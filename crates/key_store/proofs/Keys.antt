@@ -28,7 +28,7 @@ secret_read image secret content of read = subst (λ (r : Result KeyContent ℕ)
 
 pub is_of : (key : KeyState) (image : List ℕ) (secret : SecretState) (failed : Bool) (content : KeyContent)
     → ◌≡◌ {A = KeyState} record { parts = secret.parts; image = image; failed = failed } key → IsSecretOf (key_read image) secret
-        → key_read image ≡ Ok content
+    → key_read image ≡ Ok content
     → IsOf key secret content
 is_of key image secret failed content view of read =
     let secret_is = secret_read image secret content of read in
@@ -59,7 +59,7 @@ pub loaded : (image : List ℕ) (size : ℕ) (content : KeyContent) (secret : Se
 loaded image size content secret read front whole made =
     let same : image ≡ take size image = sym (take_all size image (omega (arith, front, whole, length-take size image))) in
     subst (λ (r : Result KeyContent ℕ). IsLoaded r (take size image) record { parts = secret.parts; image = image; failed = false })
-        (sym read) (
+    (sym read) (
       ap (λ (s : SecretState). let k : KeyState = record { parts = s.parts; image = image; failed = false } in k) made
           ∙ ap (λ (l : List ℕ). let k : KeyState = record { parts = parts_in content; image = l; failed = false } in k) same,
       ap (λ (s : SecretState). stands (leaves s.parts) image) made
@@ -106,7 +106,7 @@ has_begun key image secret content at round n now after of whole read slot small
     let few = few_leaves content.height in
     let again : key_read now ≡ Ok c =
     ap key_read raises ∙ key_read-raised image at round next content whole slot small (omega (arith, few, enough)) read
-        (omega (arith, later)) (omega arith) enough in
+    (omega (arith, later)) (omega arith) enough in
     let secret_now : after ≡ record { parts = parts_in content; next = next } =
     risen ∙ ap (λ (s : SecretState). let t : SecretState = record { parts = s.parts; next = s.next + n } in t) of.secret_is in
     record {
@@ -122,7 +122,7 @@ pub raised_state : (key : KeyState) (image now : List ℕ) (secret after : Secre
     (at total round n : ℕ)
     → IsOf key secret content → ◌≡◌ {A = KeyState} record { parts = secret.parts; image = image; failed = failed } key → failed ≡ false
     → total ≡ made_leaves content.height → at ≡ chosen total image → after.parts ≡ key.parts
-        → now ≡ raised image at round (content.kept.next + n)
+    → now ≡ raised image at round (content.kept.next + n)
     → ◌≡◌ {A = KeyState} record { parts = after.parts; image = now; failed = failed }
     record { parts = key.parts; image = raised key.image (chosen (leaves_of key) key.image) round ((kept_by key).next + n); failed = false }
 raised_state key image now secret after failed content at total round n of view works found chose parts raises =
@@ -135,8 +135,12 @@ raised_state key image now secret after failed content at total round n of view 
     ∙ ap (λ (k : ℕ). raised key.image (chosen (leaves_of key) key.image) round (k + n)) (sym of.next) in
     ap (λ (p : SecretParts). let k : KeyState = record { parts = p; image = now; failed = failed } in k) parts
     ∙ ap (λ (l : List ℕ). let k : KeyState = record { parts = key.parts; image = l; failed = failed } in k) image_is
-    ∙ ap (λ (b : Bool). let k : KeyState = record { parts = key.parts; image = raised key.image (chosen (leaves_of key) key.image) round
-        ((kept_by key).next + n); failed = b } in k) works
+    ∙ ap (λ (b : Bool). let k : KeyState = record {
+      parts = key.parts;
+      image = raised key.image (chosen (leaves_of key) key.image) round
+          ((kept_by key).next + n);
+      failed = b;
+    } in k) works
 
 -- the run of leaves
 pub reserved_run : (key : KeyState) (secret : SecretState) (content : KeyContent) (run : RunState) (n : ℕ) → IsOf key secret content

@@ -10,7 +10,7 @@ front_torn : (file image left : List ℕ) → length image ≡ 128 → IsTorn (o
 front_torn file image left whole torn =
     torn_wider file (overwritten file 0 image) left 0 128 64 1
     (subst (λ (n : ℕ). IsTorn file 0 n (overwritten file 0 image)) whole (overwritten_torn file 0 image (omega arith))) torn (omega arith)
-        (omega arith)
+    (omega arith)
 
 module _ {D : Type 0} (told : D → Option (List ℕ)) (may_leave : D → List ℕ → Type 0) (moment : D → ℕ) (left_since : D → ℕ → List ℕ → Type 0)
     (only_now : (disk : D) (image : List ℕ) → left_since disk (moment disk) image → may_leave disk image) where
@@ -18,7 +18,7 @@ module _ {D : Type 0} (told : D → Option (List ℕ)) (may_leave : D → List �
   pub untouched : (disk : D) → LeavesOnly moment left_since disk disk (IsTornOf (may_leave disk) 0 128)
   untouched disk =
       started may_leave moment left_since only_now disk (IsTornOf (may_leave disk) 0 128)
-          (λ image left. (image, left, torn_nowhere image 0 128))
+      (λ image left. (image, left, torn_nowhere image 0 128))
 
   -- the front is written
   pub front_written : (old new : D) (n : ℕ) → n ≡ 128 → ImagesTear (may_leave old) (may_leave new) 0 n

@@ -17,11 +17,11 @@ use Rattle.key_store.proofs.Slots.{length-raised, raised-apart, same_byte, same_
 abbrev pub AreRaised : (old_a old_b a b : Slot) (round next : ℕ) → Type 0
 AreRaised old_a old_b a b round next =
     ((a ≡ record { gate = 1; round = round; next = next }) × (b ≡ old_b))
-        ⊎ ((a ≡ old_a) × (b ≡ record { gate = 1; round = round; next = next }))
+    ⊎ ((a ≡ old_a) × (b ≡ record { gate = 1; round = round; next = next }))
 
 pub slots-raised : (file : List ℕ) (at round next : ℕ) → length file ≡ 128 → IsSlot at → round < 2 ^ 64 → next < 2 ^ 32
     → AreRaised (slot_at file 64) (slot_at file 96) (slot_at (raised file at round next) 64) (slot_at (raised file at round next) 96) round
-        next
+    next
 slots-raised file at round next whole (inl is) small_round small_next =
     let within : at + 13 ≤ length file = omega arith in
     inl (
@@ -67,7 +67,7 @@ pub stands-raised : (leaves : ℕ) (old_a old_b a b : Slot) (round next : ℕ)
     → AreRaised old_a old_b a b round next → (greatest (counted leaves old_a) (counted leaves old_b)).round ≤ round
     → (greatest (counted leaves old_a) (counted leaves old_b)).next ≤ next → next ≤ leaves
     → ((is_valid leaves a || is_valid leaves b) ≡ true) × (greatest (counted leaves a) (counted leaves b) ≡ record
-        { round = round; next = next })
+    { round = round; next = next })
 stands-raised leaves old_a old_b a b round next (inl raised) r n within =
     let low : Standing = counted leaves old_b in
     let low_round : low.round ≤ round = below_second (counted leaves old_a).round low.round round r in
@@ -178,7 +178,7 @@ key_read-raised file at round next c whole slot small_round small_next read late
     let n : (stands leaves file).next ≤ next = below (ap (λ (k : Standing). k.next) kept) higher in
     let e : next ≤ leaves = above (ap (λ (h : MadeHeight). made_leaves h) (sym height)) enough in
     let now = stands-raised leaves (slot_at file 64) (slot_at file 96) _ _ round next
-        (slots-raised file at round next whole slot small_round small_next) r n e in
+    (slots-raised file at round next whole slot small_round small_next) r n e in
     read_raised (raised file at round next) was.types _ (head-raised file at round next whole slot ∙ was.head) now.0
     (content_raised was.types file (raised file at round next) _
     (raised-apart file at round next 13 16 within (before_slot at 13 16 slot (omega arith)))

@@ -34,14 +34,23 @@ check_of : List ℕ → List ℕ → List ℕ
 check_of m hidden = hash_of LayerTag (m ∷ hidden ∷ [])
 
 length-front : (key m hidden : List ℕ) → length (capsule_of key m ++ hash_of LayerTag (m ∷ hidden ∷ [])) ≡ 2272
-length-front key m hidden = omega (arith, length-append (capsule_of key m) (hash_of LayerTag (m ∷ hidden ∷ [])), length-capsule_of key m,
-    (hash_bytes LayerTag (m ∷ hidden ∷ [])).0)
+length-front key m hidden = omega (
+  arith,
+  length-append (capsule_of key m) (hash_of LayerTag (m ∷ hidden ∷ [])),
+  length-capsule_of key m,
+  (hash_bytes LayerTag (m ∷ hidden ∷ [])).0,
+)
 
 pub layer_adds : LayerAdds
 unfolding layer_of
 layer_adds key m body =
-    omega (arith, length-append (capsule_of key m ++ hash_of LayerTag (m ∷ masked m body ∷ [])) (masked m body), length-front key m
-        (masked m body), length-masked m body)
+    omega (
+      arith,
+      length-append (capsule_of key m ++ hash_of LayerTag (m ∷ masked m body ∷ [])) (masked m body),
+      length-front key m
+          (masked m body),
+      length-masked m body,
+    )
 
 layer_capsule : (key m body : List ℕ) → take 2240 (layer_of key m body) ≡ capsule_of key m
 unfolding layer_of
@@ -57,10 +66,10 @@ layer_check : (key m body : List ℕ) → take 32 (drop 2240 (layer_of key m bod
 unfolding layer_of
 layer_check key m body =
     let rest : drop 2240 (capsule_of key m ++ (hash_of LayerTag (m ∷ masked m body ∷ []) ++ masked m body)) ≡ hash_of LayerTag
-        (m ∷ masked m body ∷ []) ++ masked m body
+    (m ∷ masked m body ∷ []) ++ masked m body
     = drop_at (capsule_of key m) (hash_of LayerTag (m ∷ masked m body ∷ []) ++ masked m body) 2240 (length-capsule_of key m) in
     rw (append_assoc, rest) (take_at (hash_of LayerTag (m ∷ masked m body ∷ [])) (masked m body) 32
-        (hash_bytes LayerTag (m ∷ masked m body ∷ [])).0)
+    (hash_bytes LayerTag (m ∷ masked m body ∷ [])).0)
 
 -- ---- peeling is exact
 chosen : (b : Bool) (found p : List ℕ × List ℕ) → cond b (Some found) None ≡ Some p → (b ≡ true) × (found ≡ p)
@@ -85,7 +94,7 @@ opens_next seed layer m0 m body is e =
     let first : m0 ≡ m = ap (λ (p : List ℕ × List ℕ). p.0) c.1 in
     let second : masked m0 (drop 2272 layer) ≡ body = ap (λ (p : List ℕ × List ℕ). p.1) c.1 in
     let same : layer ≡ layer_of (key_of_seed seed) m0 (masked m0 (drop 2272 layer)) =
-        (bytes_eq-Decides layer (layer_of (key_of_seed seed) m0 (masked m0 (drop 2272 layer)))).0 c.0 in
+    (bytes_eq-Decides layer (layer_of (key_of_seed seed) m0 (masked m0 (drop 2272 layer)))).0 c.0 in
     record {
       message = subst (λ (x : List ℕ). IsMessage x) first ((opens_exactly seed (take 2240 layer) m0).0 is).0;
       is = same ∙ ap (λ (p : List ℕ × List ℕ). layer_of (key_of_seed seed) p.0 p.1) c.1;
@@ -106,7 +115,7 @@ peels seed layer m body opens =
     let hidden : drop 2272 layer ≡ masked m body = rw is (layer_hidden (key_of_seed seed) m body) in
     let clear : masked m (drop 2272 layer) ≡ body = rw hidden (masked_twice m body) in
     let test : bytes_eq layer (layer_of (key_of_seed seed) m body) ≡ true = (bytes_eq-Decides layer (layer_of (key_of_seed seed) m body)).1
-        is in
+    is in
     rw (peeled_is seed layer, inside, clear, test) refl
 
 pub peels_exactly : PeelsExactly
@@ -126,13 +135,16 @@ peels_there : (seed seed' layer : List ℕ) (x : List ℕ × List ℕ) → key_o
     → peeled seed' layer ≡ Some x
 peels_there seed seed' layer x same e =
     let opens = (peels_exactly seed layer x.0 x.1).0 e in
-    (peels_exactly seed' layer x.0 x.1).1 (record { message = opens.message; is = opens.is
-        ∙ ap (λ (key : List ℕ). layer_of key x.0 x.1) same })
+    (peels_exactly seed' layer x.0 x.1).1 (record {
+      message = opens.message;
+      is = opens.is
+          ∙ ap (λ (key : List ℕ). layer_of key x.0 x.1) same;
+    })
 
 pub key_peels : KeyPeels
 key_peels seed seed' layer same =
     same_option (peeled seed layer) (peeled seed' layer) (λ x. peels_there seed seed' layer x same)
-        (λ x. peels_there seed' seed layer x (sym same))
+    (λ x. peels_there seed' seed layer x (sym same))
 
 -- ---- what the code returns
 none_from : (o : Option (List ℕ × List ℕ)) → ((m body : List ℕ) → o ≡ Some (m, body) → ⊥) → o ≡ None
@@ -169,7 +181,7 @@ other_opens_nothing seed layer m m0 body check opened_to is-check other opens =
     let same : m0 ≡ m = cc in
     let hidden : drop 2272 layer ≡ masked m body = rw opens.is (layer_hidden (key_of_seed seed) m body) in
     let there : take 32 (drop 2240 layer) ≡ hash_of LayerTag (m ∷ masked m body ∷ []) = rw opens.is (layer_check (key_of_seed seed) m body)
-        in
+    in
     other (is-check ∙ rw (same, hidden) (sym there))
 
 -- the bytes are put together again

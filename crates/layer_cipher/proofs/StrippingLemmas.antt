@@ -98,7 +98,7 @@ closed_there : (seed : List ℕ) (entries : List (List ℕ)) → stripped seed e
 closed_there seed [] e = let none : Some [] ≡ None = sym (stripped-nil seed) ∙ e in cc
 closed_there seed (entry ∷ entries) e =
     first_or_later seed entry entries (peeled seed entry) (stripped seed entries) refl refl (sym (stripped-cons seed entry entries) ∙ e)
-        (closed_there seed entries)
+    (closed_there seed entries)
 
 closed_back : (seed : List ℕ) (entries : List (List ℕ)) (k : ℕ) (x : List ℕ) → k < length entries → get_or entries k x ≡ x → IsClosed seed x
     → stripped seed entries ≡ None
@@ -109,7 +109,7 @@ closed_back seed (entry ∷ entries) zero x below is closed =
     rw (stripped-cons seed entry entries, same, peeled_none seed x closed) refl
 closed_back seed (entry ∷ entries) (suc k) x below is closed =
     stripped-cons seed entry entries ∙ next_none (peeled seed entry) (stripped seed entries)
-        (closed_back seed entries k x (omega arith) is closed)
+    (closed_back seed entries k x (omega arith) is closed)
 
 pub strips_unless_closed : StripsUnlessClosed
 strips_unless_closed seed entries = (closed_there seed entries, λ any. closed_back seed entries any.0 any.1 any.2 any.3 any.4)
@@ -127,7 +127,7 @@ mapped seed (entry ∷ entries) [] all = absurd all
 mapped seed (entry ∷ entries) (body ∷ bodies) all =
     let first : peeled seed entry ≡ Some (all.0.0, body) = (peels_exactly seed entry all.0.0 body).1 all.0.1 in
     let here : option_map (λ (x : List ℕ × List ℕ). x.1) (peeled seed entry) ≡ Some body = ap (option_map (λ (x : List ℕ × List ℕ). x.1))
-        first in
+    first in
     rw (here, mapped seed entries bodies all.1) refl
 
 found_from : (o : Option (List ℕ × List ℕ)) (body : List ℕ) → option_map (λ (x : List ℕ × List ℕ). x.1) o ≡ Some body
@@ -150,7 +150,7 @@ unmapped seed (entry ∷ entries) (body ∷ bodies) e =
 pub strips_in_any_order : StripsInAnyOrder
 strips_in_any_order seed entries others bodies moved e =
     let across : IsPermutation (map Some bodies) (map (found_in seed) others) = rw
-        (mapped seed entries bodies (there seed entries bodies e)) at (IsPermutation-map (found_in seed) entries others moved) in
+    (mapped seed entries bodies (there seed entries bodies e)) at (IsPermutation-map (found_in seed) entries others moved) in
     let rest = from_mapped Some bodies (map (found_in seed) others) across in
     (rest.0, unmapped seed others rest.0 rest.1, rest.2)
 
@@ -158,8 +158,13 @@ strips_in_any_order seed entries others bodies moved e =
 pub key_strips : KeyStrips
 key_strips seed seed' [] same = stripped-nil seed ∙ sym (stripped-nil seed')
 key_strips seed seed' (entry ∷ entries) same =
-    rw (stripped-cons seed entry entries, stripped-cons seed' entry entries, key_peels seed seed' entry same, key_strips seed seed' entries
-        same) refl
+    rw (
+      stripped-cons seed entry entries,
+      stripped-cons seed' entry entries,
+      key_peels seed seed' entry same,
+      key_strips seed seed' entries
+          same,
+    ) refl
 
 -- ---- a loop over the entries
 AllZip-push : {A B : Type 0} (R : A → B → Type 0) (xs : List A) (ys : List B) (x : A) (y : B) → AllZip R xs ys → R x y

@@ -56,7 +56,7 @@ opens_on seed seeds entry middle body outer inner =
 
 last_found : (m : List ℕ) (o : Option (List (List ℕ) × List ℕ)) (ms : List (List ℕ)) (body : List ℕ)
     → option_map {U = List (List ℕ) × List ℕ} (λ (q : List (List ℕ) × List ℕ). (m ∷ q.0, q.1)) o ≡ Some (ms, body) → (rest : List (List ℕ))
-        × (o ≡ Some (rest, body))
+    × (o ≡ Some (rest, body))
 last_found m None ms body e = cc
 last_found m (Some q) ms body e =
     let same : q.1 ≡ body = same_last (m ∷ q.0, q.1) (ms, body) e in
@@ -112,7 +112,7 @@ there [] entries bodies e = let same = same_lists entries bodies (sym (through-n
 there (seed ∷ seeds) entries bodies e =
     let way = through_way seed seeds entries bodies e in
     joined seed seeds entries way.middle bodies ((strips_exactly seed entries way.middle).0 way.first)
-        (there seeds way.middle bodies way.rest)
+    (there seeds way.middle bodies way.rest)
 
 back : (seeds entries bodies : List (List ℕ)) → AllZip (OpensTo seeds) entries bodies → stripped_through seeds entries ≡ Some bodies
 back [] entries bodies all = through-nil entries ∙ ap Some (unsealed_same entries bodies all)
@@ -158,6 +158,6 @@ strips_through_keeps seeds entries bodies entry body e has opens =
     let all = there seeds entries bodies e in
     let long = length_all_zip (OpensTo seeds) entries bodies all in
     let here : OpensTo seeds (get_or entries has.0 entry) (get_or bodies has.0 body) = AllZip-get_or (OpensTo seeds) entries bodies has.0
-        entry body all has.1 in
+    entry body all has.1 in
     let at : OpensTo seeds entry (get_or bodies has.0 body) = rw has.2 at here in
     (has.0, omega (arith, has.1, long), same_body seeds entry (get_or bodies has.0 body) body at opens)

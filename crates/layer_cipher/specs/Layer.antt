@@ -41,4 +41,4 @@ unfoldable pub opened_through : List (List ℕ) → List ℕ → Option (List (L
 opened_through [] layer = Some ([], layer)
 opened_through (seed ∷ seeds) layer =
     option_and_then (λ (p : List ℕ × List ℕ). option_map (λ (q : List (List ℕ) × List ℕ). (p.0 ∷ q.0, q.1)) (opened_through seeds p.1))
-        (peeled seed layer)
+    (peeled seed layer)

@@ -10,7 +10,7 @@ unfoldable pub stripped : List ℕ → List (List ℕ) → Option (List (List �
 stripped seed [] = Some []
 stripped seed (entry ∷ entries) =
     option_and_then (λ (found : List ℕ × List ℕ). option_map (λ (bodies : List (List ℕ)). found.1 ∷ bodies) (stripped seed entries))
-        (peeled seed entry)
+    (peeled seed entry)
 
 -- under the key of the seed, the entry is a layer of this body
 abbrev pub HasBody : List ℕ → List ℕ → List ℕ → Type 0

@@ -61,8 +61,12 @@ length-chains_to : (key : KeyParts) (to : ℕ → ℕ) (n : ℕ) → length (cha
 unfolding chains_to
 length-chains_to key to zero = refl
 length-chains_to key to (suc n) =
-    omega (arith, length-append (chains_to key to n) (chain key.identifier key.q n 0 (to n) (chain_start key n)), length-chains_to key to n,
-        length-value key n (to n))
+    omega (
+      arith,
+      length-append (chains_to key to n) (chain key.identifier key.q n 0 (to n) (chain_start key n)),
+      length-chains_to key to n,
+      length-value key n (to n),
+    )
 
 -- ---- what stands where
 
@@ -84,7 +88,7 @@ value_at key to (suc n) i inside =
     elim (cases_lt i n) [
       | inl lower ↦
           in_front (32 * i) (chains_to key to n) (chain key.identifier key.q n 0 (to n) (chain_start key n))
-              (chain key.identifier key.q i 0 (to i) (chain_start key i))
+          (chain key.identifier key.q i 0 (to i) (chain_start key i))
           (omega (arith, length-chains_to key to n, lower)) (value_at key to n i lower)
       | inr least ↦
           let same : n ≡ i = omega (arith, inside, least) in
@@ -113,11 +117,11 @@ laid_out word c values n l1 l2 l3 =
 
 signature-laid_out : (key : KeyParts) (message : List ℕ)
     → IsLaidOut (ots_signature key message) (u32str (type_number key.width)) (own_randomizer key)
-        (own_values key (own_signed_string key message) (chain_count key.width)) (chain_count key.width)
+    (own_values key (own_signed_string key message) (chain_count key.width)) (chain_count key.width)
 unfolding own_values
 signature-laid_out key message =
     laid_out (u32str (type_number key.width)) (own_randomizer key) (own_values key (own_signed_string key message) (chain_count key.width))
-        (chain_count key.width)
+    (chain_count key.width)
     (length-u32str (type_number key.width)) (length-sha256 (seed_string key.identifier key.q randomizer_place key.seed))
     (length-chains_to key (λ i. coef (own_signed_string key message) i (digit_bits key.width)) (chain_count key.width))
 
@@ -157,7 +161,7 @@ chain_splits identifier q i middle to x inside =
 -- the value of chain i in a signature
 own_value : (key : KeyParts) (message : List ℕ) (i : ℕ) → i < chain_count key.width
     → signature_value (ots_signature key message) i ≡ chain key.identifier key.q i 0
-        (coef (own_signed_string key message) i (digit_bits key.width)) (chain_start key i)
+    (coef (own_signed_string key message) i (digit_bits key.width)) (chain_start key i)
 unfolding own_values
 own_value key message i inside =
     let sig = ots_signature key message in
@@ -167,7 +171,7 @@ own_value key message i inside =
 -- the ends of its chains are the key's
 own_chain_ends : (key : KeyParts) (message : List ℕ) (n : ℕ) → n ≤ chain_count key.width
     → chain_ends key.width key.identifier key.q (own_signed_string key message) (ots_signature key message) n ≡ chains_to key
-        (λ i. 2 ^ digit_bits key.width - 1) n
+    (λ i. 2 ^ digit_bits key.width - 1) n
 unfolding chain_ends chains_to
 own_chain_ends key message zero inside = refl
 own_chain_ends key message (suc n) inside =
@@ -175,11 +179,11 @@ own_chain_ends key message (suc n) inside =
     let digit : ℕ = coef (own_signed_string key message) n (digit_bits key.width) in
     let value = own_value key message n (omega (arith, inside)) in
     let end : chain key.identifier key.q n digit last (signature_value (ots_signature key message) n) ≡ chain key.identifier key.q n 0 last
-        (chain_start key n) =
+    (chain_start key n) =
     ap (chain key.identifier key.q n digit last) value ∙ chain_splits key.identifier key.q n digit last (chain_start key n)
-        (digit_small key.width (own_signed_string key message) n) in
+    (digit_small key.width (own_signed_string key message) n) in
     ap (λ (x : List ℕ). x ++ chain key.identifier key.q n digit last (signature_value (ots_signature key message) n))
-        (own_chain_ends key message n (omega (arith, inside)))
+    (own_chain_ends key message n (omega (arith, inside)))
     ∙ ap (λ (x : List ℕ). chains_to key (λ i. last) n ++ x) end
 
 -- the candidate of a key's own signature is its K
@@ -189,8 +193,8 @@ unfolding own_ends
 own_candidate key message =
     let sig = ots_signature key message in
     ap (λ (c : List ℕ). sha256 (key_string key.identifier key.q
-        (chain_ends key.width key.identifier key.q (signed_string key.width (message_hash key.identifier key.q c message)) sig
-        (chain_count key.width)))) (signature-laid_out key message).c_is
+    (chain_ends key.width key.identifier key.q (signed_string key.width (message_hash key.identifier key.q c message)) sig
+    (chain_count key.width)))) (signature-laid_out key message).c_is
     ∙ ap (λ (x : List ℕ). sha256 (key_string key.identifier key.q x)) (own_chain_ends key message (chain_count key.width) (omega arith))
 
 -- the number of a type fits a word
@@ -209,7 +213,7 @@ candidate_is width identifier q message sig long kind = rw (eq-eqb _ _ long, eq-
 pub leads_to_key : LeadsToKey
 leads_to_key key message =
     let kind = head_word-take (ots_signature key message) (type_number key.width) (type_number_small key.width)
-        (word-ots_signature key message) in
+    (word-ots_signature key message) in
     candidate_is key.width key.identifier key.q message (ots_signature key message) (length-ots_signature key message) kind
     ∙ ap (λ (k : List ℕ). ok k) (own_candidate key message)
   where

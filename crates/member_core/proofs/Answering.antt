@@ -66,7 +66,7 @@ answer-same c a ending runs shows = by_verdict a.ending ending runs shows
   where
     by_verdict : (v : Verdict) (e : Ending) → IsRunning e
         → ShowsOutcome e (if is_open v then Waiting a.stand.at (members_missing c a) else outcome_ended c a.stand v)
-            → answer_behind e ≡ answer_by_end v
+        → answer_behind e ≡ answer_by_end v
     by_verdict Goes Open runs shows = refl
     by_verdict Goes (Done slots) runs shows = absurd shows
     by_verdict Goes (Blamed conviction) runs shows = absurd shows

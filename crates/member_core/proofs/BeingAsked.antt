@@ -53,7 +53,7 @@ needs-no_more m = ap (λ (b : Bool). is_going m.ending && (not false && not b)) 
 -- where no secret is taken, the same secrets are needed
 pub needed-asked : (m : Machine) (own : Own) → IsToBeAsked m → HoldsNeeded (holdings_of m) → (final_stage m.log.shape 1 ≡ m.stage → ⊥)
     → (submit_stage m.log.shape 2 ≡ m.stage → ⊥) → (final_stage m.log.shape 2 ≡ m.stage → ⊥)
-        → HoldsNeeded (asked_at (holdings_of (record m { own = own })) Spoken)
+    → HoldsNeeded (asked_at (holdings_of (record m { own = own })) Spoken)
 needed-asked m own asked needed first bulk second = record {
   first = needed.first ∙ sym (needs-other m (final_stage m.log.shape 1) asked first);
   bulk = needed.bulk ∙ sym (needs-other m (submit_stage m.log.shape 2) asked bulk);
@@ -88,7 +88,7 @@ needed-shuffle m shuffle asked needed first last at = elim (cases_eq shuffle 1) 
       let here : m.stage ≡ final_stage m.log.shape 2 = at ∙ ap (final_stage m.log.shape) two in
       subst (λ (s : Secrets). HoldsNeeded (asked_at (holdings_of (record m { secrets = s })) Spoken))
       (sym (cond-false (shuffle == 1) (record m.secrets { first = None }) (record m.secrets { second = None })
-          (ap (λ (s : ℕ). s == 1) two)))
+      (ap (λ (s : ℕ). s == 1) two)))
       (record {
         first = needed.first ∙ sym (needs-other m (final_stage m.log.shape 1) asked (λ e. omega (arith, e, here)));
         bulk = needed.bulk ∙ sym (needs-other m (submit_stage m.log.shape 2) asked (λ e. omega (arith, e, here)));
@@ -114,7 +114,7 @@ secrets-shuffle c secrets shuffle are = by_case (shuffle == 1)
 pub asked-with : (now after start : Replies) (c : Configuration) (a : Actor) (m : Machine) (secrets : Secrets) (own : Own)
     → StandsFor now start c a (holdings_of m) → AreSecretsOf c secrets
     → AnswersBy after start c (past_of m.log 1) (was_asked m.stage Spoken 1)
-        → IsOwnOf start c (asked_at (holdings_of (record m { secrets = secrets; own = own })) Spoken)
+    → IsOwnOf start c (asked_at (holdings_of (record m { secrets = secrets; own = own })) Spoken)
     → StandsAsked after start c a (holdings_of (record m { secrets = secrets; own = own }))
 asked-with now after start c a m secrets own stands are answers keeps = record {
   can_enter = stands.can_enter;
@@ -145,7 +145,7 @@ pub goes-on_as : (now start : Replies) (c : Configuration) (a : Actor) (m : Mach
     → AnswersBy now start c (past_of m.log 1) (was_asked m.stage Spoken 1)
 goes-on_as now start c a m asked stands apart =
     let before : AnswersBy now start c (past_of m.log 1) (was_asked m.stage m.mood 1) = subst (GoesOn now start c (holdings_of m))
-        asked.unasked stands.conduct in
+    asked.unasked stands.conduct in
     subst (AnswersBy now start c (past_of m.log 1)) (sym (asked-same m 1 asked apart)) before
 
 -- and what it made of its own is the same where it is not asked at a stage of submissions

@@ -111,12 +111,12 @@ pub secrets-for : (c : Configuration) (secrets : Secrets) (shuffle : ℕ) (held 
 secrets-for c secrets shuffle held are first last is = elim (cases_eq shuffle 1) [
   | inl a ↦
       let one : shuffle_secrets secrets shuffle ≡ secrets.first = cond-true (shuffle == 1) secrets.first secrets.second (eq-eqb shuffle 1 a)
-          in
+      in
       subst (λ (s : ℕ). AreShuffleSecrets c s held) (sym a) (held-is secrets.first held (AreShuffleSecrets c 1) (sym one ∙ is) are.first)
   | inr other ↦
       let b : shuffle ≡ 2 = omega arith in
       let two : shuffle_secrets secrets shuffle ≡ secrets.second = cond-false (shuffle == 1) secrets.first secrets.second
-          (ap (λ (s : ℕ). s == 1) b) in
+      (ap (λ (s : ℕ). s == 1) b) in
       subst (λ (s : ℕ). AreShuffleSecrets c s held) (sym b) (held-is secrets.second held (AreShuffleSecrets c 2) (sym two ∙ is) are.second)
 ]
 
@@ -141,7 +141,7 @@ not-less a b le = search rules
 pub needs-here : (m : Machine) (stage : ℕ) → IsToBeAsked m → m.stage ≤ stage → needs (holdings_of m) stage ≡ true
 needs-here m stage asked le =
     both-are (is_going m.ending) (is_mute m.mood) (was_asked m.stage m.mood stage) (going-is m.ending asked.going)
-        (ap is_mute asked.unasked)
+    (ap is_mute asked.unasked)
     (ap (λ (mood : Mood). was_asked m.stage mood stage) asked.unasked ∙ not-less stage m.stage le)
 
 pub some-held : {A : Type 0} (o : Option A) → is_some o ≡ true → IsSome o
@@ -169,7 +169,7 @@ holds-shuffle m shuffle needed asked first last le = elim (cases_eq shuffle 1) [
   | inr other ↦
       let b : shuffle ≡ 2 = omega arith in
       subst (λ (s : ℕ). IsSome (shuffle_secrets m.secrets s)) (sym b)
-          (holds-second m needed asked (omega (arith, le, ap (final_stage m.log.shape) b)))
+      (holds-second m needed asked (omega (arith, le, ap (final_stage m.log.shape) b)))
 ]
 
 -- what is there is not missing
@@ -195,7 +195,7 @@ pub keys-here : (log : Log) (stage : ℕ) (keys : GroupKeys) → AreKeysOf log k
 keys-here log stage keys are least complete =
     let reached : AreReached log 1 stage = record { order = least; at = reaches log 1 stage least complete; at_later = complete } in
     let same : (place : ℕ) → keys_said log.shape (past_of log 1) place ≡ keys_said log.shape (past_of log stage) place = λ place. keys_stay
-        log 1 stage place reached (omega arith) in
+    log 1 stage place reached (omega arith) in
     record {
       first = record { inner = are.said.first.inner ∙ same (inner_place 1); outer = are.said.first.outer ∙ same (outer_place 1) };
       bulk = are.said.bulk ∙ same bulk_place;
@@ -236,7 +236,7 @@ pub shuffle-keys : (c : Configuration) (m : Machine) (past : List (List ℕ)) (s
     → AreShuffleKeys m.log.shape past number keys → AreShuffleKeys (shape_in c) past shuffle keys
 shuffle-keys c m past shuffle number keys formed seat same are =
     subst (λ (s : ℕ). AreShuffleKeys (shape_in c) past s keys) same
-        (subst (λ (s : Shape). AreShuffleKeys s past number keys) (shape-is c m formed seat) are)
+    (subst (λ (s : Shape). AreShuffleKeys s past number keys) (shape-is c m formed seat) are)
 
 -- there is a seed of a pad for each member
 pub seeds-count : (m : Machine) (bulk : BulkSecrets) → IsFormed m → m.secrets.bulk ≡ Some bulk → length bulk.pad_seeds ≡ m.log.shape.members

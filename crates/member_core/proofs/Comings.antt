@@ -43,7 +43,7 @@ heard_so c header post = record { header = header; post = post; content = conten
 
 by-end : (replies : Replies) (c : Configuration) (a : Actor) (bytes : List ℕ) → is_open a.ending ≡ true
     → answer_to replies c a bytes ≡ unwrap_or (idle_answer c a.log (admission_of_bytes c.roster c.round bytes))
-        (answer_by_end (actor_behind_delivery replies c a bytes).ending)
+    (answer_by_end (actor_behind_delivery replies c a bytes).ending)
 unfolding answer_to
 by-end replies c a bytes still = cond-true (is_open a.ending) _ Finished still
 
@@ -53,7 +53,7 @@ idle : (replies : Replies) (c : Configuration) (a : Actor) (bytes : List ℕ) (r
 idle replies c a bytes r taken still admits told =
     by-end replies c a bytes still
     ∙ ap (λ (o : Option Taken). unwrap_or o (answer_by_end (actor_behind_delivery replies c a bytes).ending))
-        (ap (idle_answer c a.log) admits ∙ told)
+    (ap (idle_answer c a.log) admits ∙ told)
 
 busy : (replies : Replies) (c : Configuration) (a : Actor) (bytes : List ℕ) (b : Actor) (r : Result (Header × List ℕ) PostRefusal)
     → is_open a.ending ≡ true → admission_of_bytes c.roster c.round bytes ≡ r → idle_answer c a.log r ≡ None
@@ -61,7 +61,7 @@ busy : (replies : Replies) (c : Configuration) (a : Actor) (bytes : List ℕ) (b
 busy replies c a bytes b r still admits told behind =
     by-end replies c a bytes still
     ∙ ap (λ (o : Option Taken). unwrap_or o (answer_by_end (actor_behind_delivery replies c a bytes).ending))
-        (ap (idle_answer c a.log) admits ∙ told)
+    (ap (idle_answer c a.log) admits ∙ told)
     ∙ ap (λ (x : Actor). answer_by_end x.ending) behind
 
 -- ---- deliveries that change nothing
@@ -107,7 +107,7 @@ hears c bytes post header spelled e = rw (spelled, e) refl
 pub own-comes : (replies : Replies) (c : Configuration) (a : Actor) (bytes : List ℕ) (post : Post) (header : Header)
     → is_open a.ending ≡ true
     → frame_of bytes ≡ Ok post → framed_admission_of c.roster c.round post ≡ Ok header → (header.sender == c.number) ≡ true
-        → ComesTo replies c a bytes a Own
+    → ComesTo replies c a bytes a Own
 own-comes replies c a bytes post header still spelled e own = record {
   behind = nothing-delivered replies c a bytes still (hears c bytes post header spelled e
       ∙ cond-true (header.sender == c.number) None _ own);
@@ -130,7 +130,7 @@ new-idle c a header post other apart = cond-false (header.sender == c.number) (S
 -- where a fault is shown, it ends the round
 fault-comes : (replies : Replies) (c : Configuration) (a : Actor) (bytes : List ℕ) (header : Header) (post : Post) (verdict : Verdict)
     → is_open a.ending ≡ true → IsOfAnother c.roster c.round c.number bytes header post
-        → is_content post.content (kept_in a.log (slot_named header)) ≡ false
+    → is_content post.content (kept_in a.log (slot_named header)) ≡ false
     → fault_shown c (kept_in a.log) bytes ≡ Some verdict → answer_by_end verdict ≡ Evidence
     → ComesTo replies c a bytes (record a { ending = verdict }) Evidence
 fault-comes replies c a bytes header post verdict still is apart shown told =
@@ -202,7 +202,7 @@ pub same-comes : (replies : Replies) (c : Configuration) (a : Actor) (bytes : Li
     → is_open a.ending ≡ true
     → (LeavesAll (answer_to replies c a bytes) → actor_behind_delivery replies c a bytes ≡ a)
     → IsOfAnother c.roster c.round c.number bytes header post → found_of (shape_in c) (kept_in a.log (slot_named header)) post.content ≡
-        Kept
+    Kept
     → ComesTo replies c a bytes a Same
 same-comes replies c a bytes header post still steady is found =
     let same = found-kept (shape_in c) (kept_in a.log (slot_named header)) post.content found in
@@ -214,7 +214,7 @@ same-comes replies c a bytes header post still steady is found =
 pub malformed-comes : (replies : Replies) (c : Configuration) (a : Actor) (bytes : List ℕ) (header : Header) (post : Post)
     → is_open a.ending ≡ true
     → IsOfAnother c.roster c.round c.number bytes header post → found_of (shape_in c) (kept_in a.log (slot_named header)) post.content ≡
-        Malformed
+    Malformed
     → ComesTo replies c a bytes (record a { ending = conviction c.round header.sender Outside (bytes ∷ []) }) Evidence
 malformed-comes replies c a bytes header post still is found =
     let at = not-kept (shape_in c) (kept_in a.log (slot_named header)) post.content Malformed found (λ e. cc) in
@@ -229,7 +229,7 @@ pub other-comes : (replies : Replies) (c : Configuration) (a : Actor) (bytes : L
     → IsOfAnother c.roster c.round c.number bytes header post → kept_in a.log (slot_named header) ≡ Some first
     → found_of (shape_in c) (kept_in a.log (slot_named header)) post.content ≡ Other
     → ComesTo replies c a bytes (record a { ending = conviction c.round header.sender Equivocation (post_spelling first ∷ bytes ∷ []) })
-        Evidence
+    Evidence
 other-comes replies c a bytes header post first still is there found =
     let at = not-kept (shape_in c) (kept_in a.log (slot_named header)) post.content Other found (λ e. cc) in
     let reads = body-reads (shape_in c) (kept_in a.log (slot_named header)) post.content Other at.body (λ e. cc) in

@@ -128,7 +128,7 @@ pub ended-stands : {A : Type 0} (replies_of : A → Replies) (start : Replies) (
     (bytes : List ℕ)
     (m : Membership A)
     → IsBytes bytes → HasEnded m.holds.ending → Stands replies_of start c delivered m
-        → Stands replies_of start c (delivered ++ bytes ∷ []) m
+    → Stands replies_of start c (delivered ++ bytes ∷ []) m
 ended-stands replies_of start c delivered bytes m are is stands = record {
   strings = more-bytes delivered bytes stands.strings are;
   stands = subst (λ (a : Actor). StandsFor (replies_of m.conduct) start c a m.holds)

@@ -55,7 +55,7 @@ pub plain-due : (now : Replies) (m : Machine) (kind : StageKind) (body : Body) �
     → kind_of_stage m.log.shape m.stage ≡ Some kind → IsPlain kind
     → IsBody m.log.shape m.stage body
     → ((start : Replies) (c : Configuration) (a : Actor) → StandsFor now start c a (holdings_of m)
-        → body ≡ own_body_at c (descriptor_made start c a.stand.past) a.stand.past a.stand.at kind)
+    → body ≡ own_body_at c (descriptor_made start c a.stand.past) a.stand.past a.stand.at kind)
     → 76 + length (body_text body) ≤ POST_LIMIT
 plain-due now m kind body formed asked at plain fits told =
     let group : IsOfGroup m = of-group m formed in
@@ -69,7 +69,7 @@ pub keys-due : (now : Replies) (m : Machine) (body : Body) → IsFormed m → Is
 keys-due now m body formed asked at said =
     let row : body ≡ keys_row formed.entered.0 = said formed.entered.0 formed.entered.1.secrets in
     let fits : IsBody m.log.shape m.stage body = subst (IsBody m.log.shape m.stage) (sym row)
-        (keys-fit formed.entered.0 m.log.shape m.stage at) in
+    (keys-fit formed.entered.0 m.log.shape m.stage at) in
     let told : (start : Replies) (c : Configuration) (a : Actor) → StandsFor now start c a (holdings_of m) → body ≡ keys_row c
     = λ start c a stands. said c stands.entered.secrets in
     record { fits = fits; short = plain-due now m Keys body formed asked at tt fits told; told = told }
@@ -107,9 +107,9 @@ pub check-due : (now : Replies) (m : Machine) (body : Body) → IsFormed m → I
     → body ≡ check_row m.log.shape (past_of m.log m.stage) m.stage → IsDue now m Check body
 check-due now m body formed asked at said =
     let fits : IsBody m.log.shape m.stage body = subst (IsBody m.log.shape m.stage) (sym said)
-        (check-form m.log.shape (past_of m.log m.stage) m.stage m.stage at) in
+    (check-form m.log.shape (past_of m.log m.stage) m.stage m.stage at) in
     let told : (start : Replies) (c : Configuration) (a : Actor) → StandsFor now start c a (holdings_of m)
-        → body ≡ check_row (shape_in c) (contents_of a.stand.past) a.stand.at
+    → body ≡ check_row (shape_in c) (contents_of a.stand.past) a.stand.at
     = λ start c a stands. said ∙ row-moved check_row now start c a m formed stands in
     record { fits = fits; short = plain-due now m Check body formed asked at tt fits told; told = told }
 
@@ -127,13 +127,13 @@ go-due now m shuffle body formed asked at said =
     let group : IsOfGroup m = of-group m formed in
     let least = group.least in
     let fits : IsBody m.log.shape m.stage body = subst (IsBody m.log.shape m.stage) (sym said)
-        (go-form m.log.shape (past_of m.log m.stage) m.stage m.stage shuffle m.own.inner_ciphertext at) in
+    (go-form m.log.shape (past_of m.log m.stage) m.stage m.stage shuffle m.own.inner_ciphertext at) in
     let told : (start : Replies) (c : Configuration) (a : Actor) → StandsFor now start c a (holdings_of m)
     → body ≡ go_row (shape_in c) (contents_of a.stand.past) a.stand.at
-        (own_submission c (descriptor_made start c a.stand.past) (contents_of a.stand.past) shuffle).inner_ciphertext
+    (own_submission c (descriptor_made start c a.stand.past) (contents_of a.stand.past) shuffle).inner_ciphertext
     = λ start c a stands.
     let inner : m.own.inner_ciphertext ≡ (own_submission c (descriptor_made start c a.stand.past) (contents_of a.stand.past)
-        shuffle).inner_ciphertext
+    shuffle).inner_ciphertext
     = elim (cases_eq shuffle 1) [
       | inl one ↦ subst (λ (s : ℕ). m.own.inner_ciphertext ≡ (own_submission c (descriptor_made start c a.stand.past)
           (contents_of a.stand.past) s).inner_ciphertext) (sym one)
@@ -141,7 +141,7 @@ go-due now m shuffle body formed asked at said =
           first-kept now start c a m formed asked stands (omega (arith, stage_is, least)) (omega (arith, stage_is)))
       | inr other ↦ (let within = placed.kind_in in let two : shuffle ≡ 2 = omega (arith, within.0, within.1) in
           subst (λ (s : ℕ). m.own.inner_ciphertext ≡ (own_submission c (descriptor_made start c a.stand.past) (contents_of a.stand.past)
-              s).inner_ciphertext) (sym two)
+          s).inner_ciphertext) (sym two)
           (let stage_is : m.stage ≡ final_stage m.log.shape 2 - 1 = placed.at ∙ ap (λ (s : ℕ). final_stage m.log.shape s - 1) two in
           second-kept now start c a m formed asked stands (omega (arith, stage_is))))
     ] in
@@ -154,10 +154,10 @@ go-due now m shuffle body formed asked at said =
 pub turn-due : (now : Replies) (m : Machine) (shuffle : ℕ) (body : Body) → IsFormed m → IsReady m → IsToBeAsked m
     → kind_of_stage m.log.shape m.stage ≡ Some (Shuffle shuffle m.seat.number)
     → ((c : Configuration) → IsSeatOf c m.seat → AreSecretsOf c m.secrets → body ≡ turn_row c (past_of m.log m.stage) shuffle)
-        → IsDue now m (Shuffle shuffle m.seat.number) body
+    → IsDue now m (Shuffle shuffle m.seat.number) body
 turn-due now m shuffle body formed ready asked at said =
     let placed : IsPlaced m.log.shape m.stage (Shuffle shuffle m.seat.number) = kind-place m.log.shape m.stage
-        (Shuffle shuffle m.seat.number) at in
+    (Shuffle shuffle m.seat.number) at in
     let within = placed.kind_in in
     let own : IsMachineOf formed.entered.0 m = formed.entered.1 in
     let group : IsOfGroup m = of-group m formed in
@@ -166,9 +166,9 @@ turn-due now m shuffle body formed ready asked at said =
     (record { form = formed.log; complete = ready.past; stand = formed.stand; first = within.0; last = within.1 })
     (shape-is formed.entered.0 m formed own.seat) (sym own.seat.number) group.first group.last group.most placed.at at) in
     let told : (start : Replies) (c : Configuration) (a : Actor) → StandsFor now start c a (holdings_of m)
-        → body ≡ turn_row c (contents_of a.stand.past) shuffle
+    → body ≡ turn_row c (contents_of a.stand.past) shuffle
     = λ start c a stands. said c (seat-of c m formed stands.entered) stands.entered.secrets
-        ∙ ap (λ (past : List (List ℕ)). turn_row c past shuffle) (past-heard now start c a m stands) in
+    ∙ ap (λ (past : List (List ℕ)). turn_row c past shuffle) (past-heard now start c a m stands) in
     record { fits = fits; short = plain-due now m (Shuffle shuffle m.seat.number) body formed asked at tt fits told; told = told }
 
 -- ---- pads
@@ -182,33 +182,38 @@ pub pads-due : (now : Replies) (m : Machine) (body : Body) (opened : List (Optio
     → opened ≡ items_opened m.log.shape (past_of m.log m.stage) 1 → length opened ≡ m.log.shape.members
     → ((c : Configuration) → IsSeatOf c m.seat → AreSecretsOf c m.secrets → m.own.pad ≡ own_pad (own_pad_seeds c) c.number c.message
     → opened ≡ items_opened (shape_in c) (past_of m.log m.stage) 1 → body ≡ pads_row c m.own.descriptor (past_of m.log m.stage))
-        → IsDue now m Pad body
+    → IsDue now m Pad body
 pads-due now m body opened formed asked at are count said =
     let placed : IsPlaced m.log.shape m.stage Pad = kind-place m.log.shape m.stage Pad at in
     let own : IsMachineOf formed.entered.0 m = formed.entered.1 in
     let stage_is = placed.at in
     let c0 : Configuration = with_message formed.entered.0 own.hidden in
-    let seat : IsSeatOf c0 m.seat = record { shape = own.seat.shape; group = own.seat.group; round = own.seat.round; number =
-        own.seat.number } in
+    let seat : IsSeatOf c0 m.seat = record {
+      shape = own.seat.shape;
+      group = own.seat.group;
+      round = own.seat.round;
+      number =
+          own.seat.number;
+    } in
     let secrets : AreSecretsOf c0 m.secrets = other-message formed.entered.0 own.hidden m own.secrets in
     let shape : m.log.shape ≡ shape_in c0 = shape-is c0 m formed seat in
     let items : opened ≡ items_opened (shape_in c0) (past_of m.log m.stage) 1 = are
-        ∙ ap (λ (s : Shape). items_opened s (past_of m.log m.stage) 1) shape in
+    ∙ ap (λ (s : Shape). items_opened s (past_of m.log m.stage) 1) shape in
     let row : body ≡ pads_row c0 m.own.descriptor (past_of m.log m.stage) = said c0 seat secrets own.pad items in
     let many : length (items_opened (shape_in c0) (past_of m.log m.stage) 1) ≡ (shape_in c0).members = sym
-        (ap (λ (o : List (Option (List ℕ))). length o) items) ∙ count ∙ ap (λ (s : Shape). s.members) shape in
+    (ap (λ (o : List (Option (List ℕ))). length o) items) ∙ count ∙ ap (λ (s : Shape). s.members) shape in
     let fits : IsBody m.log.shape m.stage body = subst (IsBody m.log.shape m.stage) (sym row)
     (subst (λ (s : Shape). IsBody s m.stage (pads_row c0 m.own.descriptor (past_of m.log m.stage))) (sym shape)
     (pads-fit c0 m.own.descriptor (past_of m.log m.stage) m.stage (ap (λ (s : Shape). kind_of_stage s m.stage) (sym shape) ∙ at)
-        own.hidden_short many)) in
+    own.hidden_short many)) in
     let told : (start : Replies) (c : Configuration) (a : Actor) → StandsFor now start c a (holdings_of m)
-        → body ≡ pads_row c (descriptor_made start c a.stand.past) (contents_of a.stand.past)
+    → body ≡ pads_row c (descriptor_made start c a.stand.past) (contents_of a.stand.past)
     = λ start c a stands.
     let here = seat-of c m formed stands.entered in
     said c here stands.entered.secrets (pad-kept now start c a m asked stands (omega (arith, stage_is)))
     (are ∙ ap (λ (s : Shape). items_opened s (past_of m.log m.stage) 1) (shape-is c m formed here))
     ∙ ap (λ (d : List ℕ). pads_row c d (past_of m.log m.stage))
-        (descriptor-kept now start c a m formed asked stands (omega (arith, stage_is)))
+    (descriptor-kept now start c a m formed asked stands (omega (arith, stage_is)))
     ∙ ap (pads_row c (descriptor_made start c a.stand.past)) (past-heard now start c a m stands) in
     record { fits = fits; short = plain-due now m Pad body formed asked at tt fits told; told = told }
   where
@@ -223,8 +228,14 @@ pads-due now m body opened formed asked at are count said =
         shuffle_for : (o : Option ShuffleSecrets) (shuffle : ℕ) → IfSome o (AreShuffleSecrets c shuffle)
             → IfSome o (AreShuffleSecrets (with_message c message) shuffle)
         shuffle_for None shuffle are = tt
-        shuffle_for (Some secrets) shuffle are = record { inner = are.inner; outer = are.outer; order = are.order; inner_opening =
-            are.inner_opening; outer_opening = are.outer_opening }
+        shuffle_for (Some secrets) shuffle are = record {
+          inner = are.inner;
+          outer = are.outer;
+          order = are.order;
+          inner_opening =
+              are.inner_opening;
+          outer_opening = are.outer_opening;
+        }
 
         bulk_for : (o : Option BulkSecrets) → IfSome o (AreBulkSecrets c) → IfSome o (AreBulkSecrets (with_message c message))
         bulk_for None are = tt
@@ -255,7 +266,7 @@ pub final-due : (now : Replies) (m : Machine) (shuffle : ℕ) (body : Body) (sec
     → IsToBeAsked m → kind_of_stage m.log.shape m.stage ≡ Some (Final shuffle)
     → ((c : Configuration) → AreSecretsOf c m.secrets → AreShuffleSecrets c shuffle secrets)
     → body ≡ final_row m.log.shape (posts_before m.log m.stage) m.stage secrets.inner secrets.outer secrets.outer_opening
-        → IsDue now m (Final shuffle) body
+    → IsDue now m (Final shuffle) body
 final-due now m shuffle body secrets formed ready asked at are said =
     let placed : IsPlaced m.log.shape m.stage (Final shuffle) = kind-place m.log.shape m.stage (Final shuffle) at in
     let within = placed.kind_in in
@@ -264,7 +275,7 @@ final-due now m shuffle body secrets formed ready asked at are said =
     let outer = ap (λ (s : List ℕ). length s) own.outer ∙ (hash_bytes _ _).0 in
     let opening = ap (λ (s : List ℕ). length s) own.outer_opening ∙ (hash_bytes _ _).0 in
     let short = final-short m.log m.stage shuffle m.seat.number secrets.inner secrets.outer secrets.outer_opening (closed-by m formed ready)
-        placed inner outer opening in
+    placed inner outer opening in
     let most : m.stage ≤ final_stage m.log.shape 2 = elim (cases_eq shuffle 1) [
       | inl one ↦ omega (arith, placed.at, ap (final_stage m.log.shape) one)
       | inr other ↦ (let two : shuffle ≡ 2 = omega (arith, within.0, within.1) in omega
@@ -278,10 +289,10 @@ final-due now m shuffle body secrets formed ready asked at are said =
       told = λ start c a stands. (
           let its = are c stands.entered.secrets in
           said ∙ posts-moved (λ s posts stage. final_row s posts stage secrets.inner secrets.outer secrets.outer_opening) now start c a m
-              formed stands
+          formed stands
           ∙ ap (λ (x : List ℕ). final_row (shape_in c) a.stand.past a.stand.at x secrets.outer secrets.outer_opening) its.inner
           ∙ ap (λ (x : List ℕ). final_row (shape_in c) a.stand.past a.stand.at (own_key_seed c (inner_place shuffle)) x
-              secrets.outer_opening) its.outer
+          secrets.outer_opening) its.outer
           ∙ ap (final_row (shape_in c) a.stand.past a.stand.at (own_key_seed c (inner_place shuffle))
-              (own_key_seed c (outer_place shuffle))) its.outer_opening);
+          (own_key_seed c (outer_place shuffle))) its.outer_opening);
     }

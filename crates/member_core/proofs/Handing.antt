@@ -54,8 +54,13 @@ kept-few log number =
 made-few : (h : Holdings) → IsLog h.log → length (posts_made h) ≤ 27
 made-few h is =
     let most = is.shape.most in
-    omega (arith, length-append (own_posts_kept h.log h.number) (option_to_list h.stray), kept-few h.log h.number, one-at-most h.stray,
-        most)
+    omega (
+      arith,
+      length-append (own_posts_kept h.log h.number) (option_to_list h.stray),
+      kept-few h.log h.number,
+      one-at-most h.stray,
+      most,
+    )
 
 -- the number of those that were handed out is small
 pub handed-small : (m : Machine) (post : Post) → IsFormed m → slice_get (posts_made (holdings_of m)) m.handed ≡ Some post → m.handed < 27
@@ -210,7 +215,7 @@ pub next-plain : {A : Type 0} (replies_of : A → Replies) (start : Replies) (c 
     → o ≡ option_map post_spelling (slice_get (posts_of c delivered) m.holds.handed)
 next-plain replies_of start c delivered m o e stands plain =
     e ∙ ap (λ (posts : List Post). option_map post_spelling (slice_get posts m.holds.handed))
-        (plain-made replies_of start c delivered m stands plain)
+    (plain-made replies_of start c delivered m stands plain)
 
 pub next-said : {A : Type 0} (replies_of : A → Replies) (c : Configuration) (delivered : List (List ℕ)) (m : Membership A)
     (o : Option (List ℕ))

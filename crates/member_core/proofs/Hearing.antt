@@ -183,27 +183,27 @@ storable m bytes header post f are is found =
         ∙ (admitted-of (roster_of m.roster) m.seat.round m.seat.number bytes header post are is).reads) in
         subst (λ (h : Header). StandsIn m.log.shape (slot_named h) post.content) same
         (stand-read m.log.shape post.content content (content-bytes (roster_of m.roster) m.seat.round m.seat.number bytes header post are
-            is) read)
+        is) read)
 
 -- behind it the member stands for the pure machine
 pub takes-new : (now later start : Replies) (c : Configuration) (delivered : List (List ℕ)) (m : Machine) (bytes : List ℕ) (header : Header)
     (post : Post)
     (behind : Holdings) (taken : Taken) → IsFormed m → IsOpen m.ending
-        → IsOfAnother (roster_of m.roster) m.seat.round m.seat.number bytes header post
+    → IsOfAnother (roster_of m.roster) m.seat.round m.seat.number bytes header post
     → found_in m header post.content ≡ New → StandsFor now start c (actor_after start c delivered) (holdings_of m)
     → IsRunning behind.ending → taken ≡ answer_behind behind.ending
     → ((a : Actor) → StandsFor now start c a (holdings_of m)
     → StandsFor later start c (actor_behind_steps start c (actor_behind_repeat start c
-        (record a { log = filled a.log (slot_named header) post }) a.mood)) behind)
+    (record a { log = filled a.log (slot_named header) post }) a.mood)) behind)
     → TakesAs later start c delivered bytes behind taken
 takes-new now later start c delivered m bytes header post behind taken f going is found s runs told goes =
     let a : Actor = actor_after start c delivered in
     let comes = new-comes start c a bytes header post (goes-on c a (holdings_of m) s.at going)
-        (another-so now start c a m bytes header post s is)
+    (another-so now start c a m bytes header post s is)
     (found-so now start c a m header post.content New f s found) in
     let stands = goes a s in
     let b : Actor = actor_behind_steps start c (actor_behind_repeat start c (record a { log = filled a.log (slot_named header) post })
-        a.mood) in
+    a.mood) in
     record {
       stands = subst (λ (x : Actor). StandsFor later start c x behind) (sym comes.behind) stands;
       answer = told ∙ answer-same c b behind.ending runs stands.at.ending ∙ sym comes.answer;
@@ -218,7 +218,7 @@ pub new-busy : (now start : Replies) (c : Configuration) (delivered : List (List
 new-busy now start c delivered m bytes header post f going is found s leaves =
     let a : Actor = actor_after start c delivered in
     let comes = new-comes start c a bytes header post (goes-on c a (holdings_of m) s.at going)
-        (another-so now start c a m bytes header post s is)
+    (another-so now start c a m bytes header post s is)
     (found-so now start c a m header post.content New f s found) in
     by_verdict _ (subst LeavesAll comes.answer leaves)
   where
@@ -255,7 +255,7 @@ blame-comes : (now start : Replies) (c : Configuration) (delivered : List (List 
     → found_in m header post.content ≡ found → StandsFor now start c (actor_after start c delivered) (holdings_of m)
     → let a = actor_after start c delivered in
     ComesTo start c a bytes (record a { ending = verdict_shown m.seat.round header bytes (kept_in m.log (slot_named header)) found })
-        Evidence
+    Evidence
 blame-comes now start c delivered m bytes header post found kind f going is told s = elim kind [
   | inl alone ↦
       let e : found_in m header post.content ≡ Malformed = told ∙ alone in
@@ -268,9 +268,9 @@ blame-comes now start c delivered m bytes header post found kind f going is told
       let e : found_in m header post.content ≡ Other = told ∙ beside in
       let first = found-other (shape_of m.seat.shape) (kept_in m.log (slot_named header)) post.content e in
       let there : kept_in a.log (slot_named header) ≡ Some first.0 = ap (λ (log : Log). kept_in log (slot_named header)) (sym s.at.log)
-          ∙ first.1 in
+      ∙ first.1 in
       let comes = other-comes start c a bytes header post first.0 still heard there
-          (found-so now start c a m header post.content Other f s e) in
+      (found-so now start c a m header post.content Other f s e) in
       subst (λ (v : Verdict). ComesTo start c a bytes (record a { ending = v }) Evidence)
       (ap (λ (round : ℕ). verdict_shown round header bytes (Some first.0) Other) (sym s.entered.round)
       ∙ sym (ap (λ (o : Option Post). verdict_shown m.seat.round header bytes o Other) first.1)
@@ -291,8 +291,19 @@ pub formed-ended : (m : Machine) (ending : Ending) → IsFormed m → IsFormed (
 formed-ended m ending f =
     let e : IsMachineOf f.entered.0 m = f.entered.1 in
     record {
-      entered = (f.entered.0, record { roster = e.roster; seat = e.seat; message = e.message; secrets = no-secrets-of f.entered.0; hidden =
-          e.hidden; hidden_short = e.hidden_short; pad = e.pad });
+      entered = (
+        f.entered.0,
+        record {
+          roster = e.roster;
+          seat = e.seat;
+          message = e.message;
+          secrets = no-secrets-of f.entered.0;
+          hidden =
+              e.hidden;
+          hidden_short = e.hidden_short;
+          pad = e.pad;
+        },
+      );
       message = f.message;
       log = f.log;
       shape = f.shape;
@@ -405,7 +416,7 @@ admission-so now start c a m post answer s e =
 
 pub takes-refused : (now start : Replies) (c : Configuration) (delivered : List (List ℕ)) (m : Machine) (bytes : List ℕ) (post : Post)
     (refusal : PostRefusal) → IsOpen m.ending → frame_of bytes ≡ Ok post
-        → Err refusal ≡ framed_admission_of (roster_of m.roster) m.seat.round post
+    → Err refusal ≡ framed_admission_of (roster_of m.roster) m.seat.round post
     → StandsFor now start c (actor_after start c delivered) (holdings_of m)
     → TakesAs now start c delivered bytes (holdings_of m) (Ignored refusal)
 takes-refused now start c delivered m bytes post refusal going framed e s =

@@ -33,7 +33,7 @@ from-next log number stray stage lt =
     let split : n - stage ≡ suc (n - (stage + 1)) = omega (arith, lt) in
     ap (λ (k : ℕ). filter_map (own_kept log number) (range_with_len stage k) ++ option_to_list stray) split
     ∙ cons-more (own_kept log number stage) (filter_map (own_kept log number) (range_with_len (stage + 1) (n - (stage + 1))))
-        (option_to_list stray)
+    (option_to_list stray)
 
 pub from-last : (log : Log) (number : ℕ) (stray : Option Post) (stage : ℕ) → stage_count log.shape ≤ stage
     → posts_from log number stray stage ≡ option_to_list stray

@@ -56,18 +56,18 @@ pub verdict-is : (c : Configuration) (a : Actor) (h : Holdings) (posts : List Po
 verdict-is c a h posts entered at next =
     let all : List Post = a.stand.past ++ posts in
     sym (ap (λ (r : Roster). verdict_of (record { roster = r; round = h.round; posts = posts_before h.log (h.stage + 1); stage = h.stage }))
-        entered.roster
+    entered.roster
     ∙ ap (λ (n : ℕ). verdict_of (record { roster = c.roster; round = n; posts = posts_before h.log (h.stage + 1); stage = h.stage }))
-        entered.round
+    entered.round
     ∙ ap (λ (ps : List Post). verdict_of (record { roster = c.roster; round = c.round; posts = ps; stage = h.stage }))
-        (posts-are h.log (h.stage + 1) all next)
+    (posts-are h.log (h.stage + 1) all next)
     ∙ ap (λ (n : ℕ). verdict_of (record { roster = c.roster; round = c.round; posts = all; stage = n })) at.stage)
 
 -- what it shows behind the stage, by the verdict
 abbrev pub outcome_past : Configuration → Actor → List Post → Verdict → Outcome
 outcome_past c a posts v =
     if is_open v then WaitingFor (stand_behind c a.stand posts).at
-        (members_missing c (actor_behind_stage c a (stand_behind c a.stand posts)))
+    (members_missing c (actor_behind_stage c a (stand_behind c a.stand posts)))
     else outcome_ended c (stand_behind c a.stand posts) v
 
 pub outcome-is : (c : Configuration) (a : Actor) (posts : List Post) (v : Verdict)
@@ -103,7 +103,7 @@ pub stands-past : (m : Machine) (keys : Option GroupKeys) (seen : Seen) (secrets
     → before m.log (m.stage + 1) ≡ Some (a.stand.past ++ posts)
     → ShowsOutcome ending (outcome_of c (actor_behind_stage c a (stand_behind c a.stand posts)))
     → StandsFor now start c (actor_behind_stage c a (stand_behind c a.stand posts))
-        (holdings_of (machine_past m keys seen secrets opened slots ending))
+    (holdings_of (machine_past m keys seen secrets opened slots ending))
 unfolding stand_behind
 stands-past m keys seen secrets opened slots ending formed ready there left now start c a posts is next shows = record {
   can_enter = is.can_enter;

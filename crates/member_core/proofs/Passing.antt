@@ -57,7 +57,7 @@ next-past log stage past e full =
       here = ap all_some (posts_in-past log stage (stage + 1) posts (omega arith) all.1) ∙ all_some-map (slice_range posts a b);
       next = before-front log (stage + 1) (stage + 1) posts (omega arith) all.1
           ∙ ap (λ (ps : List Post). Some ps) (front-next posts a b rises
-              ∙ ap (λ (ps : List Post). ps ++ slice_range posts a b) (sym past-is));
+          ∙ ap (λ (ps : List Post). ps ++ slice_range posts a b) (sym past-is));
     }
   where
     all : (posts : List Post) × (before log (stage + 1) ≡ Some posts)
@@ -76,7 +76,7 @@ spoken-or-silent m formed ready there = by_mood m.mood refl ready.mood
     empty : is_slot m.log.shape m.stage m.seat.number ≡ true → IsEmptyFrom m.log m.seat.number m.stage → ⊥
     empty speaks none =
         let kept = kept-post m.log (m.stage + 1) (record { stage = m.stage; sender = m.seat.number }) formed.log there speaks (omega arith)
-            in
+        in
         let both : None ≡ Some kept.0 = sym (none m.stage (omega arith)) ∙ kept.1 in
         cc
 
@@ -106,7 +106,7 @@ asked-behind m other formed ready there speaks = elim (spoken-or-silent m formed
   | inl spoken ↦ sym (ap (λ (mood : Mood). was_asked m.stage mood other) spoken)
   | inr silent ↦
       less-next other m.stage (λ same. (let both : true ≡ false = sym speaks ∙ ap (λ (s : ℕ). is_slot m.log.shape s m.seat.number) same
-          ∙ silent.1 in cc))
+      ∙ silent.1 in cc))
       ∙ sym (ap (λ (mood : Mood). was_asked m.stage mood other) silent.0)
 ]
 

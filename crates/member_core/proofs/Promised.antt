@@ -39,8 +39,12 @@ configured c enters key = record { enter = enters; key = key }
 
 waits-for : (c : Configuration) (delivered : List (List ℕ)) (stage : ℕ) (named : List ℕ) → CanEnter c → All IsBytes delivered
     → result_of c delivered ≡ WaitingFor stage named → WaitsIfOpen c delivered (state_of (WaitingFor stage named))
-waits-for c delivered stage named enters are e = record { named = named; bits_are = refl; names = open_names c delivered stage named enters
-    are e }
+waits-for c delivered stage named enters are e = record {
+  named = named;
+  bits_are = refl;
+  names = open_names c delivered stage named enters
+      are e;
+}
 
 convicts : (c : Configuration) (delivered : List (List ℕ)) (t : Transcript) → IsConfiguration c → All IsBytes delivered
     → result_of c delivered ≡ BlamedBy t → ConvictsFaulty c delivered (transcript_spelling t) t.accused t.claim
@@ -187,6 +191,6 @@ pub plain-goes-on : {A : Type 0} (replies_of : A → Replies) (old new : Members
     → ((start : Replies) (c : Configuration) (delivered : List (List ℕ)) → Stands replies_of start c delivered old
     → Stands replies_of start c (more delivered) new)
     → (c : Configuration) (delivered : List (List ℕ)) → IsPlainMember replies_of c delivered old
-        → IsPlainMember replies_of c (more delivered) new
+    → IsPlainMember replies_of c (more delivered) new
 plain-goes-on replies_of old new more stands c delivered is =
     record { start = is.start; plain = is.plain; stands = stands is.start c delivered is.stands }

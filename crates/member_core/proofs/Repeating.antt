@@ -23,8 +23,18 @@ pub formed-mood : (m : Machine) (mood : Mood) → IsFormed m → IsFormed (with_
 formed-mood m mood f =
     let e : IsMachineOf f.entered.0 m = f.entered.1 in
     record {
-      entered = (f.entered.0, record { roster = e.roster; seat = e.seat; message = e.message; secrets = e.secrets; hidden = e.hidden;
-          hidden_short = e.hidden_short; pad = e.pad });
+      entered = (
+        f.entered.0,
+        record {
+          roster = e.roster;
+          seat = e.seat;
+          message = e.message;
+          secrets = e.secrets;
+          hidden = e.hidden;
+          hidden_short = e.hidden_short;
+          pad = e.pad;
+        },
+      );
       message = f.message;
       log = f.log;
       shape = f.shape;

@@ -59,9 +59,11 @@ of-kind shape stage kind body at is = (bodies_are_of_kinds shape stage kind body
 
 pub keys-fit : (c : Configuration) (shape : Shape) (stage : ℕ) → kind_of_stage shape stage ≡ Some Keys → IsBody shape stage (keys_row c)
 unfolding keys_row
-keys-fit c shape stage at = of-kind shape stage Keys (KeysBody (map (λ place. key_of_seed (own_key_seed c place)) (range_with_len 0 5))) at
-    (all-map IsPublicKey (λ place. key_of_seed (own_key_seed c place)) (range_with_len 0 5)
-        (λ place. key_is_public_key (own_key_seed c place)), refl)
+keys-fit c shape stage at = of-kind shape stage Keys (KeysBody (map (λ place. key_of_seed (own_key_seed c place)) (range_with_len 0 5))) at (
+  all-map IsPublicKey (λ place. key_of_seed (own_key_seed c place)) (range_with_len 0 5)
+      (λ place. key_is_public_key (own_key_seed c place)),
+  refl,
+)
 
 pub go-fits : (shape : Shape) (stage shuffle : ℕ) (yes_vote : Bool) → kind_of_stage shape stage ≡ Some (Go shuffle)
     → IsBody shape stage (GoBody yes_vote)
@@ -92,7 +94,7 @@ submission-long c own past shuffle long =
     let inner_count = keys-count (shape_in c) past (inner_place shuffle) in
     let outer_count = keys-count (shape_in c) past (outer_place shuffle) in
     let adds = submission_adds inner outer (own_layer_seeds c shuffle 1) (own_layer_seeds c shuffle 2) item
-        (inner_count ∙ sym (layers-count c shuffle 1)) (outer_count ∙ sym (layers-count c shuffle 2)) in
+    (inner_count ∙ sym (layers-count c shuffle 1)) (outer_count ∙ sym (layers-count c shuffle 2)) in
     by_size n (item_size (shape_in c).members shuffle) (length item) (length inner) (length outer) _ long inner_count outer_count adds.1
   where
     by_size : (n size item inner outer whole : ℕ) → item ≡ size → inner ≡ n → outer ≡ n → whole ≡ item + 2272 * (inner + outer)
@@ -105,7 +107,7 @@ pub submission-fits : (c : Configuration) (own : List ℕ) (past : List (List �
     → IsBody (shape_in c) stage (SubmitBody (own_submission c own past shuffle).ciphertext)
 submission-fits c own past stage shuffle at long =
     of-kind (shape_in c) stage (Submit shuffle) (SubmitBody (own_submission c own past shuffle).ciphertext) at
-        (submission-long c own past shuffle long)
+    (submission-long c own past shuffle long)
 
 -- ---- turns
 
@@ -124,15 +126,18 @@ list-long : (shape : Shape) (slots shuffle k : ℕ) (body : Body) (list : List (
     → AreLong shape.members (level shape.members shuffle k) list
 list-long shape slots shuffle k (Shuffled entries) list is e =
     let same : entries ≡ list = cc in subst (AreLong shape.members (level shape.members shuffle k)) same
-        (record { long = is.0; count = is.1 })
+    (record { long = is.0; count = is.1 })
 list-long shape slots shuffle k Abort list is e = absurd cc
 list-long shape slots shuffle k _ list is e = absurd is
 
 all-range : {A : Type 0} (P : A → Type 0) (f : ℕ → A) (a n : ℕ) → ((k : ℕ) → a ≤ k → k < a + n → P (f k))
     → AllByRecursion P (map f (range_with_len a n))
 all-range P f a zero each = tt
-all-range P f a (suc n) each = (each a (omega arith) (omega arith), all-range P f (a + 1) n
-    (λ k least most. each k (omega (arith, least)) (omega (arith, most))))
+all-range P f a (suc n) each = (
+  each a (omega arith) (omega arith),
+  all-range P f (a + 1) n
+      (λ k least most. each k (omega (arith, least)) (omega (arith, most))),
+)
 
 -- a log behind a stage of submissions
 pub record IsBehind (log : Log) (stage shuffle : ℕ) : Type 0 where
@@ -145,12 +150,12 @@ pub record IsBehind (log : Log) (stage shuffle : ℕ) : Type 0 where
 submission-is : (log : Log) (stage shuffle member : ℕ) → IsBehind log stage shuffle → submit_stage log.shape shuffle < stage → 1 ≤ member
     → member ≤ log.shape.members
     → length (ciphertext_of (said_in log.shape (past_of log stage) (submit_stage log.shape shuffle) member)) ≡ level log.shape.members
-        shuffle 0
+    shuffle 0
 submission-is log stage shuffle member is lt least most =
     let at : ℕ = submit_stage log.shape shuffle in
     let said : IsSaid log.shape (past_of log stage) at member
     = said-stands log stage (record { stage = at; sender = member }) is.form is.complete
-        (submit-slot log.shape shuffle member is.first is.last least most) lt (is.stand at) in
+    (submit-slot log.shape shuffle member is.first is.last least most) lt (is.stand at) in
     ap (λ (b : Body). length (ciphertext_of b)) said.said
     ∙ submitted-long log.shape (slots_before log.shape at) shuffle said.content.body
     ((bodies_are_of_kinds log.shape at (Submit shuffle) said.content.body (submit-kind log.shape shuffle is.first is.last)).0 said.body)
@@ -170,10 +175,10 @@ list-is log stage shuffle (suc turn) entries is most lt e =
     let at : ℕ = submit_stage log.shape shuffle + suc turn in
     let said : IsSaid log.shape (past_of log stage) at (suc turn)
     = said-stands log stage (record { stage = at; sender = suc turn }) is.form is.complete
-        (turn-slot log.shape shuffle (suc turn) is.first is.last (omega arith) most) lt (is.stand at) in
+    (turn-slot log.shape shuffle (suc turn) is.first is.last (omega arith) most) lt (is.stand at) in
     list-long log.shape (slots_before log.shape at) shuffle (suc turn) said.content.body entries
     ((bodies_are_of_kinds log.shape at (Shuffle shuffle (suc turn)) said.content.body
-        (turn-kind log.shape shuffle (suc turn) is.first is.last (omega arith) most)).0 said.body)
+    (turn-kind log.shape shuffle (suc turn) is.first is.last (omega arith) most)).0 said.body)
     (sym (ap list_of said.said) ∙ e)
 
 -- entries in another order
@@ -210,7 +215,7 @@ turn-cases seed order entries = elim (cases_Bool (has_equal entries)) [
         → (if has_equal entries then Abort else list_or_abort (option_map (in_drawn_order order) (stripped seed entries))) ≡ list_or_abort o
         → ((if has_equal entries then Abort else list_or_abort (option_map (in_drawn_order order) (stripped seed entries))) ≡ Abort)
         ⊎ ((list : List (List ℕ)) × ((if has_equal entries then Abort else list_or_abort
-            (option_map (in_drawn_order order) (stripped seed entries))) ≡ Shuffled list))
+        (option_map (in_drawn_order order) (stripped seed entries))) ≡ Shuffled list))
     by_list None e = inl e
     by_list (Some list) e = inr (list, e)
 
@@ -223,22 +228,22 @@ level-next n shuffle k lt = by_item (if shuffle == 1 then 36 + 2272 * n else 34)
 
 turn-is : (shape : Shape) (slots shuffle k : ℕ) (seed order : List ℕ) (entries : List (List ℕ)) → shape.members ≤ 8 → k < shape.members
     → AreLong shape.members (level shape.members shuffle k) entries
-        → IsBodyAt shape slots (Shuffle shuffle (suc k)) (turn_of seed order entries)
+    → IsBodyAt shape slots (Shuffle shuffle (suc k)) (turn_of seed order entries)
 turn-is shape slots shuffle k seed order entries few lt are = elim (turn-cases seed order entries) [
   | inl abort ↦ subst (IsBodyAt shape slots (Shuffle shuffle (suc k))) (sym abort) tt
   | inr list ↦
       let said = turn_says_bodies seed order entries list.0 list.1 in
       let size : ℕ = level shape.members shuffle (suc k) in
       let bodies = stripped-entries shape.members size seed entries said.1.0
-          (subst (λ (n : ℕ). AreLong shape.members n entries) (level-next shape.members shuffle k lt) are) said.1.1 in
+      (subst (λ (n : ℕ). AreLong shape.members n entries) (level-next shape.members shuffle k lt) are) said.1.1 in
       let made : AreLong shape.members size list.0 = subst (AreLong shape.members size) (sym said.1.2)
-          (order-entries shape.members size order said.1.0 few bodies) in
+      (order-entries shape.members size order said.1.0 few bodies) in
       subst (IsBodyAt shape slots (Shuffle shuffle (suc k))) (sym list.1) (made.long, made.count)
 ]
 
 over-is : (c : Configuration) (shape : Shape) (slots shuffle k : ℕ) (o : Option (List (List ℕ))) → shape.members ≤ 8 → k < shape.members
     → ((entries : List (List ℕ)) → o ≡ Some entries → AreLong shape.members (level shape.members shuffle k) entries)
-        → IsBodyAt shape slots (Shuffle shuffle (suc k)) (turn_over c shuffle o)
+    → IsBodyAt shape slots (Shuffle shuffle (suc k)) (turn_over c shuffle o)
 over-is c shape slots shuffle k None few lt each = tt
 over-is c shape slots shuffle k (Some entries) few lt each = turn-is shape slots shuffle k (own_key_seed c (outer_place shuffle))
     (own_order_seed c shuffle) entries few lt (each entries refl)
@@ -246,20 +251,20 @@ over-is c shape slots shuffle k (Some entries) few lt each = turn-is shape slots
 pub turn-fits : (c : Configuration) (log : Log) (stage shuffle k : ℕ) → IsBehind log stage shuffle → log.shape ≡ shape_in c → c.number ≡ k
     → 1 ≤ k → k ≤ log.shape.members → log.shape.members ≤ 8
     → stage ≡ submit_stage log.shape shuffle + k → kind_of_stage log.shape stage ≡ Some (Shuffle shuffle k)
-        → IsBody log.shape stage (turn_row c (past_of log stage) shuffle)
+    → IsBody log.shape stage (turn_row c (past_of log stage) shuffle)
 unfolding turn_row
 turn-fits c log stage shuffle k is same number least most few at kind =
     let past : List (List ℕ) = past_of log stage in
     let back : suc (c.number - 1) ≡ k = omega (arith, number, least) in
     let said : list_said log.shape past shuffle (c.number - 1) ≡ list_said (shape_in c) past shuffle (c.number - 1) = ap
-        (λ (s : Shape). list_said s past shuffle (c.number - 1)) same in
+    (λ (s : Shape). list_said s past shuffle (c.number - 1)) same in
     of-kind log.shape stage (Shuffle shuffle k) (turn_over c shuffle (list_said (shape_in c) past shuffle (c.number - 1))) kind
     (subst (λ (j : ℕ). IsBodyAt log.shape (slots_before log.shape stage) (Shuffle shuffle j)
-        (turn_over c shuffle (list_said (shape_in c) past shuffle (c.number - 1)))) back
+    (turn_over c shuffle (list_said (shape_in c) past shuffle (c.number - 1)))) back
     (over-is c log.shape (slots_before log.shape stage) shuffle (c.number - 1) (list_said (shape_in c) past shuffle (c.number - 1)) few
-        (omega (arith, number, least, most))
+    (omega (arith, number, least, most))
     (λ entries e. list-is log stage shuffle (c.number - 1) entries is (omega (arith, number, most)) (omega (arith, at, number, least))
-        (said ∙ e))))
+    (said ∙ e))))
 
 -- ---- pads
 
@@ -275,7 +280,7 @@ found-pad d member seed pad few e = by_seed _ e
     by_seed (Some s) e = elim (cases_Bool (bytes_eq (hash_of_pad (pad_of s d.length)) (pad_hash_for d member))) [
       | inl is ↦
           let same = pad-same (pad_of s d.length) pad (sym (cond-true (bytes_eq (hash_of_pad (pad_of s d.length)) (pad_hash_for d member))
-              (Some (pad_of s d.length)) None is) ∙ e) in
+          (Some (pad_of s d.length)) None is) ∙ e) in
           omega (arith, few, length-pad_of s d.length, ap length same)
       | inr not_it ↦ absurd (none-some pad (sym (cond-false (bytes_eq (hash_of_pad (pad_of s d.length)) (pad_hash_for d member))
           (Some (pad_of s d.length)) None not_it) ∙ e))
@@ -319,9 +324,11 @@ pub pads-fit : (c : Configuration) (own : List ℕ) (past : List (List ℕ)) (st
 unfolding pads_row
 pads-fit c own past stage at short count =
     let opened : List (Option (List ℕ)) = items_opened (shape_in c) past 1 in
-    of-kind (shape_in c) stage Pad (Pads (map (pad_for c own) (items_opened (shape_in c) past 1))) at
-    (all-map (λ pad. length pad ≤ 65536) (pad_for c own) opened (λ entry. sent-pad c own entry short), length-map opened (pad_for c own)
-        ∙ count)
+    of-kind (shape_in c) stage Pad (Pads (map (pad_for c own) (items_opened (shape_in c) past 1))) at (
+      all-map (λ pad. length pad ≤ 65536) (pad_for c own) opened (λ entry. sent-pad c own entry short),
+      length-map opened (pad_for c own)
+          ∙ count,
+    )
 
 -- ---- closing contents
 
@@ -334,7 +341,7 @@ stage-posts : (P : List ℕ → Type 0) (shape : Shape) (posts : List Post) (sta
     → AllByRecursion P (written (posts_at shape posts stage))
 stage-posts P shape posts stage all =
     all-map-from P post_spelling (posts_at shape posts stage) (all-take (λ post. P (post_spelling post))
-        (slots_before shape (stage + 1) - slots_before shape stage) (drop (slots_before shape stage) posts)
+    (slots_before shape (stage + 1) - slots_before shape stage) (drop (slots_before shape stage) posts)
     (all-drop (λ post. P (post_spelling post)) (slots_before shape stage) posts all))
 
 -- as many votes as members stand before a closing stage
@@ -363,9 +370,14 @@ final-fits shape stage shuffle posts inner outer opening are at i o p = of-kind 
     (elim (cases_Bool (votes_agree shape (contents_of posts) stage)) [
       | inl agree ↦ subst (IsBodyAt shape (slots_before shape stage) (Final shuffle))
           (sym (cond-true (votes_agree shape (contents_of posts) stage) (Reveal (written (posts_at shape posts (stage - 1))) inner)
-          (Dispute (written posts) outer opening) agree))
-          ((stage-posts (λ item. length item < 2 ^ 32) shape posts (stage - 1) are.short, votes-count shape posts stage (Final shuffle)
-              (Go shuffle) at refl refl are.whole), i)
+          (Dispute (written posts) outer opening) agree)) (
+            (
+              stage-posts (λ item. length item < 2 ^ 32) shape posts (stage - 1) are.short,
+              votes-count shape posts stage (Final shuffle)
+                  (Go shuffle) at refl refl are.whole,
+            ),
+            i,
+          )
       | inr differ ↦ subst (IsBodyAt shape (slots_before shape stage) (Final shuffle))
           (sym (cond-false (votes_agree shape (contents_of posts) stage) (Reveal (written (posts_at shape posts (stage - 1))) inner)
           (Dispute (written posts) outer opening) differ))
@@ -381,9 +393,11 @@ confirm-fits shape stage posts are at = of-kind shape stage Confirm
     (elim (cases_Bool (votes_agree shape (contents_of posts) stage)) [
       | inl agree ↦ subst (IsBodyAt shape (slots_before shape stage) Confirm)
           (sym (cond-true (votes_agree shape (contents_of posts) stage) (ConfirmBody (written (posts_at shape posts (stage - 1))))
-          (Differ (written posts)) agree))
-          (stage-posts (λ item. length item < 2 ^ 32) shape posts (stage - 1) are.short, votes-count shape posts stage Confirm Check at refl
-              refl are.whole)
+          (Differ (written posts)) agree)) (
+            stage-posts (λ item. length item < 2 ^ 32) shape posts (stage - 1) are.short,
+            votes-count shape posts stage Confirm Check at refl
+                refl are.whole,
+          )
       | inr differ ↦ subst (IsBodyAt shape (slots_before shape stage) Confirm)
           (sym (cond-false (votes_agree shape (contents_of posts) stage) (ConfirmBody (written (posts_at shape posts (stage - 1))))
           (Differ (written posts)) differ))

@@ -100,7 +100,7 @@ pub made-stays : (log : Log) (number : ℕ) (slot : Slot) (post : Post) → IsOt
 unfolding own_posts_kept
 made-stays log number slot post is = filter-in (λ stage. kept_in (filled log slot post) (record { stage = stage; sender = number }))
     (λ stage. kept_in log (record { stage = stage; sender = number })) 0 (stage_count log.shape)
-        (λ x le lt. own-stays log number slot post x is)
+    (λ x le lt. own-stays log number slot post x is)
 
 -- a post that is kept was kept before, or fills the slot
 kept-filled : (log : Log) (slot other : Slot) (post kept : Post) → kept_in (filled log slot post) other ≡ Some kept
@@ -111,9 +111,9 @@ kept-filled log slot other post kept e = elim (cases_Bool (is_slot log.shape oth
       let number : ℕ = slot_number log.shape other.stage other.sender in
       let k : ℕ = slot_number log.shape slot.stage slot.sender in
       let entry = sym (cond-true (is_slot log.shape other.stage other.sender)
-          (option_flatten (slice_get (slice_set log.posts k (Some post)) number)) None speaks) ∙ e in
+      (option_flatten (slice_get (slice_set log.posts k (Some post)) number)) None speaks) ∙ e in
       elim (get-set log.posts k number (Some post) (Some kept) (flatten-some (slice_get (slice_set log.posts k (Some post)) number) kept
-          entry)) [
+      entry)) [
         | inl old ↦ inl (cond-true (is_slot log.shape other.stage other.sender) (option_flatten (slice_get log.posts number)) None speaks
             ∙ ap option_flatten old)
         | inr new ↦ inr (told_same kept post new)
@@ -206,12 +206,12 @@ short-stays : (log : Log) (number : ℕ) (slot : Slot) (post : Post) → length 
     → IsShortLog number (filled log slot post)
 short-stays log number slot post small short stage sender kept e = elim
     (kept-filled log slot (record { stage = stage; sender = sender }) post kept e) [
-  | inl old ↦ short stage sender kept old
-  | inr new ↦
-      let least = most-least log.shape number stage sender in
-      let same = ap (λ (p : Post). length (post_spelling p)) new in
-      omega (arith, least, same, small)
-]
+      | inl old ↦ short stage sender kept old
+      | inr new ↦
+          let least = most-least log.shape number stage sender in
+          let same = ap (λ (p : Post). length (post_spelling p)) new in
+          omega (arith, least, same, small)
+    ]
 
 -- ---- the code
 
@@ -229,8 +229,18 @@ formed-stays m slot post s f =
     let e : IsMachineOf f.entered.0 m = f.entered.1 in
     let made = ap length (posts-made (holdings_of m) slot post s.others) in
     record {
-      entered = (f.entered.0, record { roster = e.roster; seat = e.seat; message = e.message; secrets = e.secrets; hidden = e.hidden;
-          hidden_short = e.hidden_short; pad = e.pad });
+      entered = (
+        f.entered.0,
+        record {
+          roster = e.roster;
+          seat = e.seat;
+          message = e.message;
+          secrets = e.secrets;
+          hidden = e.hidden;
+          hidden_short = e.hidden_short;
+          pad = e.pad;
+        },
+      );
       message = f.message;
       log = filled-is_log m.log slot post f.log s.kept;
       shape = f.shape;
@@ -272,12 +282,18 @@ some-mapped f None is = absurd cc
 mood-stays : (m : Machine) (slot : Slot) (post : Post) (mood : Mood) → IsOthers m.log m.seat.number slot → IsMoodOf m mood
     → IsMoodOf (with_post m slot post) mood
 mood-stays m slot post Unasked is e = (λ later le. own-stays m.log m.seat.number slot post later is ∙ e.0 later le, e.1)
-mood-stays m slot post (PutOff bytes) is e =
-    (λ later le. own-stays m.log m.seat.number slot post later is
-        ∙ e.0 later le, e.1, record { speaks = e.2.speaks; slot = e.2.slot; short = e.2.short })
-mood-stays m slot post Spoken is e =
-    (λ later le. own-stays m.log m.seat.number slot post later is
-        ∙ e.0 later le, e.1, subst IsSome (sym (own-stays m.log m.seat.number slot post m.stage is)) e.2)
+mood-stays m slot post (PutOff bytes) is e = (
+  λ later le. own-stays m.log m.seat.number slot post later is
+      ∙ e.0 later le,
+  e.1,
+  record { speaks = e.2.speaks; slot = e.2.slot; short = e.2.short },
+)
+mood-stays m slot post Spoken is e = (
+  λ later le. own-stays m.log m.seat.number slot post later is
+      ∙ e.0 later le,
+  e.1,
+  subst IsSome (sym (own-stays m.log m.seat.number slot post m.stage is)) e.2,
+)
 mood-stays m slot post Mute is e = (λ later le. own-stays m.log m.seat.number slot post later is ∙ e.0 later le, e.1)
 
 pub ready-stays : (m : Machine) (slot : Slot) (post : Post) → IsStorable m slot post → IsReady m → IsReady (with_post m slot post)
@@ -293,7 +309,7 @@ ready-stays m slot post s r =
           (λ there. past-stays m.log m.seat.number slot post 1 m.stage s.others r.past (r.keys_behind there)) r.keys;
       opened = opened-stay m.log slot post m.stage (option_map (λ items. items.items) m.opened)
           (λ there. past-stays m.log m.seat.number slot post (stage_opened m.log) m.stage s.others r.past
-              (r.opened_behind (some-mapped (λ items. items.items) m.opened there))) r.opened;
+          (r.opened_behind (some-mapped (λ items. items.items) m.opened there))) r.opened;
       slots = slots-stay m.log slot post m.stage m.slots
           (λ there. past-stays m.log m.seat.number slot post (stage_found m.log) m.stage s.others r.past (r.slots_behind there)) r.slots;
       keys_behind = r.keys_behind;
@@ -411,13 +427,13 @@ stands-stays now start c a h slot post is still s = record {
     own_is o = record {
       descriptor = λ asked. o.descriptor asked
           ∙ ap (descriptor_made start c) (sym (posts-stay h.log h.number slot post 1 h.stage is complete
-              (asked-within h.stage h.mood 1 asked)));
+          (asked-within h.stage h.mood 1 asked)));
       pad = o.pad;
       first = λ asked not_yet. o.first asked not_yet
           ∙ ap (λ (past : List (List ℕ)). (own_submission c h.own.descriptor past 1).inner_ciphertext) (sym (past_same 1 asked));
       second = λ asked. o.second asked
           ∙ ap (λ (past : List (List ℕ)). (own_submission c h.own.descriptor past 2).inner_ciphertext)
-              (sym (past_same (submit_stage h.log.shape 2) asked));
+          (sym (past_same (submit_stage h.log.shape 2) asked));
     }
 
     own_stay : (mood : Mood) → KeepsOwn start c h mood → KeepsOwn start c after mood

@@ -34,11 +34,11 @@ use Rattle.member_core.proofs.Submitting.{not-asked, own-kept}
 pub submit-due : (now : Replies) (m : Machine) (shuffle : ℕ) (own : List ℕ) (submission : Submission) → IsFormed m → IsToBeAsked m
     → kind_of_stage m.log.shape m.stage ≡ Some (Submit shuffle)
     → ((c : Configuration) → IsMachineOf c m → length (own_item c own (past_of m.log m.stage) shuffle) ≡ item_size m.log.shape.members
-        shuffle)
+    shuffle)
     → ((c : Configuration) → IsSeatOf c m.seat → AreSecretsOf c m.secrets
-        → submission ≡ own_submission c own (past_of m.log m.stage) shuffle)
+    → submission ≡ own_submission c own (past_of m.log m.stage) shuffle)
     → ((start : Replies) (c : Configuration) (a : Actor) → StandsFor now start c a (holdings_of m)
-        → own ≡ descriptor_made start c a.stand.past)
+    → own ≡ descriptor_made start c a.stand.past)
     → IsDue now m (Submit shuffle) (SubmitBody submission.ciphertext)
 submit-due now m shuffle own submission formed asked at long said made =
     let c0 : Configuration = formed.entered.0 in
@@ -46,7 +46,7 @@ submit-due now m shuffle own submission formed asked at long said made =
     let past : List (List ℕ) = past_of m.log m.stage in
     let shape : m.log.shape ≡ shape_in c0 = shape-is c0 m formed its.seat in
     let size : length (own_item c0 own past shuffle) ≡ item_size (shape_in c0).members shuffle = long c0 its
-        ∙ ap (λ (s : Shape). item_size s.members shuffle) shape in
+    ∙ ap (λ (s : Shape). item_size s.members shuffle) shape in
     let form : IsBody (shape_in c0) m.stage (SubmitBody (own_submission c0 own past shuffle).ciphertext)
     = submission-fits c0 own past m.stage shuffle (ap (λ (s : Shape). kind_of_stage s m.stage) (sym shape) ∙ at) size in
     let fits : IsBody m.log.shape m.stage (SubmitBody submission.ciphertext)
@@ -54,14 +54,18 @@ submit-due now m shuffle own submission formed asked at long said made =
     (subst (λ (x : Submission). IsBody (shape_in c0) m.stage (SubmitBody x.ciphertext)) (sym (said c0 its.seat its.secrets)) form) in
     let told : (start : Replies) (c : Configuration) (a : Actor) → StandsFor now start c a (holdings_of m)
     → SubmitBody submission.ciphertext ≡ SubmitBody (own_submission c (descriptor_made start c a.stand.past) (contents_of a.stand.past)
-        shuffle).ciphertext
+    shuffle).ciphertext
     = λ start c a stands.
     ap (λ (x : Submission). SubmitBody x.ciphertext) (said c (seat-of c m formed stands.entered) stands.entered.secrets)
     ∙ ap (λ (d : List ℕ). SubmitBody (own_submission c d (past_of m.log m.stage) shuffle).ciphertext) (made start c a stands)
     ∙ ap (λ (p : List (List ℕ)). SubmitBody (own_submission c (descriptor_made start c a.stand.past) p shuffle).ciphertext)
-        (past-heard now start c a m stands) in
-    record { fits = fits; short = plain-due now m (Submit shuffle) (SubmitBody submission.ciphertext) formed asked at tt fits told; told =
-        told }
+    (past-heard now start c a m stands) in
+    record {
+      fits = fits;
+      short = plain-due now m (Submit shuffle) (SubmitBody submission.ciphertext) formed asked at tt fits told;
+      told =
+          told;
+    }
 
 -- ---- at shuffle A
 
@@ -70,7 +74,7 @@ pub same-at-first : (now start : Replies) (c : Configuration) (a : Actor) (m : M
     → StandsFor now start c a (holdings_of m) → m.stage ≤ 1 → now ≡ start
 same-at-first now start c a m asked stands le =
     subst (AnswersBy now start c (past_of m.log 1)) (not-asked m 1 asked le)
-        (subst (GoesOn now start c (holdings_of m)) asked.unasked stands.conduct)
+    (subst (GoesOn now start c (holdings_of m)) asked.unasked stands.conduct)
 
 -- the bytes are those that the conduct made of the own descriptor
 pub made-first : (now start : Replies) (c : Configuration) (a : Actor) (m : Machine) (own : List ℕ) → IsToBeAsked m
@@ -78,7 +82,7 @@ pub made-first : (now start : Replies) (c : Configuration) (a : Actor) (m : Mach
     → own ≡ descriptor_text (now.descriptor (own_description c (past_of m.log m.stage))) → own ≡ descriptor_made start c a.stand.past
 made-first now start c a m own asked stands le told =
     told ∙ ap (λ (r : Replies). descriptor_text (r.descriptor (own_description c (past_of m.log m.stage))))
-        (same-at-first now start c a m asked stands le)
+    (same-at-first now start c a m asked stands le)
     ∙ ap (λ (past : List (List ℕ)). descriptor_text (start.descriptor (own_description c past))) (past-heard now start c a m stands)
 
 later-not : (stage other : ℕ) → stage < other → was_asked stage Spoken other ≡ false
@@ -114,7 +118,7 @@ pub stands-first : (now after start : Replies) (c : Configuration) (a : Actor) (
     → own.pad ≡ own_pad (own_pad_seeds c) c.number c.message
     → own.inner_ciphertext ≡ (own_submission c own.descriptor (past_of m.log m.stage) 1).inner_ciphertext
     → after.speech ≡ now.speech_after (own_description c (past_of m.log m.stage))
-        → StandsAsked after start c a (holdings_of (record m { own = own }))
+    → StandsAsked after start c a (holdings_of (record m { own = own }))
 stands-first now after start c a m own asked stands at descriptor pad inner told =
     let le : m.stage ≤ 1 = omega (arith, at) in
     let same : now ≡ start = same-at-first now start c a m asked stands le in
@@ -128,7 +132,7 @@ stands-first now after start c a m own asked stands at descriptor pad inner told
     let submitted : own.inner_ciphertext ≡ (own_submission c own.descriptor (past_of m.log 1) 1).inner_ciphertext
     = inner ∙ ap (λ (s : ℕ). (own_submission c own.descriptor (past_of m.log s) 1).inner_ciphertext) at in
     asked-with now after start c a m m.secrets own stands stands.entered.secrets
-        (subst (AnswersBy after start c (past_of m.log 1)) (sym here) answers)
+    (subst (AnswersBy after start c (past_of m.log 1)) (sym here) answers)
     (record {
       descriptor = λ was. made;
       pad = λ was. pad;
@@ -161,8 +165,10 @@ pub stands-second : (now start : Replies) (c : Configuration) (a : Actor) (m : M
     → StandsFor now start c a (holdings_of m)
     → m.stage ≡ submit_stage m.log.shape 2
     → inner ≡ (own_submission c m.own.descriptor (past_of m.log m.stage) 2).inner_ciphertext
-    → StandsAsked now start c a (holdings_of (record m { secrets = without_bulk m.secrets; own = record m.own { inner_ciphertext = inner }
-        }))
+    → StandsAsked now start c a (holdings_of (record m {
+      secrets = without_bulk m.secrets;
+      own = record m.own { inner_ciphertext = inner };
+    }))
 stands-second now start c a m inner asked stands at submitted =
     let apart : 1 ≡ m.stage → ⊥ = λ e. omega (arith, e, at) in
     let own : IsOwnOf start c (holdings_of m) = own-kept now start c a m asked stands in
@@ -171,7 +177,7 @@ stands-second now start c a m inner asked stands at submitted =
     let second : inner ≡ (own_submission c m.own.descriptor (past_of m.log (submit_stage m.log.shape 2)) 2).inner_ciphertext
     = submitted ∙ ap (λ (s : ℕ). (own_submission c m.own.descriptor (past_of m.log s) 2).inner_ciphertext) at in
     asked-with now now start c a m (without_bulk m.secrets) (record m.own { inner_ciphertext = inner }) stands
-        (secrets-bulk c m.secrets stands.entered.secrets)
+    (secrets-bulk c m.secrets stands.entered.secrets)
     (goes-on_as now start c a m asked stands apart)
     (record {
       descriptor = λ was. own.descriptor (sym same ∙ was);

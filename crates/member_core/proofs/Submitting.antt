@@ -34,7 +34,7 @@ keys-same : (c : Configuration) (log : Log) (stage later place : ℕ) → log.sh
     → keys_said (shape_in c) (past_of log stage) place ≡ keys_said (shape_in c) (past_of log later) place
 keys-same c log stage later place shape least reached =
     subst (λ (s : Shape). keys_said s (past_of log stage) place ≡ keys_said s (past_of log later) place) shape
-        (keys_stay log stage later place reached least)
+    (keys_stay log stage later place reached least)
 
 descriptor-same : (start : Replies) (c : Configuration) (log : Log) (later : ℕ) → log.shape ≡ shape_in c → AreReached log 1 later
     → descriptor_made start c (posts_before log 1) ≡ descriptor_text (start.descriptor (own_description c (past_of log later)))
@@ -50,11 +50,11 @@ submission-same c own past other shuffle keys item =
     let inner_seeds : List (List ℕ) = own_layer_seeds c shuffle 1 in
     let outer_seeds : List (List ℕ) = own_layer_seeds c shuffle 2 in
     ap (λ (k : List (List ℕ)). submission_of k (keys_said (shape_in c) past (outer_place shuffle)) inner_seeds outer_seeds
-        (own_item c own past shuffle)) (keys (inner_place shuffle))
+    (own_item c own past shuffle)) (keys (inner_place shuffle))
     ∙ ap (λ (k : List (List ℕ)). submission_of (keys_said (shape_in c) other (inner_place shuffle)) k inner_seeds outer_seeds
-        (own_item c own past shuffle)) (keys (outer_place shuffle))
+    (own_item c own past shuffle)) (keys (outer_place shuffle))
     ∙ ap (submission_of (keys_said (shape_in c) other (inner_place shuffle)) (keys_said (shape_in c) other (outer_place shuffle))
-        inner_seeds outer_seeds) item
+    inner_seeds outer_seeds) item
 
 item-first : (c : Configuration) (own : List ℕ) (past other : List (List ℕ)) → own_item c own past 1 ≡ own_item c own other 1
 unfolding own_item
@@ -78,7 +78,7 @@ pub first-same : (c : Configuration) (own : List ℕ) (log : Log) (later : ℕ) 
     → own_submission c own (past_of log 1) 1 ≡ own_submission c own (past_of log later) 1
 first-same c own log later shape reached =
     submission-same c own (past_of log 1) (past_of log later) 1 (λ place. keys-same c log 1 later place shape (omega arith) reached)
-        (item-first c own (past_of log 1) (past_of log later))
+    (item-first c own (past_of log 1) (past_of log later))
 
 -- and that to shuffle B
 pub second-same : (c : Configuration) (own : List ℕ) (log : Log) (later : ℕ) → log.shape ≡ shape_in c
@@ -87,11 +87,11 @@ pub second-same : (c : Configuration) (own : List ℕ) (log : Log) (later : ℕ)
 second-same c own log later shape reached =
     let at : ℕ = submit_stage log.shape 2 in
     let items = subst (λ (s : Shape). items_opened s (past_of log at) 1 ≡ items_opened s (past_of log later) 1) shape
-        (items_stay log at later 1 reached (omega arith) (omega arith) (omega arith)) in
+    (items_stay log at later 1 reached (omega arith) (omega arith) (omega arith)) in
     let slots = subst (λ (s : Shape). slots_of_past s (past_of log at) ≡ slots_of_past s (past_of log later)) shape
-        (slots_stay log at later reached (omega arith)) in
+    (slots_stay log at later reached (omega arith)) in
     submission-same c own (past_of log at) (past_of log later) 2 (λ place. keys-same c log at later place shape (omega arith) reached)
-        (item-second c own (past_of log at) (past_of log later) items slots)
+    (item-second c own (past_of log at) (past_of log later) items slots)
 
 -- ---- what it keeps of its own where it was not asked yet
 
@@ -125,9 +125,9 @@ descriptor-kept now start c a m formed asked stands lt =
     let own : IsOwnOf start c (holdings_of m) = own-kept now start c a m asked stands in
     own.descriptor (asked-before m 1 asked lt)
     ∙ descriptor-same start c m.log m.stage (shape-is c m formed (seat-of c m formed stands.entered))
-        (reached-here now start c a m 1 stands (omega arith))
+    (reached-here now start c a m 1 stands (omega arith))
     ∙ ap (λ (past : List (List ℕ)). descriptor_text (start.descriptor (own_description c past)))
-        (past-is m.log m.stage a.stand.past stands.at.past)
+    (past-is m.log m.stage a.stand.past stands.at.past)
 
 -- and its pad is that of its message
 pub pad-kept : (now start : Replies) (c : Configuration) (a : Actor) (m : Machine) → IsToBeAsked m → StandsFor now start c a (holdings_of m)
@@ -148,10 +148,10 @@ first-kept now start c a m formed asked stands lt le =
     let reached = reached-here now start c a m 1 stands (omega arith) in
     own.first (asked-before m 1 asked lt) (not-asked m (submit_stage m.log.shape 2) asked le)
     ∙ ap (λ (d : List ℕ). (own_submission c d (past_of m.log 1) 1).inner_ciphertext)
-        (descriptor-kept now start c a m formed asked stands lt)
+    (descriptor-kept now start c a m formed asked stands lt)
     ∙ ap (λ (s : Submission). s.inner_ciphertext) (first-same c (descriptor_made start c a.stand.past) m.log m.stage shape reached)
     ∙ ap (λ (past : List (List ℕ)). (own_submission c (descriptor_made start c a.stand.past) past 1).inner_ciphertext)
-        (past-is m.log m.stage a.stand.past stands.at.past)
+    (past-is m.log m.stage a.stand.past stands.at.past)
 
 -- and to shuffle B
 pub second-kept : (now start : Replies) (c : Configuration) (a : Actor) (m : Machine) → IsFormed m → IsToBeAsked m
@@ -165,7 +165,7 @@ second-kept now start c a m formed asked stands lt =
     let reached = reached-here now start c a m at stands (omega arith) in
     own.second (asked-before m at asked lt)
     ∙ ap (λ (d : List ℕ). (own_submission c d (past_of m.log at) 2).inner_ciphertext)
-        (descriptor-kept now start c a m formed asked stands (omega arith))
+    (descriptor-kept now start c a m formed asked stands (omega arith))
     ∙ ap (λ (s : Submission). s.inner_ciphertext) (second-same c (descriptor_made start c a.stand.past) m.log m.stage shape reached)
     ∙ ap (λ (past : List (List ℕ)). (own_submission c (descriptor_made start c a.stand.past) past 2).inner_ciphertext)
-        (past-is m.log m.stage a.stand.past stands.at.past)
+    (past-is m.log m.stage a.stand.past stands.at.past)

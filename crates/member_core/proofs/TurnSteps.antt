@@ -119,7 +119,7 @@ pub step-speaks : (m : Machine) (now start : Replies) (c : Configuration) (a : A
 step-speaks m now start c a formed going open-stage due is =
     open-step start c a None (goes-on c a (holdings_of m) is.at (going-open m.ending going)) (no-posts m now start c a formed open-stage is)
     ∙ cond-true (is_due c a.stand a.mood) (actor_behind_question start c a (content_to_say start c a.stand)) a
-        (due-same m now start c a formed is ∙ due)
+    (due-same m now start c a formed is ∙ due)
 
 -- or it rests
 pub step-rests : (m : Machine) (now start : Replies) (c : Configuration) (a : Actor) → IsFormed m → is_going m.ending ≡ true
@@ -129,4 +129,4 @@ pub step-rests : (m : Machine) (now start : Replies) (c : Configuration) (a : Ac
 step-rests m now start c a formed going open-stage due is =
     open-step start c a None (goes-on c a (holdings_of m) is.at (going-open m.ending going)) (no-posts m now start c a formed open-stage is)
     ∙ cond-false (is_due c a.stand a.mood) (actor_behind_question start c a (content_to_say start c a.stand)) a
-        (due-same m now start c a formed is ∙ due)
+    (due-same m now start c a formed is ∙ due)

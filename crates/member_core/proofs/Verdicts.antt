@@ -96,7 +96,7 @@ stands-step m next keys seen ending can shows goes now start c a is =
     let within : a.stand.at < stage_count (shape_in c) = omega (arith, count, at, inside) in
     let here : all_some (posts_in a.log a.stand.at) ≡ Some found.posts
     = sym (ap (λ (log : Log). all_some (posts_in log m.stage)) is.at.log ∙ ap (λ (n : ℕ). all_some (posts_in a.log n)) is.at.stage)
-        ∙ found.here in
+    ∙ found.here in
     let step = passes-step start c a found.posts (goes-on c a (holdings_of m) is.at can.going) within here in
     let verdict = verdict-is c a (holdings_of m) found.posts is.entered is.at found.next in
     subst (λ (b : Actor). StandsFor now start c b (holdings_of next)) (sym step)
@@ -127,7 +127,7 @@ steps-open m keys seen opened slots can carried goes = record {
   handed = refl;
   stands = stands-step m (machine_past m keys seen m.secrets opened slots m.ending) keys seen m.ending can
       (λ c a posts entered at next verdict. subst (λ (e : Ending). ShowsOutcome e
-          (outcome_of c (actor_behind_stage c a (stand_behind c a.stand posts))))
+      (outcome_of c (actor_behind_stage c a (stand_behind c a.stand posts))))
       (open-is m.ending can.going) (shows-goes c a posts (verdict ∙ goes)))
       (stands-past m keys seen m.secrets opened slots m.ending can.formed can.ready can.there (λ c are. are));
 }
@@ -189,7 +189,7 @@ slots-told : (log : Log) (stage : ℕ) (slots : Slots) → AreSlotsOf log slots 
     → slots.states ≡ slots_of_past log.shape (past_of log stage)
 slots-told log stage slots are le there =
     let reached : AreReached log (stage_found log) stage = record
-        { order = le; at = reaches log (stage_found log) stage le there; at_later = there } in
+    { order = le; at = reaches log (stage_found log) stage le there; at_later = there } in
     are.states ∙ slots_stay log (stage_found log) stage reached (omega arith)
 
 shows-slots : (m : Machine) (slots : Slots) → IsFormed m → AreSlotsOf m.log slots → stage_found m.log ≤ m.stage + 1
@@ -259,7 +259,7 @@ steps-by m keys seen Agreed can told =
 steps-by m keys seen (JudgedConvicts conviction) can told =
     steps-ended m keys seen m.slots (Blamed conviction) can refl (λ is. is) tt
     (λ c a posts entered at next verdict. shows-blamed c a posts conviction
-        (subst (λ (v : Verdict). TellsConviction v conviction) (sym verdict) told))
+    (subst (λ (v : Verdict). TellsConviction v conviction) (sym verdict) told))
 
 -- where the round is done behind shuffle B, the slots are there
 pub has-slots : (m : Machine) (judged : Judged) → IsReady m → TellsVerdict (completed_of (holdings_of m)) judged
@@ -336,7 +336,7 @@ passes-all m carried gone last judged sound going filled carried-is keys gone-is
     let full : IsFull m = full-there m sound.formed ready filled in
     let begun = subst (λ (x : Machine). HasSeen x.log.shape (past_of x.log x.stage) x.stage x.seen) (sym carried-is) ready.seen in
     let seen-is = subst (λ (x : Machine). HasSeen x.log.shape (past_of x.log (x.stage + 1)) (x.stage + 1) gone.seen) carried-is (seen begun)
-        in
+    in
     let same : last ≡ machine_by (machine_on m carried.keys gone.seen) judged
     = last-is ∙ ap (λ (x : Machine). machine_by x judged) (gone-is ∙ ap (λ (x : Machine). machine_behind x gone.seen) carried-is) in
     subst (Steps m) (sym same) (steps-by m carried.keys gone.seen judged (record {

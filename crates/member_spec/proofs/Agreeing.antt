@@ -81,11 +81,11 @@ goes-on c delivered bytes none ends = (least-ending-grows c delivered bytes).com
 -- a fault that the last string shows ends them
 fault-ends : (c : Configuration) (delivered : List (List ℕ)) (bytes : List ℕ) (verdict : Verdict)
     → fault_shown c (first_posts c (with_last delivered bytes)) bytes ≡ Some verdict
-        → ending_of c (with_last delivered bytes) ≡ Some verdict
+    → ending_of c (with_last delivered bytes) ≡ Some verdict
 unfolding ending_of
 fault-ends c delivered bytes verdict e =
     first_some-some verdict _ (ending_verdict (stand_after c (with_last delivered bytes)).verdict ∷ [])
-        (ap (option_and_then (fault_shown c (first_posts c (with_last delivered bytes)))) (last-of delivered bytes) ∙ e)
+    (ap (option_and_then (fault_shown c (first_posts c (with_last delivered bytes)))) (last-of delivered bytes) ∙ e)
 
 -- without one they end by their course
 course-ends : (c : Configuration) (delivered : List (List ℕ)) (bytes : List ℕ)
@@ -93,7 +93,7 @@ course-ends : (c : Configuration) (delivered : List (List ℕ)) (bytes : List �
     → ending_of c (with_last delivered bytes) ≡ ending_verdict (stand_after c (with_last delivered bytes)).verdict
 course-ends c delivered bytes e =
     ending-none c (with_last delivered bytes) (ap (option_and_then (fault_shown c (first_posts c (with_last delivered bytes))))
-        (last-of delivered bytes) ∙ e)
+    (last-of delivered bytes) ∙ e)
 
 -- ---- where it rests
 
@@ -103,8 +103,11 @@ pub rests-agrees : (c : Configuration) (delivered : List (List ℕ)) (bytes : Li
     → Rests c (first_posts c (with_last delivered bytes)) a → Agrees c (with_last delivered bytes) a
 unfolding Agrees
 rests-agrees c delivered bytes a none sound rests = elim (cases_Bool (is_open (stand_after c (with_last delivered bytes)).verdict)) [
-  | inl still ↦ inl (record { none = goes-on c delivered bytes none (course-ends c delivered bytes sound ∙ open-ending _ still); rests =
-      rests })
+  | inl still ↦ inl (record {
+    none = goes-on c delivered bytes none (course-ends c delivered bytes sound ∙ open-ending _ still);
+    rests =
+        rests;
+  })
   | inr ended ↦ inr (ends-with-last c delivered bytes (stand_after c (with_last delivered bytes)).verdict a none
       (course-ends c delivered bytes sound
       ∙ closed-ending _ ended) (record {
@@ -131,7 +134,7 @@ fault-agrees : (c : Configuration) (delivered : List (List ℕ)) (bytes : List �
 unfolding Agrees
 fault-agrees c delivered bytes a verdict is same shown closed =
     inr (ends-with-last c delivered bytes verdict (record a { ending = verdict }) is.none (fault-ends c delivered bytes verdict shown)
-        (record {
+    (record {
       closed = closed;
       ending = refl;
       stand = rests-stand c (first_posts c delivered) a is.rests ∙ ap (course_of c) (sym same);
@@ -171,7 +174,7 @@ unfolding post_given
 hears-nothing replies c delivered bytes a is nothing =
     subst (Agrees c (with_last delivered bytes)) (sym step) (idle-agrees c delivered bytes a is
     (firsts-same c delivered bytes (λ slot none. ap (option_and_then _) nothing))
-        (fault-of c (first_posts c (with_last delivered bytes)) bytes None nothing))
+    (fault-of c (first_posts c (with_last delivered bytes)) bytes None nothing))
   where
     step : actor_behind_delivery replies c a bytes ≡ a
     step = open-heard replies c a bytes None (rests-open c delivered a is) (fault-of c (kept_in a.log) bytes None nothing)
@@ -185,11 +188,11 @@ hears-outside replies c delivered bytes a heard is e outside =
     let fault = fault-outside c (kept_in a.log) bytes heard outside in
     let step : actor_behind_delivery replies c a bytes ≡ record a { ending = fault.0 } =
     open-heard replies c a bytes (Some fault.0) (rests-open c delivered a is)
-        (fault-of c (kept_in a.log) bytes (Some heard) e ∙ fault.2 (kept_in a.log)) in
+    (fault-of c (kept_in a.log) bytes (Some heard) e ∙ fault.2 (kept_in a.log)) in
     subst (Agrees c (with_last delivered bytes)) (sym step) (fault-agrees c delivered bytes a fault.0 is
     (firsts-same c delivered bytes (λ slot none. given-nothing c slot bytes heard e outside))
     (fault-of c (first_posts c (with_last delivered bytes)) bytes (Some heard) e ∙ fault.2 (first_posts c (with_last delivered bytes)))
-        fault.1)
+    fault.1)
 
 -- a string for a slot that has a post gives no slot a new one
 full-same : (c : Configuration) (delivered : List (List ℕ)) (bytes : List ℕ) (heard : Heard) (kept : Post) → heard_of c bytes ≡ Some heard
@@ -197,7 +200,7 @@ full-same : (c : Configuration) (delivered : List (List ℕ)) (bytes : List ℕ)
     → first_posts c (with_last delivered bytes) ≡ first_posts c delivered
 full-same c delivered bytes heard kept e first =
     firsts-same c delivered bytes (λ slot none. given-elsewhere c slot bytes heard e
-        (λ same. none-some kept (sym none ∙ ap (first_posts c delivered) same ∙ first)))
+    (λ same. none-some kept (sym none ∙ ap (first_posts c delivered) same ∙ first)))
 
 -- a post is heard for a slot that has one
 hears-full : (replies : Replies) (c : Configuration) (delivered : List (List ℕ)) (bytes : List ℕ) (a : Actor) (heard : Heard) (kept : Post)
@@ -289,7 +292,7 @@ hears-new : (replies : Replies) (c : Configuration) (delivered : List (List ℕ)
     → Agrees c (with_last delivered bytes) (actor_behind_delivery replies c a bytes)
 hears-new replies c delivered bytes a heard plain grammar is other e reads empty =
     subst (Agrees c (with_last delivered bytes)) (sym step) (rests-agrees c delivered bytes
-        (actor_behind_steps replies c (actor_with_heard a heard)) is.none sound
+    (actor_behind_steps replies c (actor_with_heard a heard)) is.none sound
     (steps-rest replies c more follows.1.0 follows.0 (actor_with_heard a heard) plain grammar follows.1.1))
   where
     slot : Slot
@@ -328,7 +331,7 @@ hears-new replies c delivered bytes a heard plain grammar is other e reads empty
     step =
         open-heard replies c a bytes None (rests-open c delivered a is) quiet ∙ ap (actor_behind_heard replies c a) e
         ∙ cond-false (is_some (kept_in a.log slot)) a (actor_behind_steps replies c
-            (actor_behind_repeat replies c (actor_with_heard a heard) a.mood)) (ap is_some nothing)
+        (actor_behind_repeat replies c (actor_with_heard a heard) a.mood)) (ap is_some nothing)
         ∙ ap (actor_behind_steps replies c) (repeat-plain replies c (actor_with_heard a heard) a.mood is.rests.now is.rests.follows.mood)
 
 -- ---- after the end
@@ -340,7 +343,7 @@ unfolding Agrees actor_behind_delivery
 ended-agrees replies c delivered bytes a is =
     let within = is.within in
     subst (Agrees c (with_last delivered bytes)) (sym (cond-false (is_open a.ending)
-        (actor_behind_fault replies c a bytes (fault_shown c (kept_in a.log) bytes)) a (ap is_open is.has.ending ∙ is.has.closed)))
+    (actor_behind_fault replies c a bytes (fault_shown c (kept_in a.log) bytes)) a (ap is_open is.has.ending ∙ is.has.closed)))
     (inr (record {
       ending = is.ending;
       least = (least-ending-grows c delivered bytes).stays is.ending is.least;

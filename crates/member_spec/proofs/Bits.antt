@@ -45,7 +45,7 @@ range-single g k a (suc n) others le lt = elim (cases_lt a k) [
       let same : a ≡ k = omega arith in
       let rest = range-none g (a + 1) n (λ m le. others m (λ e. absurd (omega (arith, e)))) in
       sum_by-cons g a (range_with_len (a + 1) n) ∙ ap (λ (r : ℕ). g a + r) rest ∙ (let none : g a + 0 ≡ g a = omega arith in none)
-          ∙ ap g same
+      ∙ ap g same
 ]
 
 -- ---- bits
@@ -54,7 +54,7 @@ range-single g k a (suc n) others le lt = elim (cases_lt a k) [
 silent-bit : (log : Log) (stage member : ℕ) → is_slot log.shape stage member ≡ false → missing_bit log stage member ≡ 0
 silent-bit log stage member silent =
     cond-false (is_missing log stage member) _ 0 (ap (λ (b : Bool). b && is_none (kept_in log (record { stage = stage; sender = member })))
-        silent)
+    silent)
 
 by-sum : (log : Log) (stage : ℕ) (xs : List ℕ) → bits_of (filter (is_missing log stage) xs) ≡ sum_by (missing_bit log stage) xs
 by-sum log stage xs = passing-sum (λ member. 2 ^ (member - 1)) (is_missing log stage) xs
@@ -78,12 +78,12 @@ turn-bits log stage shuffle k e =
 -- the bits of those whose posts are missing among the senders of a stage are all bits of the stage
 pub bits-missing : (log : Log) (stage : ℕ)
     → bits_of (filter (is_missing log stage) (option_map_or (senders_in log.shape) (kind_of_stage log.shape stage) [])) ≡ missing_bits log
-        stage
+    stage
 bits-missing log stage = by_kind (kind_of_stage log.shape stage) refl
   where
     chosen : (o : Option StageKind) → kind_of_stage log.shape stage ≡ o
         → bits_of (filter (is_missing log stage) (option_map_or (senders_in log.shape) (kind_of_stage log.shape stage) [])) ≡ bits_of
-            (filter (is_missing log stage) (option_map_or (senders_in log.shape) o []))
+        (filter (is_missing log stage) (option_map_or (senders_in log.shape) o []))
     chosen o e = ap (λ (kind : Option StageKind). bits_of (filter (is_missing log stage) (option_map_or (senders_in log.shape) kind []))) e
 
     all : bits_of (filter (is_missing log stage) (range_with_len 1 log.shape.members)) ≡ missing_bits log stage
@@ -91,10 +91,10 @@ bits-missing log stage = by_kind (kind_of_stage log.shape stage) refl
 
     by_kind : (o : Option StageKind) → kind_of_stage log.shape stage ≡ o
         → bits_of (filter (is_missing log stage) (option_map_or (senders_in log.shape) (kind_of_stage log.shape stage) [])) ≡ missing_bits
-            log stage
+        log stage
     by_kind None e = chosen None e
         ∙ sym (range-none (missing_bit log stage) 1 log.shape.members
-            (λ m le. silent-bit log stage m (ap (λ (o : Option StageKind). speaks log.shape o m) e)))
+        (λ m le. silent-bit log stage m (ap (λ (o : Option StageKind). speaks log.shape o m) e)))
     by_kind (Some (Shuffle shuffle k)) e = chosen (Some (Shuffle shuffle k)) e ∙ turn-bits log stage shuffle k e
     by_kind (Some Keys) e = chosen (Some Keys) e ∙ all
     by_kind (Some (Submit shuffle)) e = chosen (Some (Submit shuffle)) e ∙ all

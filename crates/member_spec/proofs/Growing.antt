@@ -80,7 +80,7 @@ heard-post-grows replies c a (Some heard) =
     either a a (actor_behind_steps replies c again) (is_some (kept_in a.log (slot_named heard.header))) (same a a refl)
     (further a kept (actor_behind_steps replies c again) (same a kept refl)
     (further kept again (actor_behind_steps replies c again) (repeat-grows replies c kept a.mood)
-        (steps-grow replies c (2 * stage_count (shape_in c)) again)))
+    (steps-grow replies c (2 * stage_count (shape_in c)) again)))
 
 fault-grows : (replies : Replies) (c : Configuration) (a : Actor) (bytes : List ℕ) (o : Option Verdict)
     → Grows a (actor_behind_fault replies c a bytes o)
@@ -96,5 +96,5 @@ pub posts_grow : PostsGrow
 unfolding actor_after Grows
 posts_grow replies c delivered bytes =
     subst (λ (b : Actor). GoesOnTo (fold (actor_behind_delivery replies c) (actor_at_start replies c) delivered).made b.made)
-        (sym (fold-append (actor_behind_delivery replies c) (actor_at_start replies c) delivered (bytes ∷ [])))
+    (sym (fold-append (actor_behind_delivery replies c) (actor_at_start replies c) delivered (bytes ∷ [])))
     (delivery-grows replies c (fold (actor_behind_delivery replies c) (actor_at_start replies c) delivered) bytes)

@@ -53,7 +53,7 @@ heard-other c bytes heard are e =
     let spelled = ok-of (frame_of bytes) framed.0 framed.1 in
     let is = ok-of (framed_admission_of c.roster c.round framed.0) admitted.0 admitted.1 in
     let admits = admit-found c.roster c.round framed.0 admitted.0 (framed-fits bytes framed.0 spelled)
-        (framed-bytes bytes framed.0 are spelled) is in
+    (framed-bytes bytes framed.0 are spelled) is in
     by_sender framed.0 admitted.0 admitted.2 admits.slot (cases_Bool (admitted.0.sender == c.number))
   where
     told_same : (a b : Heard) → (let told : Heard → Option Heard = λ z. Some z in told a ≡ told b) → a ≡ b
@@ -81,7 +81,7 @@ given-here c bytes heard e reads =
     ap (option_and_then (heard_in (slot_named heard.header))) e
     ∙ cond-true (names_slot (slot_named heard.header) heard.header && is_ok heard.content) (Some heard.post) None
     (and_from _ _ (and_from _ _ (eq-eqb heard.header.stage heard.header.stage refl) (eq-eqb heard.header.sender heard.header.sender refl))
-        reads)
+    reads)
 
 -- to another slot it gives nothing
 pub given-elsewhere : (c : Configuration) (slot : Slot) (bytes : List ℕ) (heard : Heard) → heard_of c bytes ≡ Some heard
@@ -90,7 +90,7 @@ unfolding post_given
 given-elsewhere c slot bytes heard e apart =
     ap (option_and_then (heard_in slot)) e
     ∙ ap (λ (b : Bool). if b && is_ok heard.content then Some heard.post else None)
-        (false_from_ne_true (names_slot slot heard.header) (λ named. apart (names-is slot heard.header named)))
+    (false_from_ne_true (names_slot slot heard.header) (λ named. apart (names-is slot heard.header named)))
 
 -- where the body is outside the grammar it gives nothing at all
 pub given-nothing : (c : Configuration) (slot : Slot) (bytes : List ℕ) (heard : Heard) → heard_of c bytes ≡ Some heard
@@ -100,8 +100,8 @@ unfolding post_given
 given-nothing c slot bytes heard e outside =
     ap (option_and_then (heard_in slot)) e
     ∙ cond-false (names_slot slot heard.header && is_ok heard.content) (Some heard.post) None
-        (false_from_ne_true _ (λ both. (let reads = (and_parts (names_slot slot heard.header) (is_ok heard.content) both).1 in let no = sym
-        reads ∙ outside in cc)))
+    (false_from_ne_true _ (λ both. (let reads = (and_parts (names_slot slot heard.header) (is_ok heard.content) both).1 in let no = sym
+    reads ∙ outside in cc)))
 
 -- first posts that get nothing new are the same
 pub firsts-same : (c : Configuration) (delivered : List (List ℕ)) (bytes : List ℕ)
@@ -140,7 +140,7 @@ pub fault-inside : (c : Configuration) (firsts : Others) (bytes : List ℕ) (hea
     → faults_with c firsts bytes heard ≡ contradiction c firsts bytes heard
 fault-inside c firsts bytes heard reads =
     first_some-none (malformed_conviction c bytes heard) (contradiction c firsts bytes heard ∷ [])
-        (cond-true (is_ok heard.content) None _ reads)
+    (cond-true (is_ok heard.content) None _ reads)
     ∙ first_some-one (contradiction c firsts bytes heard)
   where
     first_some-one : (o : Option Verdict) → first_some (o ∷ []) ≡ o
@@ -165,10 +165,13 @@ contradiction-same c bytes heard post same = cond-true (bytes_eq post.content he
 
 pub contradiction-cases : (c : Configuration) (bytes : List ℕ) (heard : Heard) (post : Post)
     → ((post.content ≡ heard.post.content) × (contradiction_with c bytes heard post ≡ None))
-        ⊎ ((v : Verdict) × (is_open v ≡ false) × (contradiction_with c bytes heard post ≡ Some v))
+    ⊎ ((v : Verdict) × (is_open v ≡ false) × (contradiction_with c bytes heard post ≡ Some v))
 contradiction-cases c bytes heard post = elim (cases_Bool (bytes_eq post.content heard.post.content)) [
-  | inl same ↦ inl ((bytes_eq-Decides post.content heard.post.content).0 same, cond-true (bytes_eq post.content heard.post.content) None _
-      same)
+  | inl same ↦ inl (
+    (bytes_eq-Decides post.content heard.post.content).0 same,
+    cond-true (bytes_eq post.content heard.post.content) None _
+        same,
+  )
   | inr other ↦ inr (_, refl, cond-false (bytes_eq post.content heard.post.content) None _ other)
 ]
 
@@ -180,7 +183,7 @@ unfolding least_ending
 none-ends c delivered e =
     nothing_mapped (λ (verdict : Verdict). (length delivered, verdict)) (ending_of c delivered)
     (sym (ending-all c delivered (length delivered) (omega arith))
-        ∙ first_below-each (ending_at c delivered) (suc (length delivered)) e (length delivered) (omega arith))
+    ∙ first_below-each (ending_at c delivered) (suc (length delivered)) e (length delivered) (omega arith))
 
 pub ending-open : (verdict : Verdict) → ending_verdict verdict ≡ None → is_open verdict ≡ true
 ending-open Goes e = refl

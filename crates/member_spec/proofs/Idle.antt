@@ -62,9 +62,9 @@ kept-filled log slot other post kept e = elim (cases_Bool (is_slot log.shape oth
       let number : ℕ = slot_number log.shape other.stage other.sender in
       let k : ℕ = slot_number log.shape slot.stage slot.sender in
       let entry = sym (cond-true (is_slot log.shape other.stage other.sender)
-          (option_flatten (slice_get (slice_set log.posts k (Some post)) number)) None speaks) ∙ e in
+      (option_flatten (slice_get (slice_set log.posts k (Some post)) number)) None speaks) ∙ e in
       elim (get-set log.posts k number (Some post) (Some kept) (flatten-some (slice_get (slice_set log.posts k (Some post)) number) kept
-          entry)) [
+      entry)) [
         | inl old ↦ inl (cond-true (is_slot log.shape other.stage other.sender) (option_flatten (slice_get log.posts number)) None speaks
             ∙ ap option_flatten old)
         | inr new ↦ inr (told_same kept post new)
@@ -95,8 +95,8 @@ empty-read c slot post e = elim (cases_Bool (is_slot (shape_in c) slot.stage slo
   | inl speaks ↦ absurd (nothing-there (slot_count (shape_in c)) (slot_number (shape_in c) slot.stage slot.sender) post
       (flatten-some (slice_get (replicate (slot_count (shape_in c)) None) (slot_number (shape_in c) slot.stage slot.sender)) post
       (sym (cond-true (is_slot (shape_in c) slot.stage slot.sender)
-          (option_flatten (slice_get (replicate (slot_count (shape_in c)) None) (slot_number (shape_in c) slot.stage slot.sender))) None
-          speaks) ∙ e)))
+      (option_flatten (slice_get (replicate (slot_count (shape_in c)) None) (slot_number (shape_in c) slot.stage slot.sender))) None
+      speaks) ∙ e)))
 ]
 
 post-read : (c : Configuration) (a : Actor) (post : Post) → KeepsRead c a.log → KeepsRead c (actor_behind_post c a post).log
@@ -160,7 +160,7 @@ data Admitting (c : Configuration) (bytes : List ℕ) : Type 0 where
   Hears : (post : Post) (header : Header) → admission_of_bytes c.roster c.round bytes ≡ Ok (header, post.content)
       → (header.sender == c.number) ≡ false
       → heard_of c bytes ≡ Some (record { header = header; post = post; content = content_read (shape_in c) post.content })
-          → Admitting c bytes
+      → Admitting c bytes
 
 admitting : (c : Configuration) (bytes : List ℕ) → Admitting c bytes
 unfolding heard_of
@@ -228,7 +228,7 @@ pub same-delivered : (replies : Replies) (c : Configuration) (a : Actor) (bytes 
     → kept_in a.log (slot_named heard.header) ≡ Some kept → kept.content ≡ heard.post.content → actor_behind_delivery replies c a bytes ≡ a
 same-delivered replies c a bytes heard kept still e reads there same =
     open-delivery replies c a bytes None still (fault-of c (kept_in a.log) bytes (Some heard) e
-        ∙ fault-inside c (kept_in a.log) bytes heard reads
+    ∙ fault-inside c (kept_in a.log) bytes heard reads
     ∙ contradiction-full c (kept_in a.log) bytes heard kept there ∙ contradiction-same c bytes heard kept same)
     ∙ ap (actor_behind_heard replies c a) e ∙ cond-true (is_some (kept_in a.log (slot_named heard.header))) a _ (ap is_some there)
 
@@ -240,7 +240,7 @@ not-idle Goes leaves = leaves
 
 answer-open : (replies : Replies) (c : Configuration) (a : Actor) (bytes : List ℕ) → is_open a.ending ≡ true
     → answer_to replies c a bytes ≡ unwrap_or (idle_answer c a.log (admission_of_bytes c.roster c.round bytes))
-        (answer_by_end (actor_behind_delivery replies c a bytes).ending)
+    (answer_by_end (actor_behind_delivery replies c a bytes).ending)
 unfolding answer_to
 answer-open replies c a bytes still = cond-true (is_open a.ending) _ _ still
 
@@ -259,7 +259,7 @@ idle-delivery replies c a bytes keeps leaves = elim (cases_Bool (is_open a.endin
         → (header.sender == c.number) ≡ false
         → heard_of c bytes ≡ Some (record { header = header; post = post; content = content_read (shape_in c) post.content })
         → (is_content post.content (kept_in a.log (slot_named header)) ≡ true)
-            ⊎ (is_content post.content (kept_in a.log (slot_named header)) ≡ false)
+        ⊎ (is_content post.content (kept_in a.log (slot_named header)) ≡ false)
         → actor_behind_delivery replies c a bytes ≡ a
     by_kept still post header admits other e (inl same) = by_post (kept_in a.log (slot_named header)) refl same
       where
@@ -269,7 +269,7 @@ idle-delivery replies c a bytes keeps leaves = elim (cases_Bool (is_open a.endin
         by_post (Some kept) there same =
             let equal : kept.content ≡ post.content = (bytes_eq-Decides kept.content post.content).0 same in
             same-delivered replies c a bytes (record { header = header; post = post; content = content_read (shape_in c) post.content })
-                kept still e
+            kept still e
             (sym (ap (λ (b : List ℕ). is_ok (content_read (shape_in c) b)) equal) ∙ keeps (slot_named header) kept there) there equal
     by_kept still post header admits other e (inr new) = absurd
         (not-idle (actor_behind_delivery replies c a bytes).ending (subst LeavesAll told leaves))
@@ -282,7 +282,7 @@ idle-delivery replies c a bytes keeps leaves = elim (cases_Bool (is_open a.endin
         told : answer_to replies c a bytes ≡ answer_by_end (actor_behind_delivery replies c a bytes).ending
         told = answer-open replies c a bytes still
             ∙ ap (λ (o : Option Taken). unwrap_or o (answer_by_end (actor_behind_delivery replies c a bytes).ending))
-                (ap (idle_answer c a.log) admits ∙ none)
+            (ap (idle_answer c a.log) admits ∙ none)
 
     by_admission : is_open a.ending ≡ true → Admitting c bytes → actor_behind_delivery replies c a bytes ≡ a
     by_admission still (Refuses refusal admits nothing) = nothing-delivered replies c a bytes still nothing
@@ -314,13 +314,13 @@ delivery-read replies c a bytes keeps = elim (cases_Bool (is_open a.ending)) [
     by_full : (post : Post) (header : Header) → is_ok (content_read (shape_in c) post.content) ≡ true
         → (is_some (kept_in a.log (slot_named header)) ≡ true) ⊎ (is_some (kept_in a.log (slot_named header)) ≡ false)
         → KeepsRead c (actor_behind_heard replies c a (Some (record
-            { header = header; post = post; content = content_read (shape_in c) post.content }))).log
+        { header = header; post = post; content = content_read (shape_in c) post.content }))).log
     by_full post header reads (inl full) = subst (λ (x : Actor). KeepsRead c x.log)
         (sym (cond-true (is_some (kept_in a.log (slot_named header))) a _ full)) keeps
     by_full post header reads (inr empty) =
         let heard : Heard = record { header = header; post = post; content = content_read (shape_in c) post.content } in
         subst (λ (x : Actor). KeepsRead c x.log) (sym (cond-false (is_some (kept_in a.log (slot_named header))) a
-            (actor_behind_steps replies c (actor_behind_repeat replies c (actor_with_heard a heard) a.mood)) empty))
+        (actor_behind_steps replies c (actor_behind_repeat replies c (actor_with_heard a heard) a.mood)) empty))
         (steps-read replies c (2 * stage_count (shape_in c)) (actor_behind_repeat replies c (actor_with_heard a heard) a.mood)
         (repeat-read replies c (actor_with_heard a heard) a.mood (filled-read c a.log (slot_named header) post reads keeps)))
 

@@ -64,8 +64,14 @@ given-by c slot bytes post e = by_heard (heard_of c bytes) refl e
           not_so) ∙ e))
       | inl so ↦
           let parts = and_parts (names_slot slot heard.header) (is_ok heard.content) so in
-          record { heard = heard; is = is; named = names-is slot heard.header parts.0; reads = parts.1; same = told_same heard.post post
-              (sym (cond-true (names_slot slot heard.header && is_ok heard.content) (Some heard.post) None so) ∙ e) }
+          record {
+            heard = heard;
+            is = is;
+            named = names-is slot heard.header parts.0;
+            reads = parts.1;
+            same = told_same heard.post post
+                (sym (cond-true (names_slot slot heard.header && is_ok heard.content) (Some heard.post) None so) ∙ e);
+          }
     ]
 
 -- two strings of the deliveries that give one slot posts give it the same
@@ -85,7 +91,7 @@ given-same c delivered slot bytes other post second orderless here there e e' =
 -- deliveries that have each other's strings give each slot the same post
 posts-same : (c : Configuration) (delivered others : List (List ℕ)) (slot : Slot) → AreOrderless c delivered
     → ((bytes : List ℕ) → Contains delivered bytes → Contains others bytes)
-        → ((bytes : List ℕ) → Contains others bytes → Contains delivered bytes)
+    → ((bytes : List ℕ) → Contains others bytes → Contains delivered bytes)
     → first_posts c others slot ≡ first_posts c delivered slot
 unfolding first_posts
 posts-same c delivered others slot orderless into back = by_first (first_some (map (post_given c slot) delivered))
@@ -109,8 +115,11 @@ posts-same c delivered others slot orderless into back = by_first (first_some (m
 -- nobody is at fault in such deliveries
 consistent : (c : Configuration) (delivered : List (List ℕ)) → AreOrderless c delivered → AreConsistent c delivered
 unfolding first_posts
-consistent c delivered orderless bytes heard listed is = (orderless.read bytes heard listed is, λ first e. same first
-    (first-of (post_given c (slot_named heard.header)) delivered first e))
+consistent c delivered orderless bytes heard listed is = (
+  orderless.read bytes heard listed is,
+  λ first e. same first
+      (first-of (post_given c (slot_named heard.header)) delivered first e),
+)
   where
     told_same : (x y : Heard) → (let told : Heard → Option Heard = λ z. Some z in told x ≡ told y) → x ≡ y
     told_same x y e = cc
@@ -137,11 +146,11 @@ same-function f g each = λ i slot. each slot i
 pub order_changes_nothing : OrderChangesNothing
 order_changes_nothing c delivered others orderless shuffled =
     let into : (bytes : List ℕ) → Contains delivered bytes → Contains others bytes = λ bytes. Contains-permutation delivered others bytes
-        shuffled in
+    shuffled in
     let back : (bytes : List ℕ) → Contains others bytes
     → Contains delivered bytes = λ bytes. Contains-permutation others delivered bytes (IsPermutation-sym delivered others shuffled) in
     let posts : first_posts c others ≡ first_posts c delivered = same-function (first_posts c others) (first_posts c delivered)
-        (λ slot. posts-same c delivered others slot orderless into back) in
+    (λ slot. posts-same c delivered others slot orderless into back) in
     let was = whole_course c delivered (consistent c delivered orderless) in
     let is = whole_course c others (consistent c others (reordered c delivered others orderless back)) in (
       is.result ∙ ap (λ (o : Others). outcome_of_stand c o (course_of c o)) posts ∙ sym was.result,

@@ -32,7 +32,7 @@ place-is shape f i slot at = get_or_from_slice_get (map f (slots_of shape)) i (f
 -- each place is that of a slot
 pub slot-there : (shape : Shape) (i : ℕ) → i < length (slots_of shape)
     → (slot : Slot) × (slot_at shape i ≡ Some slot) × (is_slot shape slot.stage slot.sender ≡ true)
-        × (slot_number shape slot.stage slot.sender ≡ i)
+    × (slot_number shape slot.stage slot.sender ≡ i)
 slot-there shape i lt =
     let slot : Slot = get_or (slots_of shape) i any_slot in
     let at : slot_at shape i ≡ Some slot = slice_get-get_or (slots_of shape) i any_slot lt in
@@ -46,7 +46,7 @@ kept-place shape f slot speaks =
     let number : ℕ = slot_number shape slot.stage slot.sender in
     cond-true (is_slot shape slot.stage slot.sender) (option_flatten (slice_get (map f (slots_of shape)) number)) None speaks
     ∙ ap (λ (o : Option (Option Post)). option_flatten o) (slice_get-map f (slots_of shape) number
-        ∙ ap (option_map f) (slot_at-number shape slot.stage slot.sender speaks))
+    ∙ ap (option_map f) (slot_at-number shape slot.stage slot.sender speaks))
 
 -- two lists with the same values
 pub places-same : (shape : Shape) (f g : Slot → Option Post) → ((slot : Slot) → is_slot shape slot.stage slot.sender ≡ true
@@ -54,7 +54,7 @@ pub places-same : (shape : Shape) (f g : Slot → Option Post) → ((slot : Slot
     → map f (slots_of shape) ≡ map g (slots_of shape)
 places-same shape f g same =
     ext_get_or None (map f (slots_of shape)) (map g (slots_of shape)) (length-map (slots_of shape) f ∙ sym (length-map (slots_of shape) g))
-        (λ i lt.
+    (λ i lt.
     let there = slot-there shape i (omega (arith, length-map (slots_of shape) f)) in
     place-is shape f i there.0 there.1 ∙ same there.0 there.2 ∙ sym (place-is shape g i there.0 there.1))
 
@@ -104,7 +104,7 @@ places-set shape f g slot post speaks here others =
 -- the slots of a stage, by sender
 stage-slots : (shape : Shape) (stage : ℕ) (kind : StageKind) → kind_of_stage shape stage ≡ Some kind
     → slice_range (slots_of shape) (slots_before shape stage) (slots_before shape (stage + 1)) ≡ map
-        (λ sender. record { stage = stage; sender = sender }) (senders_in shape kind)
+    (λ sender. record { stage = stage; sender = sender }) (senders_in shape kind)
 stage-slots shape stage kind is = ext_get_or any_slot part made (count ∙ sym many) (λ i lt. each i (omega (arith, count)))
   where
     a : ℕ
@@ -134,7 +134,7 @@ stage-slots shape stage kind is = ext_get_or any_slot part made (count ∙ sym m
     count : length part ≡ n
     count = (let most = slots_before-most shape (stage + 1) in
         length-take-le (slots_before shape (stage + 1) - a) (drop a (slots_of shape))
-            (omega (arith, length-drop a (slots_of shape), length-slots_of shape, next)) ∙ width)
+        (omega (arith, length-drop a (slots_of shape), length-slots_of shape, next)) ∙ width)
 
     each : (i : ℕ) → i < n → get_or part i any_slot ≡ get_or made i any_slot
     each i lt =
@@ -146,7 +146,7 @@ stage-slots shape stage kind is = ext_get_or any_slot part made (count ∙ sym m
         ∙ get_or-drop a (slots_of shape) i any_slot
         ∙ get_or_from_slice_get (slots_of shape) (a + i) (to_slot (get_or (senders_in shape kind) i 0)) any_slot at
         ∙ sym (get_or_from_slice_get made i (to_slot (get_or (senders_in shape kind) i 0)) any_slot
-            (slice_get-map to_slot (senders_in shape kind) i
+        (slice_get-map to_slot (senders_in shape kind) i
         ∙ ap (option_map to_slot) there))
 
 -- the posts of a stage, by sender
@@ -156,7 +156,7 @@ stage-places shape f stage kind is =
     let a : ℕ = slots_before shape stage in
     let b : ℕ = slots_before shape (stage + 1) in
     ap (take (b - a)) (drop-map f a (slots_of shape)) ∙ take-map f (b - a) (drop a (slots_of shape))
-        ∙ ap (map f) (stage-slots shape stage kind is)
+    ∙ ap (map f) (stage-slots shape stage kind is)
     ∙ map-map (senders_in shape kind)
   where
     map-map : (xs : List ℕ) → map f (map (λ sender. record { stage = stage; sender = sender }) xs) ≡ map
@@ -178,7 +178,7 @@ place-of-sender shape stage sender kind is speaks =
     let other = slice_get-get_or (senders_in shape kind) place 0 few in
     let there = slot_at-place shape stage place (get_or (senders_in shape kind) place 0) kind is other in
     let same : record { stage = stage; sender = get_or (senders_in shape kind) place 0 } ≡ record { stage = stage; sender = sender } =
-        told_same _ _ (sym there
+    told_same _ _ (sym there
     ∙ ap (slot_at shape) (sym number) ∙ slot_at-number shape stage sender speaks) in
     (place, other ∙ ap (λ (s : Slot). Some s.sender) same)
   where

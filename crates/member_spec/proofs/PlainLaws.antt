@@ -69,7 +69,7 @@ starts c = record {
   at = refl;
   log = ap (λ (posts : List (Option Post)). record { shape = shape_in c; posts = posts })
       (ap (λ (n : ℕ). replicate n None) (sym (length-slots_of (shape_in c)))
-          ∙ none-map (place_with c (first_posts c []) first_stand false) (slots_of (shape_in c)) none);
+      ∙ none-map (place_with c (first_posts c []) first_stand false) (slots_of (shape_in c)) none);
   made = sym (filter-none (own_at c first_stand false) 0 (stage_count (shape_in c)) (λ stage le lt. nothing-said c stage));
   mood = refl;
   ending = refl;
@@ -124,9 +124,9 @@ agrees-on replies c front [] a plain grammar before later is = subst (λ (d : Li
 agrees-on replies c front (bytes ∷ rest) a plain grammar before later is =
     let more : All IsBytes (with_last front bytes) = All-append IsBytes front (bytes ∷ []) before (first-all bytes rest later) in
     subst (λ (d : List (List ℕ)). Agrees c d (fold (actor_behind_delivery replies c) (actor_behind_delivery replies c a bytes) rest))
-        (append_assoc front (bytes ∷ []) rest)
+    (append_assoc front (bytes ∷ []) rest)
     (agrees-on replies c (with_last front bytes) rest (actor_behind_delivery replies c a bytes) plain grammar more
-        (rest-all bytes rest later)
+    (rest-all bytes rest later)
     (delivery-keeps replies c front bytes a plain (head-all bytes rest later) (grammar (with_last front bytes) more) is))
   where
     head-all : (x : List ℕ) (xs : List (List ℕ)) → All IsBytes (x ∷ xs) → IsBytes x
@@ -163,7 +163,7 @@ waits-same : (c : Configuration) (others : Others) (a : Actor) → WaitsAtFirst 
 waits-same c others a waits log stand =
     ap (λ (s : Stand). Waiting s.at (filter (is_missing a.log s.at) (senders_at c s.at))) stand
     ∙ ap (λ (l : Log). Waiting (course_of c others).at (filter (is_missing l (course_of c others).at)
-        (senders_at c (course_of c others).at))) log
+    (senders_at c (course_of c others).at))) log
     ∙ ap (λ (xs : List ℕ). Waiting (course_of c others).at xs) (by_kind (kind_of_stage (shape_in c) (course_of c others).at) refl)
   where
     at : ℕ
@@ -171,22 +171,22 @@ waits-same c others a waits log stand =
 
     by_kind : (o : Option StageKind) → kind_of_stage (shape_in c) (course_of c others).at ≡ o
         → filter (is_missing (settled_log c others) (course_of c others).at)
-            (option_map_or (senders_in (shape_in c)) (kind_of_stage (shape_in c) (course_of c others).at) [])
+        (option_map_or (senders_in (shape_in c)) (kind_of_stage (shape_in c) (course_of c others).at) [])
         ≡ filter (is_awaited c others (course_of c others).at) (option_map_or (senders_in (shape_in c))
-            (kind_of_stage (shape_in c) (course_of c others).at) [])
+        (kind_of_stage (shape_in c) (course_of c others).at) [])
     by_kind None e = ap (λ (o : Option StageKind). filter (is_missing (settled_log c others) (course_of c others).at)
         (option_map_or (senders_in (shape_in c)) o [])) e
         ∙ sym (ap (λ (o : Option StageKind). filter (is_awaited c others (course_of c others).at)
-            (option_map_or (senders_in (shape_in c)) o [])) e)
+        (option_map_or (senders_in (shape_in c)) o [])) e)
     by_kind (Some kind) e = ap (λ (o : Option StageKind). filter (is_missing (settled_log c others) (course_of c others).at)
         (option_map_or (senders_in (shape_in c)) o [])) e
         ∙ filter-members (is_missing (settled_log c others) (course_of c others).at) (is_awaited c others (course_of c others).at)
-            (senders_in (shape_in c) kind)
+        (senders_in (shape_in c) kind)
         (λ i x there. waits.missing x (slot_at-is (shape_in c) (slots_before (shape_in c) (course_of c others).at + i)
-            (record { stage = (course_of c others).at; sender = x })
-            (slot_at-place (shape_in c) (course_of c others).at i x kind e there)).0)
+        (record { stage = (course_of c others).at; sender = x })
+        (slot_at-place (shape_in c) (course_of c others).at i x kind e there)).0)
         ∙ sym (ap (λ (o : Option StageKind). filter (is_awaited c others (course_of c others).at)
-            (option_map_or (senders_in (shape_in c)) o [])) e)
+        (option_map_or (senders_in (shape_in c)) o [])) e)
 
 -- a member that agrees has come to the result
 pub agrees-comes : (c : Configuration) (delivered : List (List ℕ)) (a : Actor) → c.round < 2 ^ 64 → 1 ≤ (shape_in c).members
@@ -202,7 +202,7 @@ agrees-comes c delivered a small least are (inl is) =
     record {
       outcome =
           cond-true (is_open a.ending) (Waiting a.stand.at (members_missing c a)) (outcome_ended c a.stand a.ending)
-              (ap is_open (is.rests.follows.ending
+          (ap is_open (is.rests.follows.ending
           ∙ ap (λ (s : Stand). s.verdict) stand) ∙ still)
           ∙ waits-same c firsts a waits log stand ∙ sym (ap (outcome_by c delivered) is.none);
       posts = rests-made c firsts a is.rests ∙ sym (ap (λ (o : Option (ℕ × Verdict)). own_posts c
@@ -212,9 +212,9 @@ agrees-comes c delivered a small least are (inl is) =
 agrees-comes c delivered a small least are (inr is) = record {
   outcome =
       cond-false (is_open a.ending) (Waiting a.stand.at (members_missing c a)) (outcome_ended c a.stand a.ending)
-          (ap is_open is.has.ending ∙ is.has.closed)
+      (ap is_open is.has.ending ∙ is.has.closed)
       ∙ ap (outcome_ended c a.stand) is.has.ending ∙ ap (λ (s : Stand). outcome_ended c s is.ending.1) is.has.stand
-          ∙ sym (ap (outcome_by c delivered) is.least);
+      ∙ sym (ap (outcome_by c delivered) is.least);
   posts = is.has.made ∙ sym (ap (λ (o : Option (ℕ × Verdict)). own_posts c (stand_after c (counted_part delivered o))) is.least);
   log = is.has.log ∙ sym (ap (λ (o : Option (ℕ × Verdict)). settled_log c (first_posts c (counted_part delivered o))) is.least);
 }
@@ -242,12 +242,12 @@ counted-bytes c delivered are = part-bytes delivered (least_ending c delivered) 
 pub plain_comes_to_result : PlainComesToResult
 plain_comes_to_result replies c delivered plain is are =
     agrees-comes c delivered (actor_after replies c delivered) is.round (members-least c is) are
-        (agrees-after replies c delivered plain (says-grammar c is) are)
+    (agrees-after replies c delivered plain (says-grammar c is) are)
 
 pub plain_run_is_honest : PlainRunIsHonest
 plain_run_is_honest replies c delivered plain is are =
     subst (λ (log : Log). HonestRun (record { config = c; log = log }))
-        (sym (plain_comes_to_result replies c delivered plain is.enter are).log) (run_after_is_honest c delivered is are)
+    (sym (plain_comes_to_result replies c delivered plain is.enter are).log) (run_after_is_honest c delivered is are)
 
 pub plain_ends_once : PlainEndsOnce
 unfolding posts_of
@@ -256,7 +256,7 @@ plain_ends_once replies c delivered shuffle plain is are =
     let counted : List (List ℕ) = delivered_counted c delivered in
     let others : Others = first_posts c counted in
     let check : OthersCheck c others = λ slot post e. (first_posts_delivered c counted slot post (counted-bytes c delivered are) e).checks
-        in
+    in
     subst (λ (made : List Post). EndsOnce c made shuffle) (sym comes.posts) (own-ends c others shuffle is check)
 
 -- the own posts that a settled log keeps are those of its course
@@ -282,7 +282,7 @@ said-all c others = filter-in (own_post_at c (course_of c others))
     (λ stage. kept_in (settled_log c others) (own_slot (settled_run c others) stage)) 0 (stage_count (shape_in c))
     (λ stage le lt. said-there c others stage)
     ∙ ap (λ (n : ℕ). filter_map (λ stage. kept_in (settled_log c others) (own_slot (settled_run c others) stage)) (range_with_len 0 n))
-        (count-same c others)
+    (count-same c others)
   where
     count-same : (c : Configuration) (others : Others) → stage_count (shape_in c) ≡ stage_count (settled_log c others).shape
     count-same c others = ap (λ (s : Shape). stage_count s) (shape-same c others)

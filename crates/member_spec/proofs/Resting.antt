@@ -64,9 +64,9 @@ pub steps-rest : (replies : Replies) (c : Configuration) (others : Others) (now 
 unfolding Moved
 steps-rest replies c others now stages a plain grammar f = elim
     (moved replies c others (2 * stage_count (shape_in c)) now stages a plain grammar f) [
-  | inl rests ↦ rests
-  | inr far ↦ (let least = far.3 in past-rests c others far.0 far.1 _ far.2 (enough far.0 far.1 least))
-]
+      | inl rests ↦ rests
+      | inr far ↦ (let least = far.3 in past-rests c others far.0 far.1 _ far.2 (enough far.0 far.1 least))
+    ]
   where
     enough : (b : Bool) (m : ℕ) → 2 * stages + bit now + 2 * stage_count (shape_in c) ≤ 2 * m + bit b → stage_count (shape_in c) ≤ m
     enough true m le = omega arith
@@ -84,9 +84,9 @@ rests-stand c others a rests =
     let at = f.at in
     let split : stage_count (shape_in c) ≡ rests.stages + (stage_count (shape_in c) - rests.stages) = omega arith in
     sym (ap (λ (k : ℕ). course_from c others k first_stand) split
-        ∙ course-adds c others rests.stages (stage_count (shape_in c) - rests.stages) first_stand
+    ∙ course-adds c others rests.stages (stage_count (shape_in c) - rests.stages) first_stand
     ∙ ap (course_from c others (stage_count (shape_in c) - rests.stages)) (sym f.stand)
-        ∙ course-stays c others (stage_count (shape_in c) - rests.stages) a.stand rests.no_next)
+    ∙ course-stays c others (stage_count (shape_in c) - rests.stages) a.stand rests.no_next)
 
 -- whether it has spoken is whether the round is open, where it is a sender
 spoken-open : (c : Configuration) (others : Others) (a : Actor) (rests : Rests c others a) → is_slot (shape_in c) a.stand.at c.number ≡ true

@@ -58,7 +58,7 @@ pub filled-complete : (log : Log) (slot : Slot) (post : Post) (stage : ℕ) → 
     → is_complete (filled log slot post) stage ≡ true
 filled-complete log slot post stage e =
     set-full log.posts (slot_number log.shape slot.stage slot.sender) (slots_before log.shape stage)
-        (slots_before log.shape (stage + 1) - slots_before log.shape stage) post e
+    (slots_before log.shape (stage + 1) - slots_before log.shape stage) post e
 
 all-there : (places : List (Option Post)) (posts : List Post) → all_some places ≡ Some posts → list_all is_some places ≡ true
 all-there [] posts e = refl
@@ -90,8 +90,11 @@ either c x y false first second = second
 
 post-comes : (c : Configuration) (a : Actor) (post : Post) → HasCome c a → HasCome c (actor_behind_post c a post)
 post-comes c a post has = either c _ _ (is_ok (content_read (shape_in c) post.content))
-    (record { shape = has.shape; complete = λ stage lt. filled-complete a.log (record { stage = a.stand.at; sender = c.number }) post stage
-        (has.complete stage lt) })
+    (record {
+      shape = has.shape;
+      complete = λ stage lt. filled-complete a.log (record { stage = a.stand.at; sender = c.number }) post stage
+          (has.complete stage lt);
+    })
     (record { shape = has.shape; complete = has.complete })
 
 answer-comes : (c : Configuration) (a : Actor) (speech : Speech) → HasCome c a → HasCome c (actor_behind_answer c a speech)
@@ -192,7 +195,7 @@ step-further replies c a = elim (cases_Bool (is_open a.ending)) [
       | inr not_due ↦ inl (open-step replies c a None still none ∙ cond-false (is_due c a.stand a.mood) _ a not_due)
       | inl due ↦ inr (
           let step = open-step replies c a None still none ∙ cond-true (is_due c a.stand a.mood)
-              (actor_behind_question replies c a (content_to_say replies c a.stand)) a due in
+          (actor_behind_question replies c a (content_to_say replies c a.stand)) a due in
           let one = answer-further c a (speech_about replies c a (content_to_say replies c a.stand)) in
           let unasked = due-unasked c a.stand a.mood due in
           subst (λ (x : Actor). way_of a < way_of x) (sym step) (omega (arith, one, unasked)))
@@ -255,8 +258,11 @@ heard-waits replies c a None is = is
 heard-waits replies c a (Some heard) is = by_kept (is_some (kept_in a.log (slot_named heard.header)))
   where
     kept : HasCome c (actor_with_heard a heard)
-    kept = record { shape = is.has.shape; complete = λ stage lt. filled-complete a.log (slot_named heard.header) heard.post stage
-        (is.has.complete stage lt) }
+    kept = record {
+      shape = is.has.shape;
+      complete = λ stage lt. filled-complete a.log (slot_named heard.header) heard.post stage
+          (is.has.complete stage lt);
+    }
 
     by_kept : (b : Bool) → Waits c (if b then a else actor_behind_steps replies c
         (actor_behind_repeat replies c (actor_with_heard a heard) a.mood))
@@ -267,8 +273,11 @@ heard-waits replies c a (Some heard) is = by_kept (is_some (kept_in a.log (slot_
 fault-waits : (replies : Replies) (c : Configuration) (a : Actor) (bytes : List ℕ) (o : Option Verdict) → is_open a.ending ≡ true
     → Waits c a
     → Waits c (actor_behind_fault replies c a bytes o)
-fault-waits replies c a bytes (Some verdict) still is = record { has = record { shape = is.has.shape; complete = is.has.complete }; waits =
-    λ _. is.waits still }
+fault-waits replies c a bytes (Some verdict) still is = record {
+  has = record { shape = is.has.shape; complete = is.has.complete };
+  waits =
+      λ _. is.waits still;
+}
 fault-waits replies c a bytes None still is = heard-waits replies c a (heard_of c bytes) is
 
 delivery-waits : (replies : Replies) (c : Configuration) (a : Actor) (bytes : List ℕ) → Waits c a
@@ -300,16 +309,16 @@ stands-first : (c : Configuration) (a : Actor) → Waits c a → is_open a.endin
 stands-first c a is still = elim (cases_lt a.stand.at (stage_count (shape_in c))) [
   | inl lt ↦
       first_below-some (incomplete_stage a.log) (stage_count a.log.shape) a.stand.at a.stand.at (omega (arith, lt, count))
-          (λ j below. complete-none a.log j (is.has.complete j below))
+      (λ j below. complete-none a.log j (is.has.complete j below))
       (incomplete-some a.log a.stand.at (not-there (posts_in a.log a.stand.at) (sym (posts-within c a lt) ∙ is.waits still)))
       ∙ sym (cond-true (nat_lt a.stand.at (stage_count (shape_in c))) (Some a.stand.at) None
-          (lt-ltb a.stand.at (stage_count (shape_in c)) lt))
+      (lt-ltb a.stand.at (stage_count (shape_in c)) lt))
   | inr le ↦
       first_below-none (incomplete_stage a.log) (stage_count a.log.shape)
-          (λ j below. complete-none a.log j (is.has.complete j (omega (arith, le, count, below))))
+      (λ j below. complete-none a.log j (is.has.complete j (omega (arith, le, count, below))))
       ∙ sym (cond-false (nat_lt a.stand.at (stage_count (shape_in c))) (Some a.stand.at) None
-          (false_from_ne_true (nat_lt a.stand.at (stage_count (shape_in c)))
-          (λ e. (let lt = ltb-true a.stand.at (stage_count (shape_in c)) e in omega (arith, le, lt)))))
+      (false_from_ne_true (nat_lt a.stand.at (stage_count (shape_in c)))
+      (λ e. (let lt = ltb-true a.stand.at (stage_count (shape_in c)) e in omega (arith, le, lt)))))
 ]
   where
     count : stage_count a.log.shape ≡ stage_count (shape_in c)

@@ -66,7 +66,7 @@ says-own : (replies : Replies) (c : Configuration) (stand : Stand) → IsPlain r
 unfolding content_to_say own_content own_descriptor
 says-own replies c stand plain =
     ap (λ (d : Description). content_text (content_with c (descriptor_text d) stand.past stand.at))
-        (plain.descriptor (own_description c (contents_of stand.past)))
+    (plain.descriptor (own_description c (contents_of stand.past)))
 
 says-plainly : (replies : Replies) (c : Configuration) (a : Actor) (bytes : List ℕ) → IsPlain replies
     → speech_about replies c a bytes ≡ Say bytes
@@ -114,7 +114,7 @@ posts-within c a lt = cond-true (nat_lt a.stand.at (stage_count (shape_in c))) (
 pub posts-past : (c : Configuration) (a : Actor) → stage_count (shape_in c) ≤ a.stand.at → stage_posts c a ≡ None
 posts-past c a le = cond-false (nat_lt a.stand.at (stage_count (shape_in c))) (all_some (posts_in a.log a.stand.at)) None
     (false_from_ne_true (nat_lt a.stand.at (stage_count (shape_in c)))
-        (λ e. (let lt = ltb-true a.stand.at (stage_count (shape_in c)) e in omega arith)))
+    (λ e. (let lt = ltb-true a.stand.at (stage_count (shape_in c)) e in omega arith)))
 
 -- it is to be asked exactly where it is a sender and has not spoken
 due-when : (c : Configuration) (stand : Stand) (now : Bool) (mood : Mood) → mood ≡ mood_when now
@@ -206,7 +206,7 @@ passes-on : (replies : Replies) (c : Configuration) (others : Others) (now : Boo
     → stage_filled c others a.stand ≡ Some posts → LeadsOn c others (2 * stages + bit now) (actor_behind_step replies c a)
 passes-on replies c others now stages a kind posts f still lt kind_is said filled_is =
     subst (LeadsOn c others (2 * stages + bit now)) (sym step) (record
-        { now = false; stages = stages + 1; follows = after; further = further now })
+    { now = false; stages = stages + 1; follows = after; further = further now })
   where
     is : IsReached c others a.stand
     is = follows-reached c others now stages a f
@@ -245,8 +245,14 @@ still-ended : (replies : Replies) (c : Configuration) (others : Others) (now : B
     → Follows c others now stages a
     → is_open a.stand.verdict ≡ false → IsStill replies c others a
 still-ended replies c others now stages a f ended = record {
-  rests = record { now = now; stages = stages; follows = f; no_next = next-ended c others a.stand ended; spoken = λ still. absurd
-      (let both = sym still ∙ ended in cc) };
+  rests = record {
+    now = now;
+    stages = stages;
+    follows = f;
+    no_next = next-ended c others a.stand ended;
+    spoken = λ still. absurd
+        (let both = sym still ∙ ended in cc);
+  };
   stays = ended-step replies c a (ap is_open f.ending ∙ ended);
 }
 
@@ -255,11 +261,17 @@ still-past : (replies : Replies) (c : Configuration) (others : Others) (now : Bo
     → stage_count (shape_in c) ≤ a.stand.at → IsStill replies c others a
 unfolding stage_filled
 still-past replies c others now stages a f still none le = record {
-  rests = record { now = now; stages = stages; follows = f; no_next = no-next-of c others a.stand still
-      (ap (option_and_then (posts_of_kind c others a.stand)) none); spoken = λ _ speaks. absurd (let both = sym speaks ∙ silent in cc) };
+  rests = record {
+    now = now;
+    stages = stages;
+    follows = f;
+    no_next = no-next-of c others a.stand still
+        (ap (option_and_then (posts_of_kind c others a.stand)) none);
+    spoken = λ _ speaks. absurd (let both = sym speaks ∙ silent in cc);
+  };
   stays = open-step replies c a None (ap is_open f.ending ∙ still) (posts-past c a le)
       ∙ cond-false (is_due c a.stand a.mood) _ a (due-when c a.stand now a.mood f.mood
-          (λ speaks. absurd (let both = sym speaks ∙ silent in cc)));
+      (λ speaks. absurd (let both = sym speaks ∙ silent in cc)));
 }
   where
     silent : is_slot (shape_in c) a.stand.at c.number ≡ false
@@ -310,6 +322,6 @@ step-leads replies c others now stages a plain grammar f = elim (cases_Bool (is_
     by_sender still lt kind kind_is (inl speaks) true f = filled_or_not still lt kind kind_is true f (λ _. refl)
     by_sender still lt kind kind_is (inl speaks) false f =
         (let on = speaks-on replies c others stages a kind plain grammar f still lt kind_is speaks in inr
-            (record { now = on.now; stages = on.stages; follows = on.follows; further = (let more = on.further in omega arith) }))
+        (record { now = on.now; stages = on.stages; follows = on.follows; further = (let more = on.further in omega arith) }))
     by_sender still lt kind kind_is (inr silent) b f = filled_or_not still lt kind kind_is b f
         (λ speaks. absurd (let both = sym speaks ∙ silent in cc))

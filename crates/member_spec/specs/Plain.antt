@@ -48,7 +48,7 @@ PlainRunIsHonest = (replies : Replies) (c : Configuration) (delivered : List (Li
 abbrev pub PlainPostsAreSaid : Type 0
 PlainPostsAreSaid = (replies : Replies) (c : Configuration) (delivered : List (List ℕ)) → IsPlain replies → CanEnter c →
     All IsBytes delivered → (actor_after replies c delivered).made ≡ posts_said
-        (record { config = c; log = (actor_after replies c delivered).log })
+    (record { config = c; log = (actor_after replies c delivered).log })
 
 -- ---- one end of a shuffle
 

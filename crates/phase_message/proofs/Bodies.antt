@@ -40,16 +40,16 @@ reveal-takes count r x bytes e =
     let s = field-takes 32 votes.0.1 seed.0 seed.1 in
     let whole = Takes-append (flat_map prefixed votes.0.0) seed.0.0 r votes.0.1 seed.0.1 v.0 s.0 in
     subst (λ (x : Body × Reading). Takes (body_text x.0) r x.1 × Fits (OfReveal count) x.0)
-        (given (Reveal votes.0.0 seed.0.0, seed.0.1) x seed.2) (whole, (v.1, s.1))
+    (given (Reveal votes.0.0 seed.0.0, seed.0.1) x seed.2) (whole, (v.1, s.1))
 
 dispute-takes : (count : ℕ) (r : Reading) (x : Body × Reading) → IsBytes r.rest → body_at (OfDispute count) r ≡ Ok x
     → Takes (body_text x.0) r x.1 × Fits (OfDispute count) x.0
 unfolding body_at
 dispute-takes count r x bytes e =
     let posts = bind_ok (items_at Post count r) (λ posts. field_at 32 posts.1 >>= λ seed. field_at 32 seed.1 >>= λ opening. Ok
-        (Dispute posts.0 seed.0 opening.0, opening.1)) x e in
+    (Dispute posts.0 seed.0 opening.0, opening.1)) x e in
     let seed = bind_ok (field_at 32 posts.0.1) (λ seed. field_at 32 seed.1 >>= λ opening. Ok
-        (Dispute posts.0.0 seed.0 opening.0, opening.1)) x posts.2 in
+    (Dispute posts.0.0 seed.0 opening.0, opening.1)) x posts.2 in
     let opening = bind_ok (field_at 32 seed.0.1) (λ opening. Ok (Dispute posts.0.0 seed.0.0 opening.0, opening.1)) x seed.2 in
     let p = items-takes Post count r posts.0 bytes posts.1 in
     let s = field-takes 32 posts.0.1 seed.0 seed.1 in
@@ -57,7 +57,7 @@ dispute-takes count r x bytes e =
     let both = Takes-append seed.0.0 opening.0.0 posts.0.1 seed.0.1 opening.0.1 s.0 o.0 in
     let whole = Takes-append (flat_map prefixed posts.0.0) (seed.0.0 ++ opening.0.0) r posts.0.1 opening.0.1 p.0 both in
     subst (λ (x : Body × Reading). Takes (body_text x.0) r x.1 × Fits (OfDispute count) x.0)
-        (given (Dispute posts.0.0 seed.0.0 opening.0.0, opening.0.1) x opening.2) (whole, (p.1, s.1, o.1))
+    (given (Dispute posts.0.0 seed.0.0 opening.0.0, opening.0.1) x opening.2) (whole, (p.1, s.1, o.1))
 
 pub body-takes : (form : BodyForm) (r : Reading) (x : Body × Reading) → IsBytes r.rest → body_at form r ≡ Ok x → Takes (body_text x.0) r x.1
     × Fits form x.0
@@ -113,7 +113,7 @@ dispute-again count posts seed opening place rest good long_seed long_opening =
     let second = field-again 32 seed (place + length front) (opening ++ rest) long_seed in
     let third = field-again 32 opening (place + length front + length seed) rest long_opening in
     let ends : place + length front + length seed + length opening ≡ place + length (front ++ (seed ++ opening)) = omega
-        (arith, length-append front (seed ++ opening), length-append seed opening) in
+    (arith, length-append front (seed ++ opening), length-append seed opening) in
     rw (grouped, grouped_more, first, second, third) (ap told ends)
 
 pub body-again : (form : BodyForm) (body : Body) (place : ℕ) (rest : List ℕ) → Fits form body

@@ -77,7 +77,7 @@ fits-differ shape before _ fits = absurd fits
 either-at : (shape : Shape) (before : ℕ) (kind : StageKind) (form other found : BodyForm) (body : Body) → (found ≡ form) ⊎ (found ≡ other)
     → Fits found body
     → (Fits form body → IsBodyAt shape before kind body) → (Fits other body → IsBodyAt shape before kind body)
-        → IsBodyAt shape before kind body
+    → IsBodyAt shape before kind body
 either-at shape before kind form other found body (inl is) fits held held_other = fits-at shape before kind form found body is fits held
 either-at shape before kind form other found body (inr is) fits held held_other = fits-at shape before kind other found body is fits
     held_other
@@ -88,7 +88,7 @@ held-at shape before AtKeys body has = fits-at shape before AtKeys OfKeys has.0 
 held-at shape before (AtSubmit shuffle) body has =
     let form = OfSubmit (level shape.members shuffle 0) in
     fits-at shape before (AtSubmit shuffle) form has.0 body (only-form 2 form (kind_number body) has.0 has.1) has.2
-        (fits-submit shape before shuffle body)
+    (fits-submit shape before shuffle body)
 held-at shape before (AtShuffle shuffle k) body has =
     let form = OfShuffled shape.members (level shape.members shuffle k) in
     either-at shape before (AtShuffle shuffle k) form OfAbort has.0 body (either-form 3 form 4 OfAbort (kind_number body) has.0 has.1) has.2
@@ -101,7 +101,7 @@ held-at shape before (AtFinal shuffle) body has =
     (fits-reveal shape before shuffle body) (fits-dispute shape before shuffle body)
 held-at shape before AtPad body has =
     fits-at shape before AtPad (OfPads shape.members) has.0 body (only-form 8 (OfPads shape.members) (kind_number body) has.0 has.1) has.2
-        (fits-pads shape before body)
+    (fits-pads shape before body)
 held-at shape before AtCheck body has = fits-at shape before AtCheck OfCheck has.0 body (only-form 9 OfCheck (kind_number body) has.0 has.1)
     has.2 (fits-check shape before body)
 held-at shape before AtConfirm body has =

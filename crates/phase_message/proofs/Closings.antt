@@ -24,9 +24,9 @@ turns-follow before shuffle a (suc n) kinds rest = (tt, turns-follow (Some (Shuf
 stages-follow : (shape : Shape) → AllFollow None (stages shape)
 stages-follow shape =
     let b : (o : Option StageKind) → AllFollow o (turns 2 shape.members ++ last) = λ o. turns-follow o 2 1 shape.members last
-        (λ o. (tt, (refl, tt))) in
+    (λ o. (tt, (refl, tt))) in
     let a : (o : Option StageKind) → AllFollow o (middle ++ (turns 2 shape.members ++ last)) = λ o.
-        (tt, (refl, (tt, (tt, (refl, (tt, b (Some (Submit 2)))))))) in
+    (tt, (refl, (tt, (tt, (refl, (tt, b (Some (Submit 2)))))))) in
     (tt, (tt, turns-follow (Some (Submit 1)) 1 1 shape.members (middle ++ (turns 2 shape.members ++ last)) a))
   where
     last : List StageKind

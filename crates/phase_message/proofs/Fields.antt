@@ -50,27 +50,59 @@ header_takes : (r : Reading) (x : Header × Reading) → header_at r ≡ Ok x �
 unfolding header_at
 header_takes r x e =
     let a = bind_ok (number_at w8 r) (λ version. bytes_at 32 version.1 >>= λ group. number_at w64 group.1 >>= λ round. number_at w8 round.1
-        >>= λ stage. number_at w8 stage.1 >>= λ sender. bytes_at 32 sender.1 >>= λ view. Ok
-        (record { version = version.0; group = group.0; round = round.0; stage = stage.0; sender = sender.0; view = view.0 }, view.1)) x e
-        in
+    >>= λ stage. number_at w8 stage.1 >>= λ sender. bytes_at 32 sender.1 >>= λ view. Ok
+    (record { version = version.0; group = group.0; round = round.0; stage = stage.0; sender = sender.0; view = view.0 }, view.1)) x e
+    in
     let b = bind_ok (bytes_at 32 a.0.1) (λ group. number_at w64 group.1 >>= λ round. number_at w8 round.1 >>= λ stage. number_at w8 stage.1
-        >>= λ sender. bytes_at 32 sender.1 >>= λ view. Ok (record
-        { version = a.0.0; group = group.0; round = round.0; stage = stage.0; sender = sender.0; view = view.0 }, view.1)) x a.2 in
+    >>= λ sender. bytes_at 32 sender.1 >>= λ view. Ok (
+      record
+          { version = a.0.0; group = group.0; round = round.0; stage = stage.0; sender = sender.0; view = view.0 },
+      view.1,
+    )) x a.2 in
     let c = bind_ok (number_at w64 b.0.1) (λ round. number_at w8 round.1 >>= λ stage. number_at w8 stage.1 >>= λ sender. bytes_at 32
-        sender.1 >>= λ view. Ok (record { version = a.0.0; group = b.0.0; round = round.0; stage = stage.0; sender = sender.0; view = view.0
-        }, view.1)) x b.2 in
+    sender.1 >>= λ view. Ok (
+      record {
+        version = a.0.0;
+        group = b.0.0;
+        round = round.0;
+        stage = stage.0;
+        sender = sender.0;
+        view = view.0;
+      },
+      view.1,
+    )) x b.2 in
     let d = bind_ok (number_at w8 c.0.1) (λ stage. number_at w8 stage.1 >>= λ sender. bytes_at 32 sender.1 >>= λ view. Ok
-        (record { version = a.0.0; group = b.0.0; round = c.0.0; stage = stage.0; sender = sender.0; view = view.0 }, view.1)) x c.2 in
+    (record { version = a.0.0; group = b.0.0; round = c.0.0; stage = stage.0; sender = sender.0; view = view.0 }, view.1)) x c.2 in
     let f = bind_ok (number_at w8 d.0.1) (λ sender. bytes_at 32 sender.1 >>= λ view. Ok
-        (record { version = a.0.0; group = b.0.0; round = c.0.0; stage = d.0.0; sender = sender.0; view = view.0 }, view.1)) x d.2 in
-    let g = bind_ok (bytes_at 32 f.0.1) (λ view. Ok (record { version = a.0.0; group = b.0.0; round = c.0.0; stage = d.0.0; sender = f.0.0;
-        view = view.0 }, view.1)) x f.2 in
-    let made : Header × Reading = (record { version = a.0.0; group = b.0.0; round = c.0.0; stage = d.0.0; sender = f.0.0; view = g.0.0 },
-        g.0.1) in
+    (record { version = a.0.0; group = b.0.0; round = c.0.0; stage = d.0.0; sender = sender.0; view = view.0 }, view.1)) x d.2 in
+    let g = bind_ok (bytes_at 32 f.0.1) (λ view. Ok (
+      record {
+        version = a.0.0;
+        group = b.0.0;
+        round = c.0.0;
+        stage = d.0.0;
+        sender = f.0.0;
+        view = view.0;
+      },
+      view.1,
+    )) x f.2 in
+    let made : Header × Reading = (
+      record { version = a.0.0; group = b.0.0; round = c.0.0; stage = d.0.0; sender = f.0.0; view = g.0.0 },
+      g.0.1,
+    ) in
     let same : g.0.1 ≡ x.1 = ap (λ (p : Header × Reading). p.1) (ok_is made x g.2) in
     let left : length g.0.1.rest ≡ length x.1.rest = ap (λ (q : Reading). length q.rest) same in
-    omega (arith, number_at-length w8 r a.0 a.1, bytes_at-rest 32 a.0.1 b.0 b.1, number_at-length w64 b.0.1 c.0 c.1, number_at-length w8
-        c.0.1 d.0 d.1, number_at-length w8 d.0.1 f.0 f.1, bytes_at-rest 32 f.0.1 g.0 g.1, left)
+    omega (
+      arith,
+      number_at-length w8 r a.0 a.1,
+      bytes_at-rest 32 a.0.1 b.0 b.1,
+      number_at-length w64 b.0.1 c.0 c.1,
+      number_at-length w8
+          c.0.1 d.0 d.1,
+      number_at-length w8 d.0.1 f.0 f.1,
+      bytes_at-rest 32 f.0.1 g.0 g.1,
+      left,
+    )
 
 number_at-long : (w : Width) (r : Reading) → byte_len w ≤ length r.rest
     → number_at w r ≡ Ok (from_be_bytes w (take (byte_len w) r.rest), advanced (byte_len w) r)
@@ -96,8 +128,18 @@ header_long r le =
     let e3 = number_at-long w8 r3 (omega arith) in
     let e4 = number_at-long w8 r4 (omega arith) in
     let e5 = bytes_at-enough 32 r5 (omega arith) in (
-      (record { version = from_be_bytes w8 (take 1 r.rest); group = take 32 r1.rest; round = from_be_bytes w64 (take 8 r2.rest); stage =
-          from_be_bytes w8 (take 1 r3.rest); sender = from_be_bytes w8 (take 1 r4.rest); view = take 32 r5.rest }, advanced 32 r5),
+      (
+        record {
+          version = from_be_bytes w8 (take 1 r.rest);
+          group = take 32 r1.rest;
+          round = from_be_bytes w64 (take 8 r2.rest);
+          stage =
+              from_be_bytes w8 (take 1 r3.rest);
+          sender = from_be_bytes w8 (take 1 r4.rest);
+          view = take 32 r5.rest;
+        },
+        advanced 32 r5,
+      ),
       rw (e0, e1, e2, e3, e4, e5) refl,
     )
 

@@ -35,8 +35,13 @@ pads_long : (pads : List (List ℕ)) → AllByRecursion (IsItem Pad) pads → le
 pads_long [] all = omega arith
 pads_long (pad ∷ pads) all =
     let few : length pad ≤ 65536 = all.0 in
-    omega (arith, length-append (prefixed pad) (flat_map prefixed pads), length-append (to_be_bytes w32 (length pad)) pad, pads_long pads
-        all.1)
+    omega (
+      arith,
+      length-append (prefixed pad) (flat_map prefixed pads),
+      length-append (to_be_bytes w32 (length pad)) pad,
+      pads_long pads
+          all.1,
+    )
 
 -- ---- bodies by their form
 
@@ -110,15 +115,23 @@ fixed_body shape before number _ form body e fits some = absurd (omega arith)
 -- ---- contents
 
 content_long : (shape : Shape) (c : Content) → OfGrammar shape c → length (content_text c) ≡ 76 + length (body_text c.body)
-content_long shape c is = omega (arith, length-append (header_text c.header) (kind_number c.body ∷ body_text c.body), length-header_text
-    shape c.header is.0)
+content_long shape c is = omega (
+  arith,
+  length-append (header_text c.header) (kind_number c.body ∷ body_text c.body),
+  length-header_text
+      shape c.header is.0,
+)
 
 pub fixed-length : (shape : Shape) (c : Content) (kind : StageKind) → OfGrammar shape c → kind_of_stage shape c.header.stage ≡ Some kind
     → 0 < length_rule shape kind
     → length (content_text c) ≡ 76 + length_rule shape kind
 fixed-length shape c kind is at some =
-    omega (arith, content_long shape c is, fixed_body shape (slots_before shape c.header.stage) (kind_number c.body) kind is.1.0 c.body
-        (form-in shape c.header.stage (kind_number c.body) kind is.1.0 at is.1.1) is.1.2 some)
+    omega (
+      arith,
+      content_long shape c is,
+      fixed_body shape (slots_before shape c.header.stage) (kind_number c.body) kind is.1.0 c.body
+          (form-in shape c.header.stage (kind_number c.body) kind is.1.0 at is.1.1) is.1.2 some,
+    )
 
 -- a turn of a shuffle has all entries, or an Abort has no body
 pub turn-length : (shape : Shape) (c : Content) (shuffle k : ℕ) → OfGrammar shape c
@@ -128,8 +141,12 @@ turn-length shape c shuffle k is at =
     let n : ℕ = level shape.members shuffle k in
     let form = form-in shape c.header.stage (kind_number c.body) (AtShuffle shuffle k) is.1.0 at is.1.1 in
     elim (either-is 3 4 (kind_number c.body) (OfShuffled shape.members n) OfAbort is.1.0 form) [
-      | inl list ↦ inr (omega (arith, content_long shape c is, shuffled_body shape.members n c.body
-          (subst (λ (f : BodyForm). Fits f c.body) (sym list) is.1.2)))
+      | inl list ↦ inr (omega (
+        arith,
+        content_long shape c is,
+        shuffled_body shape.members n c.body
+            (subst (λ (f : BodyForm). Fits f c.body) (sym list) is.1.2),
+      ))
       | inr abort ↦
           let fits = subst (λ (f : BodyForm). Fits f c.body) (sym abort) is.1.2 in
           inl (is_abort c.body fits, omega (arith, content_long shape c is, abort_body c.body fits))
@@ -143,5 +160,9 @@ pub pads-length : (shape : Shape) (c : Content) → OfGrammar shape c → kind_o
     → length (content_text c) ≤ 76 + shape.members * 65540
 pads-length shape c is at =
     let form = form-in shape c.header.stage (kind_number c.body) AtPad is.1.0 at is.1.1 in
-    omega (arith, content_long shape c is, pads_body shape.members c.body
-        (subst (λ (f : BodyForm). Fits f c.body) (sym (only-is 8 (kind_number c.body) (OfPads shape.members) is.1.0 form)) is.1.2))
+    omega (
+      arith,
+      content_long shape c is,
+      pads_body shape.members c.body
+          (subst (λ (f : BodyForm). Fits f c.body) (sym (only-is 8 (kind_number c.body) (OfPads shape.members) is.1.0 form)) is.1.2),
+    )

@@ -68,18 +68,18 @@ reveal-count count r x e =
     let votes = bind_ok (items_at Post count r) (λ votes. field_at 32 votes.1 >>= λ seed. Ok (Reveal votes.0 seed.0, seed.1)) x e in
     let seed = bind_ok (field_at 32 votes.0.1) (λ seed. Ok (Reveal votes.0.0 seed.0, seed.1)) x votes.2 in
     subst (λ (x : Body × Reading). HasCount (OfReveal count) x.0) (given (Reveal votes.0.0 seed.0.0, seed.0.1) x seed.2)
-        (repeated-count count (item_at Post) r votes.0 votes.1)
+    (repeated-count count (item_at Post) r votes.0 votes.1)
 
 dispute-count : (count : ℕ) (r : Reading) (x : Body × Reading) → body_at (OfDispute count) r ≡ Ok x → HasCount (OfDispute count) x.0
 unfolding body_at
 dispute-count count r x e =
     let posts = bind_ok (items_at Post count r) (λ posts. field_at 32 posts.1 >>= λ seed. field_at 32 seed.1 >>= λ opening. Ok
-        (Dispute posts.0 seed.0 opening.0, opening.1)) x e in
+    (Dispute posts.0 seed.0 opening.0, opening.1)) x e in
     let seed = bind_ok (field_at 32 posts.0.1) (λ seed. field_at 32 seed.1 >>= λ opening. Ok
-        (Dispute posts.0.0 seed.0 opening.0, opening.1)) x posts.2 in
+    (Dispute posts.0.0 seed.0 opening.0, opening.1)) x posts.2 in
     let opening = bind_ok (field_at 32 seed.0.1) (λ opening. Ok (Dispute posts.0.0 seed.0.0 opening.0, opening.1)) x seed.2 in
     subst (λ (x : Body × Reading). HasCount (OfDispute count) x.0) (given (Dispute posts.0.0 seed.0.0 opening.0.0, opening.0.1) x opening.2)
-        (repeated-count count (item_at Post) r posts.0 posts.1)
+    (repeated-count count (item_at Post) r posts.0 posts.1)
 
 body-count : (form : BodyForm) (r : Reading) (x : Body × Reading) → body_at form r ≡ Ok x → HasCount form x.0
 unfolding body_at
@@ -122,36 +122,42 @@ head-form : (shape : Shape) (r : Reading) (x : (Header × BodyForm) × Reading) 
 unfolding head_at
 head-form shape r x e =
     let h = bind_ok (fault_as cut (header_at r)) (λ header. unless (not (header.0.version == shape.version)) (offence 8 0) header.1 >>= λ
-        version. unless (not (is_slot shape header.0.stage header.0.sender)) (offence 9 41) header.1 >>= λ slot. fault_as cut
-        (number_at w8 header.1) >>= λ kind. ok_or (body_form shape header.0.stage kind.0) (offence 1 75) >>= λ form. Ok
-        ((header.0, form), kind.1)) x e in
+    version. unless (not (is_slot shape header.0.stage header.0.sender)) (offence 9 41) header.1 >>= λ slot. fault_as cut
+    (number_at w8 header.1) >>= λ kind. ok_or (body_form shape header.0.stage kind.0) (offence 1 75) >>= λ form. Ok
+    ((header.0, form), kind.1)) x e in
     let v = bind_ok (unless (not (h.0.0.version == shape.version)) (offence 8 0) h.0.1)
-        (λ version. unless (not (is_slot shape h.0.0.stage h.0.0.sender)) (offence 9 41) h.0.1 >>= λ slot. fault_as cut (number_at w8 h.0.1)
-        >>= λ kind. ok_or (body_form shape h.0.0.stage kind.0) (offence 1 75) >>= λ form. Ok ((h.0.0, form), kind.1)) x h.2 in
+    (λ version. unless (not (is_slot shape h.0.0.stage h.0.0.sender)) (offence 9 41) h.0.1 >>= λ slot. fault_as cut (number_at w8 h.0.1)
+    >>= λ kind. ok_or (body_form shape h.0.0.stage kind.0) (offence 1 75) >>= λ form. Ok ((h.0.0, form), kind.1)) x h.2 in
     let s = bind_ok (unless (not (is_slot shape h.0.0.stage h.0.0.sender)) (offence 9 41) h.0.1)
-        (λ slot. fault_as cut (number_at w8 h.0.1) >>= λ kind. ok_or (body_form shape h.0.0.stage kind.0) (offence 1 75) >>= λ form. Ok
-        ((h.0.0, form), kind.1)) x v.2 in
+    (λ slot. fault_as cut (number_at w8 h.0.1) >>= λ kind. ok_or (body_form shape h.0.0.stage kind.0) (offence 1 75) >>= λ form. Ok
+    ((h.0.0, form), kind.1)) x v.2 in
     let k = bind_ok (fault_as cut (number_at w8 h.0.1)) (λ kind. ok_or (body_form shape h.0.0.stage kind.0) (offence 1 75) >>= λ form. Ok
-        ((h.0.0, form), kind.1)) x s.2 in
+    ((h.0.0, form), kind.1)) x s.2 in
     let f = bind_ok (ok_or (body_form shape h.0.0.stage k.0.0) (offence 1 75)) (λ form. Ok ((h.0.0, form), k.0.1)) x k.2 in
     let slot = not-false _ (guard_ok (not (is_slot shape h.0.0.stage h.0.0.sender)) (offence 9 41) h.0.1 s.0 s.1).0 in
     subst (λ (x : (Header × BodyForm) × Reading). HasForm shape x.0) (given ((h.0.0, f.0), k.0.1) x f.2)
-        (k.0.0, slot, refused-some _ _ f.0 f.1)
+    (k.0.0, slot, refused-some _ _ f.0 f.1)
 
 pub content-form : (shape : Shape) (bytes : List ℕ) (c : Content) → content_read shape bytes ≡ Ok c → IsReadAs shape c
 unfolding content_read
 content-form shape bytes c e =
     let w = bind_ok (unless (nat_lt (length bytes) 76) (offence 7 (length bytes)) (reading_of bytes))
-        (λ whole. head_at shape (reading_of bytes) >>= λ head. body_at head.0.1 head.1 >>= λ body. unless (nat_lt 0 (length body.1.rest))
-        (offence 3 body.1.place) (record { header = head.0.0; body = body.0 })) c e in
+    (λ whole. head_at shape (reading_of bytes) >>= λ head. body_at head.0.1 head.1 >>= λ body. unless (nat_lt 0 (length body.1.rest))
+    (offence 3 body.1.place) (record { header = head.0.0; body = body.0 })) c e in
     let h = bind_ok (head_at shape (reading_of bytes)) (λ head. body_at head.0.1 head.1 >>= λ body. unless (nat_lt 0 (length body.1.rest))
-        (offence 3 body.1.place) (record { header = head.0.0; body = body.0 })) c w.2 in
+    (offence 3 body.1.place) (record { header = head.0.0; body = body.0 })) c w.2 in
     let b = bind_ok (body_at h.0.0.1 h.0.1) (λ body. unless (nat_lt 0 (length body.1.rest)) (offence 3 body.1.place)
-        (record { header = h.0.0.0; body = body.0 })) c h.2 in
+    (record { header = h.0.0.0; body = body.0 })) c h.2 in
     let ended = guard_ok (nat_lt 0 (length b.0.1.rest)) (offence 3 b.0.1.place) (record { header = h.0.0.0; body = b.0.0 }) c b.2 in
     let has = head-form shape (reading_of bytes) h.0 h.1 in
-    subst (IsReadAs shape) ended.1 (record { form = h.0.0.1; kind = has.0; slot = has.1; form_is = has.2; counts = body-count h.0.0.1 h.0.1
-        b.0 b.1 })
+    subst (IsReadAs shape) ended.1 (record {
+      form = h.0.0.1;
+      kind = has.0;
+      slot = has.1;
+      form_is = has.2;
+      counts = body-count h.0.0.1 h.0.1
+          b.0 b.1;
+    })
 
 -- ---- closing stages
 
@@ -182,7 +188,7 @@ final-forms : (shape : Shape) (stage shuffle kind : ℕ) (form : BodyForm) → k
 unfolding body_form
 final-forms shape stage shuffle kind form is e =
     either-form 6 (OfReveal shape.members) 7 (OfDispute (slots_before shape stage)) kind form
-        (sym (ap (λ (o : Option StageKind). form_of shape (slots_before shape stage) o kind) is) ∙ e)
+    (sym (ap (λ (o : Option StageKind). form_of shape (slots_before shape stage) o kind) is) ∙ e)
 
 confirm-forms : (shape : Shape) (stage kind : ℕ) (form : BodyForm) → kind_of_stage shape stage ≡ Some AtConfirm
     → body_form shape stage kind ≡ Some form
@@ -190,7 +196,7 @@ confirm-forms : (shape : Shape) (stage kind : ℕ) (form : BodyForm) → kind_of
 unfolding body_form
 confirm-forms shape stage kind form is e =
     either-form 10 (OfConfirm shape.members) 11 (OfDiffer (slots_before shape stage)) kind form
-        (sym (ap (λ (o : Option StageKind). form_of shape (slots_before shape stage) o kind) is) ∙ e)
+    (sym (ap (λ (o : Option StageKind). form_of shape (slots_before shape stage) o kind) is) ∙ e)
 
 reveals : (shape : Shape) (stage shuffle : ℕ) (form : BodyForm) (body : Body) → HasCount form body → (form ≡ OfReveal shape.members)
     ⊎ (form ≡ OfDispute (slots_before shape stage)) → IsClosingBody shape stage (AtFinal shuffle) body

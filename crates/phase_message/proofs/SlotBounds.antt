@@ -21,8 +21,11 @@ AreBounded n (kind ∷ kinds) = IsBounded n kind × AreBounded n kinds
 turns-bounded : (n shuffle a m : ℕ) (kinds : List StageKind) → 1 ≤ a → a + m ≤ n + 1 → AreBounded n kinds
     → AreBounded n (map (λ k. Shuffle shuffle k) (range_with_len a m) ++ kinds)
 turns-bounded n shuffle a zero kinds least most rest = rest
-turns-bounded n shuffle a (suc m) kinds least most rest = ((least, omega (arith, most)), turns-bounded n shuffle (a + 1) m kinds
-    (omega arith) (omega (arith, most)) rest)
+turns-bounded n shuffle a (suc m) kinds least most rest = (
+  (least, omega (arith, most)),
+  turns-bounded n shuffle (a + 1) m kinds
+      (omega arith) (omega (arith, most)) rest,
+)
 
 stages-bounded : (shape : Shape) → AreBounded shape.members (stages shape)
 stages-bounded shape =

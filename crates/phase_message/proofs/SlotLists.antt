@@ -94,20 +94,31 @@ length-slots_from : (shape : Shape) (first : ℕ) (kinds : List StageKind)
     → length (slots_from shape first kinds) ≡ sum_by (senders_of shape) kinds
 length-slots_from shape first [] = refl
 length-slots_from shape first (kind ∷ kinds) =
-    omega (arith, length-append (row shape first kind) (slots_from shape (first + 1) kinds), length-row shape first kind, length-slots_from
-        shape (first + 1) kinds, sum_by-cons (senders_of shape) kind kinds)
+    omega (
+      arith,
+      length-append (row shape first kind) (slots_from shape (first + 1) kinds),
+      length-row shape first kind,
+      length-slots_from
+          shape (first + 1) kinds,
+      sum_by-cons (senders_of shape) kind kinds,
+    )
 
 -- the slot of the sender at a place of a stage stands behind those of the stages before
 slot-in_order : (shape : Shape) (first : ℕ) (kinds : List StageKind) (i place s : ℕ) (kind : StageKind)
     → slice_get kinds i ≡ Some kind → slice_get (senders_in shape kind) place ≡ Some s
     → slice_get (slots_from shape first kinds) (sum_by (senders_of shape) (take i kinds) + place) ≡ Some
-        (record { stage = first + i; sender = s })
+    (record { stage = first + i; sender = s })
 slot-in_order shape first [] i place s kind e at = absurd cc
 slot-in_order shape first (head ∷ kinds) zero place s kind e at =
     let same : head ≡ kind = cc in
     let there : slice_get (senders_in shape head) place ≡ Some s = ap (λ (k : StageKind). slice_get (senders_in shape k) place) same ∙ at in
-    let within : place < length (row shape first head) = omega (arith, slice_get_within (senders_in shape head) place s there, length-row
-        shape first head, length-senders_in shape head) in
+    let within : place < length (row shape first head) = omega (
+      arith,
+      slice_get_within (senders_in shape head) place s there,
+      length-row
+          shape first head,
+      length-senders_in shape head,
+    ) in
     let none : 0 + place ≡ place = omega arith in
     let stage : first ≡ first + 0 = omega arith in
     ap (slice_get (slots_from shape first (head ∷ kinds))) none
@@ -118,7 +129,7 @@ slot-in_order shape first (head ∷ kinds) zero place s kind e at =
 slot-in_order shape first (head ∷ kinds) (suc i) place s kind e at =
     let long = length-row shape first head in
     let number : sum_by (senders_of shape) (take (suc i) (head ∷ kinds)) + place ≡ length (row shape first head) +
-        (sum_by (senders_of shape) (take i kinds) + place) = omega (arith, sum_by-cons (senders_of shape) head (take i kinds), long) in
+    (sum_by (senders_of shape) (take i kinds) + place) = omega (arith, sum_by-cons (senders_of shape) head (take i kinds), long) in
     let stage : first + 1 + i ≡ first + suc i = omega arith in
     ap (slice_get (slots_from shape first (head ∷ kinds))) number
     ∙ slice_get_right (row shape first head) (slots_from shape (first + 1) kinds) (sum_by (senders_of shape) (take i kinds) + place)
@@ -146,9 +157,9 @@ slot-found shape first (head ∷ kinds) number slot e =
     elim (cases_lt number (length (row shape first head))) [
       | inl here ↦
           let at : slice_get (row shape first head) number ≡ Some slot = sym
-              (slice_get_left (row shape first head) (slots_from shape (first + 1) kinds) number here) ∙ e in
+          (slice_get_left (row shape first head) (slots_from shape (first + 1) kinds) number here) ∙ e in
           let x = option_map-some (λ (sender : ℕ). record { stage = first; sender = sender }) (slice_get (senders_in shape head) number)
-              slot (sym (slice_get-map (λ sender. record { stage = first; sender = sender }) (senders_in shape head) number) ∙ at) in
+          slot (sym (slice_get-map (λ sender. record { stage = first; sender = sender }) (senders_in shape head) number) ∙ at) in
           record {
             index = 0;
             place = number;
@@ -162,8 +173,8 @@ slot-found shape first (head ∷ kinds) number slot e =
           let k : ℕ = number - length (row shape first head) in
           let split : number ≡ length (row shape first head) + k = omega arith in
           let at : slice_get (slots_from shape (first + 1) kinds) k ≡ Some slot = sym
-              (slice_get_right (row shape first head) (slots_from shape (first + 1) kinds) k)
-              ∙ sym (ap (slice_get (slots_from shape first (head ∷ kinds))) split) ∙ e in
+          (slice_get_right (row shape first head) (slots_from shape (first + 1) kinds) k)
+          ∙ sym (ap (slice_get (slots_from shape first (head ∷ kinds))) split) ∙ e in
           let f = slot-found shape (first + 1) kinds k slot at in
           record {
             index = suc f.index;
@@ -189,7 +200,7 @@ pub slot_at-number : (shape : Shape) (stage sender : ℕ) → is_slot shape stag
 slot_at-number shape stage sender e =
     let k = speaks-kind shape (kind_of_stage shape stage) sender e in
     let place : place_in (kind_of_stage shape stage) sender ≡ place_in (Some k.0) sender = ap (λ (o : Option StageKind). place_in o sender)
-        k.1 in
+    k.1 in
     let first : 0 + stage ≡ stage = omega arith in
     ap (λ (p : ℕ). slot_at shape (slots_before shape stage + p)) place
     ∙ slot-in_order shape 0 (stages shape) stage (place_in (Some k.0) sender) sender k.0 k.1 (sender-at shape k.0 sender k.2)
@@ -204,7 +215,7 @@ slot_at-is shape number slot e =
     let kind : kind_of_stage shape slot.stage ≡ Some f.kind = ap (λ (t : ℕ). kind_of_stage shape t) stage ∙ f.kind_is in
     let s = at-sender shape f.kind f.place slot.sender f.sender_is in
     let place : place_in (kind_of_stage shape slot.stage) slot.sender ≡ f.place = ap (λ (o : Option StageKind). place_in o slot.sender) kind
-        ∙ s.1 in
+    ∙ s.1 in
     let before : slots_before shape slot.stage ≡ slots_before shape f.index = ap (λ (t : ℕ). slots_before shape t) stage in (
       ap (λ (o : Option StageKind). speaks shape o slot.sender) kind ∙ s.0,
       omega (arith, place, before, f.number_is),
@@ -215,8 +226,12 @@ slot_at-is shape number slot e =
 turns-count : (shape : Shape) (shuffle a n : ℕ) → sum_by (senders_of shape) (map (λ k. Shuffle shuffle k) (range_with_len a n)) ≡ n
 turns-count shape shuffle a zero = refl
 turns-count shape shuffle a (suc n) =
-    omega (arith, sum_by-cons (senders_of shape) (Shuffle shuffle a) (map (λ k. Shuffle shuffle k) (range_with_len (a + 1) n)), turns-count
-        shape shuffle (a + 1) n)
+    omega (
+      arith,
+      sum_by-cons (senders_of shape) (Shuffle shuffle a) (map (λ k. Shuffle shuffle k) (range_with_len (a + 1) n)),
+      turns-count
+          shape shuffle (a + 1) n,
+    )
 
 pub length-slots_of : (shape : Shape) → length (slots_of shape) ≡ slot_count shape
 length-slots_of shape = length-slots_from shape 0 (stages shape) ∙ counted shape
@@ -231,8 +246,15 @@ length-slots_of shape = length-slots_from shape 0 (stages shape) ∙ counted sha
         let b : List StageKind = turns 2 n ++ last in
         let m : List StageKind = middle ++ b in
         let a : List StageKind = turns 1 n ++ m in
-        omega (arith, sum_by-append f first a, sum_by-append f (turns 1 n) m, sum_by-append f middle b, sum_by-append f (turns 2 n) last,
-            turns-count shape 1 1 n, turns-count shape 2 1 n)
+        omega (
+          arith,
+          sum_by-append f first a,
+          sum_by-append f (turns 1 n) m,
+          sum_by-append f middle b,
+          sum_by-append f (turns 2 n) last,
+          turns-count shape 1 1 n,
+          turns-count shape 2 1 n,
+        )
 
 -- ---- in which order
 
@@ -240,7 +262,7 @@ length-slots_of shape = length-slots_from shape 0 (stages shape) ∙ counted sha
 pub slots_before-rises : (shape : Shape) (stage later : ℕ) → stage ≤ later → slots_before shape stage ≤ slots_before shape later
 slots_before-rises shape stage later le =
     let front : slots_before shape stage ≡ sum_by (senders_of shape) (take stage (take later (stages shape))) = ap
-        (sum_by (senders_of shape)) (sym (take-take stage later (stages shape) le)) in
+    (sum_by (senders_of shape)) (sym (take-take stage later (stages shape) le)) in
     omega (arith, sum_by-take-le (senders_of shape) (take later (stages shape)) stage, front)
 
 -- a slot stands among those of its stage
@@ -249,9 +271,9 @@ pub slot_number-within : (shape : Shape) (stage sender : ℕ) → is_slot shape 
 slot_number-within shape stage sender e =
     let k = speaks-kind shape (kind_of_stage shape stage) sender e in
     let place : place_in (kind_of_stage shape stage) sender ≡ place_in (Some k.0) sender = ap (λ (o : Option StageKind). place_in o sender)
-        k.1 in
+    k.1 in
     let within : place_in (Some k.0) sender < length (senders_in shape k.0) = slice_get_within (senders_in shape k.0)
-        (place_in (Some k.0) sender) sender (sender-at shape k.0 sender k.2) in
+    (place_in (Some k.0) sender) sender (sender-at shape k.0 sender k.2) in
     let next = slots_next shape stage k.0 k.1 in
     (omega arith, omega (arith, length-senders_in shape k.0))
 
@@ -259,8 +281,12 @@ slot_number-within shape stage sender e =
 pub slot_number-later : (shape : Shape) (stage later sender other : ℕ) → is_slot shape stage sender ≡ true
     → is_slot shape later other ≡ true → stage < later → slot_number shape stage sender < slot_number shape later other
 slot_number-later shape stage later sender other e e' lt =
-    omega (arith, (slot_number-within shape stage sender e).1, slots_before-rises shape (stage + 1) later (omega arith),
-        (slot_number-within shape later other e').0)
+    omega (
+      arith,
+      (slot_number-within shape stage sender e).1,
+      slots_before-rises shape (stage + 1) later (omega arith),
+      (slot_number-within shape later other e').0,
+    )
 
 place-rises : (shape : Shape) (kind : StageKind) (s t : ℕ) → is_sender shape kind s ≡ true → is_sender shape kind t ≡ true → s < t
     → place_in (Some kind) s < place_in (Some kind) t
@@ -293,8 +319,15 @@ length-stages shape =
     let last : List StageKind = Go 2 ∷ Final 2 ∷ [] in
     let middle : List StageKind = Go 1 ∷ Final 1 ∷ Pad ∷ Check ∷ Confirm ∷ Submit 2 ∷ [] in
     let b : List StageKind = turns 2 n ++ last in
-    omega (arith, length-append (turns 1 n) (middle ++ b), length-append middle b, length-append (turns 2 n) last, length-map-range_with_len
-        (λ k. Shuffle 1 k) 1 n, length-map-range_with_len (λ k. Shuffle 2 k) 1 n)
+    omega (
+      arith,
+      length-append (turns 1 n) (middle ++ b),
+      length-append middle b,
+      length-append (turns 2 n) last,
+      length-map-range_with_len
+          (λ k. Shuffle 1 k) 1 n,
+      length-map-range_with_len (λ k. Shuffle 2 k) 1 n,
+    )
 
 -- a round has the stages of lower numbers, and no others
 pub stage-past : (shape : Shape) (stage : ℕ) → stage_count shape ≤ stage → kind_of_stage shape stage ≡ None
@@ -328,8 +361,12 @@ slots_before-most shape stage =
 pub slot_number-most : (shape : Shape) (stage sender : ℕ) → is_slot shape stage sender ≡ true
     → slot_number shape stage sender < slot_count shape
 slot_number-most shape stage sender e =
-    omega (arith, slice_get_within (slots_of shape) (slot_number shape stage sender) (record { stage = stage; sender = sender })
-        (slot_at-number shape stage sender e), length-slots_of shape)
+    omega (
+      arith,
+      slice_get_within (slots_of shape) (slot_number shape stage sender) (record { stage = stage; sender = sender })
+          (slot_at-number shape stage sender e),
+      length-slots_of shape,
+    )
 
 -- ---- by place
 

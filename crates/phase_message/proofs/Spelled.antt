@@ -56,10 +56,10 @@ pub flag-again : (vote : Bool) (place : ℕ) (rest : List ℕ) → flag_at (read
 unfolding flag_at
 flag-again true place rest =
     ap (λ (n : Result (ℕ × Reading) Offence). n >>= λ flag. unless (nat_lt 1 flag.0) (offence 5 place) (flag.0 == 1, flag.1))
-        (ap (fault_as cut) (number_at-again_1 1 place rest))
+    (ap (fault_as cut) (number_at-again_1 1 place rest))
 flag-again false place rest =
     ap (λ (n : Result (ℕ × Reading) Offence). n >>= λ flag. unless (nat_lt 1 flag.0) (offence 5 place) (flag.0 == 1, flag.1))
-        (ap (fault_as cut) (number_at-again_1 0 place rest))
+    (ap (fault_as cut) (number_at-again_1 0 place rest))
 
 -- ---- public keys
 
@@ -75,7 +75,7 @@ pub key-takes : (r : Reading) (x : List ℕ × Reading) → IsBytes r.rest → k
 unfolding key_at
 key-takes r x bytes e =
     let key = bind_ok (field_at 1824 r) (λ key. value_unless (option_map (λ group. offence 4 (r.place + 32 + group))
-        (bad_group (drop 32 key.0))) key) x e in
+    (bad_group (drop 32 key.0))) key) x e in
     let told = option_map (λ group. offence 4 (r.place + 32 + group)) (bad_group (drop 32 key.0.0)) in
     let test = value_unless-ok told key.0 x key.2 in
     let none = nothing_mapped (λ group. offence 4 (r.place + 32 + group)) (bad_group (drop 32 key.0.0)) test.0 in
@@ -147,7 +147,7 @@ item-again Post item place rest small =
     ∙ after_prefix item place rest
 item-again Pad item place rest few =
     ap (λ (n : Result (ℕ × Reading) Offence). (n >>= λ n. unless (nat_lt 65536 n.0) (offence 6 place) n) >>= λ n. field_at n.0 n.1)
-        (prefix-again item place rest (omega arith))
+    (prefix-again item place rest (omega arith))
     ∙ (rw (le-ltb 65536 (length item) few) (after_prefix item place rest))
 
 pub items-takes : (form : ItemForm) (count : ℕ) (r : Reading) (x : List (List ℕ) × Reading) → IsBytes r.rest → items_at form count r ≡ Ok x

@@ -38,7 +38,7 @@ turn_a shape stage k e least most =
     let place : stage ≡ suc (suc (k - 1)) = omega arith in
     let long = length-map-range_with_len (λ m. Shuffle 1 m) 1 shape.members in
     rw place (slice_get_left (turns 1 shape.members) (from_go shape.members) (k - 1) (omega arith)
-        ∙ turn_from 1 1 shape.members (k - 1) k (omega arith) (omega arith))
+    ∙ turn_from 1 1 shape.members (k - 1) k (omega arith) (omega arith))
 
 behind_a : (shape : Shape) (stage k : ℕ) → stage ≡ shape.members + 2 + k → kind_of_stage shape stage ≡ slice_get (from_go shape.members) k
 behind_a shape stage k e =

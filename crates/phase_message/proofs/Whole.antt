@@ -35,29 +35,57 @@ header-takes : (r : Reading) (x : Header × Reading) → IsBytes r.rest → head
 unfolding header_at
 header-takes r x bytes e =
     let a = bind_ok (number_at w8 r) (λ version. bytes_at 32 version.1 >>= λ group. number_at w64 group.1 >>= λ round. number_at w8 round.1
-        >>= λ stage. number_at w8 stage.1 >>= λ sender. bytes_at 32 sender.1 >>= λ view. Ok
-        (record { version = version.0; group = group.0; round = round.0; stage = stage.0; sender = sender.0; view = view.0 }, view.1)) x e
-        in
+    >>= λ stage. number_at w8 stage.1 >>= λ sender. bytes_at 32 sender.1 >>= λ view. Ok
+    (record { version = version.0; group = group.0; round = round.0; stage = stage.0; sender = sender.0; view = view.0 }, view.1)) x e
+    in
     let b = bind_ok (bytes_at 32 a.0.1) (λ group. number_at w64 group.1 >>= λ round. number_at w8 round.1 >>= λ stage. number_at w8 stage.1
-        >>= λ sender. bytes_at 32 sender.1 >>= λ view. Ok (record
-        { version = a.0.0; group = group.0; round = round.0; stage = stage.0; sender = sender.0; view = view.0 }, view.1)) x a.2 in
+    >>= λ sender. bytes_at 32 sender.1 >>= λ view. Ok (
+      record
+          { version = a.0.0; group = group.0; round = round.0; stage = stage.0; sender = sender.0; view = view.0 },
+      view.1,
+    )) x a.2 in
     let c = bind_ok (number_at w64 b.0.1) (λ round. number_at w8 round.1 >>= λ stage. number_at w8 stage.1 >>= λ sender. bytes_at 32
-        sender.1 >>= λ view. Ok (record { version = a.0.0; group = b.0.0; round = round.0; stage = stage.0; sender = sender.0; view = view.0
-        }, view.1)) x b.2 in
+    sender.1 >>= λ view. Ok (
+      record {
+        version = a.0.0;
+        group = b.0.0;
+        round = round.0;
+        stage = stage.0;
+        sender = sender.0;
+        view = view.0;
+      },
+      view.1,
+    )) x b.2 in
     let d = bind_ok (number_at w8 c.0.1) (λ stage. number_at w8 stage.1 >>= λ sender. bytes_at 32 sender.1 >>= λ view. Ok
-        (record { version = a.0.0; group = b.0.0; round = c.0.0; stage = stage.0; sender = sender.0; view = view.0 }, view.1)) x c.2 in
+    (record { version = a.0.0; group = b.0.0; round = c.0.0; stage = stage.0; sender = sender.0; view = view.0 }, view.1)) x c.2 in
     let f = bind_ok (number_at w8 d.0.1) (λ sender. bytes_at 32 sender.1 >>= λ view. Ok
-        (record { version = a.0.0; group = b.0.0; round = c.0.0; stage = d.0.0; sender = sender.0; view = view.0 }, view.1)) x d.2 in
-    let g = bind_ok (bytes_at 32 f.0.1) (λ view. Ok (record { version = a.0.0; group = b.0.0; round = c.0.0; stage = d.0.0; sender = f.0.0;
-        view = view.0 }, view.1)) x f.2 in
+    (record { version = a.0.0; group = b.0.0; round = c.0.0; stage = d.0.0; sender = sender.0; view = view.0 }, view.1)) x d.2 in
+    let g = bind_ok (bytes_at 32 f.0.1) (λ view. Ok (
+      record {
+        version = a.0.0;
+        group = b.0.0;
+        round = c.0.0;
+        stage = d.0.0;
+        sender = f.0.0;
+        view = view.0;
+      },
+      view.1,
+    )) x f.2 in
     let same = made (record { version = a.0.0; group = b.0.0; round = c.0.0; stage = d.0.0; sender = f.0.0; view = g.0.0 }, g.0.1) x g.2 in
     let read = fields-take r a.0 b.0 c.0 d.0 f.0 g.0 bytes a.1 b.1 c.1 d.1 f.1 g.1 in
     subst (λ (x : Header × Reading). Takes (header_text x.0) r x.1 × HasWidths x.0) same read
   where
     fields-take : (r : Reading) (a : ℕ × Reading) (b : List ℕ × Reading) (c d f : ℕ × Reading) (g : List ℕ × Reading) → IsBytes r.rest
         → number_at w8 r ≡ Ok a → bytes_at 32 a.1 ≡ Ok b → number_at w64 b.1 ≡ Ok c → number_at w8 c.1 ≡ Ok d → number_at w8 d.1 ≡ Ok f
-        → bytes_at 32 f.1 ≡ Ok g → Takes (header_text (record { version = a.0; group = b.0; round = c.0; stage = d.0; sender = f.0; view =
-        g.0 })) r g.1 × HasWidths (record { version = a.0; group = b.0; round = c.0; stage = d.0; sender = f.0; view = g.0 })
+        → bytes_at 32 f.1 ≡ Ok g → Takes (header_text (record {
+          version = a.0;
+          group = b.0;
+          round = c.0;
+          stage = d.0;
+          sender = f.0;
+          view =
+              g.0;
+        })) r g.1 × HasWidths (record { version = a.0; group = b.0; round = c.0; stage = d.0; sender = f.0; view = g.0 })
     fields-take r a b c d f g bytes ea eb ec ed ef eg =
         let version = number_at-takes_1 r a bytes ea in
         let left_1 : IsBytes a.1.rest = (Takes-bytes (a.0 ∷ []) r a.1 version.0 bytes).1 in
@@ -72,9 +100,11 @@ header-takes r x bytes e =
         let last = Takes-append (f.0 ∷ []) g.0 d.1 f.1 g.1 sender.0 view.0 in
         let last_3 = Takes-append (d.0 ∷ []) ((f.0 ∷ []) ++ g.0) c.1 d.1 g.1 stage.0 last in
         let last_4 = Takes-append (to_be_bytes w64 c.0) ((d.0 ∷ []) ++ ((f.0 ∷ []) ++ g.0)) b.1 c.1 g.1 round.0 last_3 in
-        let last_5 = Takes-append b.0 (to_be_bytes w64 c.0 ++ ((d.0 ∷ []) ++ ((f.0 ∷ []) ++ g.0))) a.1 b.1 g.1 group.0 last_4 in
-        (Takes-append (a.0 ∷ []) (b.0 ++ (to_be_bytes w64 c.0 ++ ((d.0 ∷ []) ++ ((f.0 ∷ []) ++ g.0)))) r a.1 g.1 version.0 last_5, record
-            { group_long = group.1; round_small = round.1; view_long = view.1 })
+        let last_5 = Takes-append b.0 (to_be_bytes w64 c.0 ++ ((d.0 ∷ []) ++ ((f.0 ∷ []) ++ g.0))) a.1 b.1 g.1 group.0 last_4 in (
+          Takes-append (a.0 ∷ []) (b.0 ++ (to_be_bytes w64 c.0 ++ ((d.0 ∷ []) ++ ((f.0 ∷ []) ++ g.0)))) r a.1 g.1 version.0 last_5,
+          record
+              { group_long = group.1; round_small = round.1; view_long = view.1 },
+        )
 
 header-again : (h : Header) (place : ℕ) (rest : List ℕ) → HasWidths h
     → header_at (reading_at place (header_text h ++ rest)) ≡ Ok (h, reading_at (place + length (header_text h)) rest)
@@ -84,7 +114,7 @@ header-again h place rest fits =
     let round : List ℕ = to_be_bytes w64 h.round in
     let last : List ℕ = h.stage ∷ (h.sender ∷ h.view) in
     let text : (h.group ++ (round ++ last)) ++ rest ≡ h.group ++ (round ++ (last ++ rest)) = append_assoc h.group (round ++ last) rest
-        ∙ ap (λ (t : List ℕ). h.group ++ t) (append_assoc round last rest) in
+    ∙ ap (λ (t : List ℕ). h.group ++ t) (append_assoc round last rest) in
     let e0 = number_at-again_1 h.version place (h.group ++ (round ++ (last ++ rest))) in
     let e1 = bytes_at-again 32 h.group (round ++ (last ++ rest)) (place + 1) fits.group_long in
     let e2 = number_at-again_8 h.round (place + 1 + 32) (last ++ rest) fits.round_small in
@@ -92,7 +122,7 @@ header-again h place rest fits =
     let e4 = number_at-again_1 h.sender (place + 1 + 32 + 8 + 1) (h.view ++ rest) in
     let e5 = bytes_at-again 32 h.view rest (place + 1 + 32 + 8 + 1 + 1) fits.view_long in
     let ends : place + 1 + 32 + 8 + 1 + 1 + 32 ≡ place + length (header_text h) = omega
-        (arith, length-append h.group (round ++ last), length-append round last, fits.group_long, fits.view_long) in
+    (arith, length-append h.group (round ++ last), length-append round last, fits.group_long, fits.view_long) in
     rw (text, e0, e1, e2, e3, e4, e5) (ap told ends)
 
 -- ---- kinds
@@ -186,23 +216,23 @@ head-takes : (shape : Shape) (r : Reading) (x : (Header × BodyForm) × Reading)
 unfolding head_at
 head-takes shape r x bytes e =
     let h = bind_ok (fault_as cut (header_at r)) (λ header. unless (not (header.0.version == shape.version)) (offence 8 0) header.1 >>= λ
-        version. unless (not (is_slot shape header.0.stage header.0.sender)) (offence 9 41) header.1 >>= λ slot. fault_as cut
-        (number_at w8 header.1) >>= λ kind. ok_or (body_form shape header.0.stage kind.0) (offence 1 75) >>= λ form. Ok
-        ((header.0, form), kind.1)) x e in
+    version. unless (not (is_slot shape header.0.stage header.0.sender)) (offence 9 41) header.1 >>= λ slot. fault_as cut
+    (number_at w8 header.1) >>= λ kind. ok_or (body_form shape header.0.stage kind.0) (offence 1 75) >>= λ form. Ok
+    ((header.0, form), kind.1)) x e in
     let v = bind_ok (unless (not (h.0.0.version == shape.version)) (offence 8 0) h.0.1)
-        (λ version. unless (not (is_slot shape h.0.0.stage h.0.0.sender)) (offence 9 41) h.0.1 >>= λ slot. fault_as cut (number_at w8 h.0.1)
-        >>= λ kind. ok_or (body_form shape h.0.0.stage kind.0) (offence 1 75) >>= λ form. Ok ((h.0.0, form), kind.1)) x h.2 in
+    (λ version. unless (not (is_slot shape h.0.0.stage h.0.0.sender)) (offence 9 41) h.0.1 >>= λ slot. fault_as cut (number_at w8 h.0.1)
+    >>= λ kind. ok_or (body_form shape h.0.0.stage kind.0) (offence 1 75) >>= λ form. Ok ((h.0.0, form), kind.1)) x h.2 in
     let s = bind_ok (unless (not (is_slot shape h.0.0.stage h.0.0.sender)) (offence 9 41) h.0.1)
-        (λ slot. fault_as cut (number_at w8 h.0.1) >>= λ kind. ok_or (body_form shape h.0.0.stage kind.0) (offence 1 75) >>= λ form. Ok
-        ((h.0.0, form), kind.1)) x v.2 in
+    (λ slot. fault_as cut (number_at w8 h.0.1) >>= λ kind. ok_or (body_form shape h.0.0.stage kind.0) (offence 1 75) >>= λ form. Ok
+    ((h.0.0, form), kind.1)) x v.2 in
     let k = bind_ok (fault_as cut (number_at w8 h.0.1)) (λ kind. ok_or (body_form shape h.0.0.stage kind.0) (offence 1 75) >>= λ form. Ok
-        ((h.0.0, form), kind.1)) x s.2 in
+    ((h.0.0, form), kind.1)) x s.2 in
     let f = bind_ok (ok_or (body_form shape h.0.0.stage k.0.0) (offence 1 75)) (λ form. Ok ((h.0.0, form), k.0.1)) x k.2 in
     let version = not-false _ (guard_ok (not (h.0.0.version == shape.version)) (offence 8 0) h.0.1 v.0 v.1).0 in
     let slot = not-false _ (guard_ok (not (is_slot shape h.0.0.stage h.0.0.sender)) (offence 9 41) h.0.1 s.0 s.1).0 in
     subst (IsHead shape r) (given ((h.0.0, f.0), k.0.1) x f.2)
     (parts shape r h.0 k.0 f.0 bytes (fault_as_ok cut (header_at r) h.0 h.1) (fault_as_ok cut (number_at w8 h.0.1) k.0 k.1) version slot
-        (refused-some _ _ f.0 f.1))
+    (refused-some _ _ f.0 f.1))
   where
     parts : (shape : Shape) (r : Reading) (h : Header × Reading) (k : ℕ × Reading) (form : BodyForm) → IsBytes r.rest → header_at r ≡ Ok h
         → number_at w8 h.1 ≡ Ok k → (h.0.version == shape.version) ≡ true → is_slot shape h.0.stage h.0.sender ≡ true
@@ -214,8 +244,14 @@ head-takes shape r x bytes e =
         let number = body_form-number shape h.0.stage k.0 form has in
         let spelled = Takes-append (header_text h.0) (k.0 ∷ []) r h.1 k.1 header.0 kind.0 in (
           subst (λ (m : ℕ). Takes (header_text h.0 ++ (m ∷ [])) r k.1) number spelled,
-          record { version_is = eqb-true h.0.version shape.version version; group_long = header.1.group_long; round_small =
-              header.1.round_small; slot_is = slot; view_long = header.1.view_long },
+          record {
+            version_is = eqb-true h.0.version shape.version version;
+            group_long = header.1.group_long;
+            round_small =
+                header.1.round_small;
+            slot_is = slot;
+            view_long = header.1.view_long;
+          },
           subst (λ (m : ℕ). body_form shape h.0.stage m ≡ Some form) number has,
         )
 
@@ -224,8 +260,12 @@ head-again : (shape : Shape) (h : Header) (kind : ℕ) (form : BodyForm) (place 
     ((h, form), reading_at (place + length (header_text h) + 1) rest)
 unfolding head_at
 head-again shape h kind form place rest is has =
-    let header = header-again h place (kind ∷ rest) (record { group_long = is.group_long; round_small = is.round_small; view_long =
-        is.view_long }) in
+    let header = header-again h place (kind ∷ rest) (record {
+      group_long = is.group_long;
+      round_small = is.round_small;
+      view_long =
+          is.view_long;
+    }) in
     let version : (h.version == shape.version) ≡ true = eq-eqb h.version shape.version is.version_is in
     let number = number_at-again_1 kind (place + length (header_text h)) rest in
     rw (header, version, is.slot_is, number, has) refl
@@ -241,12 +281,12 @@ pub content-is_spelled : (shape : Shape) (bytes : List ℕ) (c : Content) → Is
 unfolding content_read
 content-is_spelled shape bytes c are e =
     let w = bind_ok (unless (nat_lt (length bytes) 76) (offence 7 (length bytes)) (reading_of bytes))
-        (λ whole. head_at shape (reading_of bytes) >>= λ head. body_at head.0.1 head.1 >>= λ body. unless (nat_lt 0 (length body.1.rest))
-        (offence 3 body.1.place) (record { header = head.0.0; body = body.0 })) c e in
+    (λ whole. head_at shape (reading_of bytes) >>= λ head. body_at head.0.1 head.1 >>= λ body. unless (nat_lt 0 (length body.1.rest))
+    (offence 3 body.1.place) (record { header = head.0.0; body = body.0 })) c e in
     let h = bind_ok (head_at shape (reading_of bytes)) (λ head. body_at head.0.1 head.1 >>= λ body. unless (nat_lt 0 (length body.1.rest))
-        (offence 3 body.1.place) (record { header = head.0.0; body = body.0 })) c w.2 in
+    (offence 3 body.1.place) (record { header = head.0.0; body = body.0 })) c w.2 in
     let b = bind_ok (body_at h.0.0.1 h.0.1) (λ body. unless (nat_lt 0 (length body.1.rest)) (offence 3 body.1.place)
-        (record { header = h.0.0.0; body = body.0 })) c h.2 in
+    (record { header = h.0.0.0; body = body.0 })) c h.2 in
     let ended = guard_ok (nat_lt 0 (length b.0.1.rest)) (offence 3 b.0.1.place) (record { header = h.0.0.0; body = b.0.0 }) c b.2 in
     subst (λ (c : Content). (bytes ≡ content_text c) × OfGrammar shape c) ended.1
     (parts shape bytes h.0 b.0 are h.1 b.1 (nothing_left b.0.1.rest ended.0))
@@ -262,7 +302,7 @@ content-is_spelled shape bytes c are e =
         let number = fits-number h.0.1 b.0 body.1 in
         let whole = Takes-append front (body_text b.0) (reading_of bytes) h.1 b.1 head.0 body.0 in
         let text : bytes ≡ front ++ body_text b.0 = whole.text_is ∙ ap (λ (t : List ℕ). (front ++ body_text b.0) ++ t) ended
-            ∙ append-nil (front ++ body_text b.0) in (
+        ∙ append-nil (front ++ body_text b.0) in (
           text ∙ append_assoc (header_text h.0.0) (form_number h.0.1 ∷ []) (body_text b.0)
               ∙ ap (λ (m : ℕ). header_text h.0.0 ++ (m ∷ body_text b.0)) (sym number),
           (head.1, (h.0.1, subst (λ (m : ℕ). body_form shape h.0.0.stage m ≡ Some h.0.1) (sym number) head.2, body.1)),
@@ -280,15 +320,18 @@ pub content-is_read : (shape : Shape) (c : Content) → OfGrammar shape c → co
 unfolding content_read
 content-is_read shape c is =
     let text : List ℕ = body_text c.body in
-    let long : 76 ≤ length (content_text c) = omega (arith, length-append (header_text c.header) (kind_number c.body ∷ text),
-        length-header_text shape c.header is.0) in
+    let long : 76 ≤ length (content_text c) = omega (
+      arith,
+      length-append (header_text c.header) (kind_number c.body ∷ text),
+      length-header_text shape c.header is.0,
+    ) in
     let whole : nat_lt (length (content_text c)) 76 ≡ false = le-ltb (length (content_text c)) 76 long in
     let place : ℕ = 0 + length (header_text c.header) + 1 in
     let head = head-again shape c.header (kind_number c.body) is.1.0 0 text is.0 is.1.1 in
     let all : text ++ [] ≡ text = append-nil text in
     let body : body_at is.1.0 (reading_at place text) ≡ Ok (c.body, reading_at (place + length text) []) = subst
-        (λ (t : List ℕ). body_at is.1.0 (reading_at place t) ≡ Ok (c.body, reading_at (place + length text) [])) all
-        (body-again is.1.0 c.body place [] is.1.2) in
+    (λ (t : List ℕ). body_at is.1.0 (reading_at place t) ≡ Ok (c.body, reading_at (place + length text) [])) all
+    (body-again is.1.0 c.body place [] is.1.2) in
     rw (whole, head, body) refl
 
 -- ---- the header alone
@@ -298,17 +341,17 @@ head-header : (shape : Shape) (r : Reading) (x : (Header × BodyForm) × Reading
 unfolding head_at
 head-header shape r x e =
     let h = bind_ok (fault_as cut (header_at r)) (λ header. unless (not (header.0.version == shape.version)) (offence 8 0) header.1 >>= λ
-        version. unless (not (is_slot shape header.0.stage header.0.sender)) (offence 9 41) header.1 >>= λ slot. fault_as cut
-        (number_at w8 header.1) >>= λ kind. ok_or (body_form shape header.0.stage kind.0) (offence 1 75) >>= λ form. Ok
-        ((header.0, form), kind.1)) x e in
+    version. unless (not (is_slot shape header.0.stage header.0.sender)) (offence 9 41) header.1 >>= λ slot. fault_as cut
+    (number_at w8 header.1) >>= λ kind. ok_or (body_form shape header.0.stage kind.0) (offence 1 75) >>= λ form. Ok
+    ((header.0, form), kind.1)) x e in
     let v = bind_ok (unless (not (h.0.0.version == shape.version)) (offence 8 0) h.0.1)
-        (λ version. unless (not (is_slot shape h.0.0.stage h.0.0.sender)) (offence 9 41) h.0.1 >>= λ slot. fault_as cut (number_at w8 h.0.1)
-        >>= λ kind. ok_or (body_form shape h.0.0.stage kind.0) (offence 1 75) >>= λ form. Ok ((h.0.0, form), kind.1)) x h.2 in
+    (λ version. unless (not (is_slot shape h.0.0.stage h.0.0.sender)) (offence 9 41) h.0.1 >>= λ slot. fault_as cut (number_at w8 h.0.1)
+    >>= λ kind. ok_or (body_form shape h.0.0.stage kind.0) (offence 1 75) >>= λ form. Ok ((h.0.0, form), kind.1)) x h.2 in
     let s = bind_ok (unless (not (is_slot shape h.0.0.stage h.0.0.sender)) (offence 9 41) h.0.1)
-        (λ slot. fault_as cut (number_at w8 h.0.1) >>= λ kind. ok_or (body_form shape h.0.0.stage kind.0) (offence 1 75) >>= λ form. Ok
-        ((h.0.0, form), kind.1)) x v.2 in
+    (λ slot. fault_as cut (number_at w8 h.0.1) >>= λ kind. ok_or (body_form shape h.0.0.stage kind.0) (offence 1 75) >>= λ form. Ok
+    ((h.0.0, form), kind.1)) x v.2 in
     let k = bind_ok (fault_as cut (number_at w8 h.0.1)) (λ kind. ok_or (body_form shape h.0.0.stage kind.0) (offence 1 75) >>= λ form. Ok
-        ((h.0.0, form), kind.1)) x s.2 in
+    ((h.0.0, form), kind.1)) x s.2 in
     let f = bind_ok (ok_or (body_form shape h.0.0.stage k.0.0) (offence 1 75)) (λ form. Ok ((h.0.0, form), k.0.1)) x k.2 in
     let same = given ((h.0.0, f.0), k.0.1) x f.2 in
     (h.0, fault_as_ok cut (header_at r) h.0 h.1, ap (λ (x : (Header × BodyForm) × Reading). x.0.0) same)
@@ -333,18 +376,18 @@ header_of-begins bytes h are e =
 pub begins-header_of : (bytes : List ℕ) (h : Header) → BeginsWith h bytes → header_of bytes ≡ Ok h
 begins-header_of bytes h begins =
     ap header_of begins.spelled ∙ header_ok (header_text h ++ begins.rest) (h, reading_at (0 + length (header_text h)) begins.rest) h
-        (header-again h 0 begins.rest begins.widths) refl
+    (header-again h 0 begins.rest begins.widths) refl
 
 pub content-header : (shape : Shape) (bytes : List ℕ) (c : Content) → content_read shape bytes ≡ Ok c → header_of bytes ≡ Ok c.header
 unfolding content_read
 content-header shape bytes c e =
     let w = bind_ok (unless (nat_lt (length bytes) 76) (offence 7 (length bytes)) (reading_of bytes))
-        (λ whole. head_at shape (reading_of bytes) >>= λ head. body_at head.0.1 head.1 >>= λ body. unless (nat_lt 0 (length body.1.rest))
-        (offence 3 body.1.place) (record { header = head.0.0; body = body.0 })) c e in
+    (λ whole. head_at shape (reading_of bytes) >>= λ head. body_at head.0.1 head.1 >>= λ body. unless (nat_lt 0 (length body.1.rest))
+    (offence 3 body.1.place) (record { header = head.0.0; body = body.0 })) c e in
     let h = bind_ok (head_at shape (reading_of bytes)) (λ head. body_at head.0.1 head.1 >>= λ body. unless (nat_lt 0 (length body.1.rest))
-        (offence 3 body.1.place) (record { header = head.0.0; body = body.0 })) c w.2 in
+    (offence 3 body.1.place) (record { header = head.0.0; body = body.0 })) c w.2 in
     let b = bind_ok (body_at h.0.0.1 h.0.1) (λ body. unless (nat_lt 0 (length body.1.rest)) (offence 3 body.1.place)
-        (record { header = h.0.0.0; body = body.0 })) c h.2 in
+    (record { header = h.0.0.0; body = body.0 })) c h.2 in
     let ended = guard_ok (nat_lt 0 (length b.0.1.rest)) (offence 3 b.0.1.place) (record { header = h.0.0.0; body = b.0.0 }) c b.2 in
     let y = head-header shape (reading_of bytes) h.0 h.1 in
     header_ok bytes y.0 c.header y.1 (y.2 ∙ ap (λ (c : Content). c.header) ended.1)

@@ -52,8 +52,11 @@ pub key_read : (bytes : List ℕ) (n : ℕ) (r : Result (List ℕ) CoefficientTo
     → r ≡ read_packed (take n (drop 32 bytes)) → r ≡ Ok f → IsPublicKey bytes
 key_read bytes n r f long room e is =
     let whole : take n (drop 32 bytes) ≡ drop 32 bytes = back_of bytes n (omega arith) in
-    record { length = long; reduced = all_from_none (unpacked (drop 32 bytes))
-        (read_gives (drop 32 bytes) f (sym (ap read_packed whole) ∙ sym e ∙ is)).1 }
+    record {
+      length = long;
+      reduced = all_from_none (unpacked (drop 32 bytes))
+          (read_gives (drop 32 bytes) f (sym (ap read_packed whole) ∙ sym e ∙ is)).1;
+    }
 
 -- a key that is put together
 pub key_of_parts : (rho b : List ℕ) → length rho ≡ 32 → IsPolynomial b → IsPublicKey (rho ++ packed b)
@@ -76,12 +79,12 @@ key_is_public_key seed =
 -- ---- two byte strings that are written one after the other
 pub joined : (front back bytes : List ℕ) (k : ℕ) → length front + length back ≡ length bytes → length bytes ≤ length front + k
     → take (length front) (front ++ drop (length front) bytes) ++
-        (back ++ drop k (drop (length front) (front ++ drop (length front) bytes))) ≡ front ++ back
+    (back ++ drop k (drop (length front) (front ++ drop (length front) bytes))) ≡ front ++ back
 joined front back bytes k sum room =
     let first : take (length front) (front ++ drop (length front) bytes) ≡ front = take_at front (drop (length front) bytes) (length front)
-        refl in
+    refl in
     let second : drop (length front) (front ++ drop (length front) bytes) ≡ drop (length front) bytes = drop_at front
-        (drop (length front) bytes) (length front) refl in
+    (drop (length front) bytes) (length front) refl in
     let third : drop k (drop (length front) bytes) ≡ [] = drop_all k (drop (length front) bytes)
-        (omega (arith, length-drop (length front) bytes)) in
+    (omega (arith, length-drop (length front) bytes)) in
     rw (first, second, third, append-nil) refl

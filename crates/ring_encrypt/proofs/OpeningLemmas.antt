@@ -60,7 +60,7 @@ bit_read x y bit e z hidden small binary =
     let apart : pos x +ℤ e +ℤ pos (6144 * bit) ≡ pos x +ℤ (e +ℤ pos (6144 * bit)) = omega (arith, ints) in
     let whole : z +ℤ (e +ℤ pos (6144 * bit)) ≡ z +ℤ e +ℤ pos (6144 * bit) = omega (arith, ints) in
     let left : residue (pos (residue (pos x +ℤ (e +ℤ pos (6144 * bit)))) -ℤ pos y) ≡ residue (z +ℤ (e +ℤ pos (6144 * bit))) = residue_masked
-        x y (e +ℤ pos (6144 * bit)) z hidden in
+    x y (e +ℤ pos (6144 * bit)) z hidden in
     rw (apart, left, whole) (bit_of_noise (z +ℤ e) bit small binary)
 
 -- ---- the parts of a key and of a capsule
@@ -79,14 +79,14 @@ get_or-carried : (product : List ℕ) (error : List ℤ) (m : List ℕ) (c : ℕ
 unfolding carried
 get_or-carried product error m c h =
     get_or-map-range_with_len (λ c. residue (pos (slice_index product c) +ℤ coefficient error c +ℤ pos (6144 * message_bit m c))) 0 256 c c
-        0 h (omega arith)
+    0 h (omega arith)
 
 carried-reduced : (product : List ℕ) (error : List ℤ) (m : List ℕ) → All (λ c. c < 12289) (carried product error m)
 carried-reduced product error m =
     All-from_get_or (λ c. c < 12289) (carried product error m) 0
     (λ k h. let below : k < 256 = omega (arith, length-carried product error m) in
     rw (get_or-carried product error m k below) (residue_below (pos (slice_index product k) +ℤ coefficient error k +ℤ pos
-        (6144 * message_bit m k))))
+    (6144 * message_bit m k))))
 
 read_cases : (cs f : List ℕ) (o : Option CoefficientTooLarge) → unless_too_large cs o ≡ Ok f → (cs ≡ f) × (o ≡ None)
 read_cases cs f None e = (let x = e in cc, refl)
@@ -152,7 +152,7 @@ noise_small e r d s e' c te tr td ts te' h =
     let second : unsigned_abs (product_at d s c) ≤ 1024 = product_is_small d s 1 c td.length td.trits ts h in
     let third : unsigned_abs (coefficient e' c) ≤ 1 = te'.trits c (pos 0) (omega (arith, te'.length)) in
     let both : unsigned_abs (product_at e r c -ℤ product_at d s c) ≤ 2048 = abs-sub (product_at e r c) (product_at d s c) 1024 1024 first
-        second in
+    second in
     abs-add (product_at e r c -ℤ product_at d s c) (coefficient e' c) 2048 1 both third
 
 -- a bit of what was sealed with any coins
@@ -170,13 +170,13 @@ bit_opened coins a m s e c long ts te h =
     let te' = ternary_is_ternary coins 128 in
     let below : c < 1024 = omega arith in
     let hidden : residue (pos (slice_index (product_of b r) c) -ℤ pos (slice_index (product_of (u_of coins a) s) c)) ≡ residue
-        (product_at e r c -ℤ product_at d s c)
+    (product_at e r c -ℤ product_at d s c)
     = mask_cancels a s r e d c long ts.length tr.length te.length td.length below in
     let small = noise_small e r d s e' c te tr td ts te' below in
     let at : slice_index (v_of coins b m) c ≡ residue (pos (slice_index (product_of b r) c) +ℤ coefficient e' c +ℤ pos
-        (6144 * message_bit m c)) = get_or-carried (product_of b r) e' m c h in
+    (6144 * message_bit m c)) = get_or-carried (product_of b r) e' m c h in
     rw at (bit_read (slice_index (product_of b r) c) (slice_index (product_of (u_of coins a) s) c) (message_bit m c) (coefficient e' c)
-        (product_at e r c -ℤ product_at d s c) hidden small (bit_at-lt (slice_index m (c / 8)) (c % 8)))
+    (product_at e r c -ℤ product_at d s c) hidden small (bit_at-lt (slice_index m (c / 8)) (c % 8)))
 
 byte_from_bits : (m v us : List ℕ) → IsMessage m → ((c : ℕ) → c < 256 → opened_bit v us c ≡ message_bit m c) → (j : ℕ) → j < 32
     → number_of_bits (λ i. opened_bit v us (8 * j + i)) 8 ≡ get_or m j 0
@@ -196,7 +196,7 @@ message_from_bits : (m v us : List ℕ) → IsMessage m → ((c : ℕ) → c < 2
 unfolding message_of
 message_from_bits m v us is bits =
     sym (fill_by_all (λ j. number_of_bits (λ i. opened_bit v us (8 * j + i)) 8) m 32 0 is.length
-        (λ j below. sym (byte_from_bits m v us is bits j below)))
+    (λ j below. sym (byte_from_bits m v us is bits j below)))
 
 -- what is sealed under the key of a seed is read there
 pub sealed_is_decoded : SealedIsDecoded
@@ -209,7 +209,7 @@ sealed_is_decoded seed m is =
     let b = masked_secret seed in
     let s = secret_of seed in
     let read = packed_is_read_back 256 b (length-sum_of (product_of a s) (map residue (error_of seed)))
-        (sum_of-reduced (product_of a s) (map residue (error_of seed))) in
+    (sum_of-reduced (product_of a s) (map residue (error_of seed))) in
     let front : take 32 key ≡ rho = key_front seed in
     let back : unpacked (drop 32 key) ≡ b = rw (key_back seed) (read_gives (packed b) b read.1).0 in
     let parts = sealed_parts coins a b m in
@@ -217,7 +217,7 @@ sealed_is_decoded seed m is =
     let v = read_gives (drop 1792 (sealed_with coins a b m)) (v_of coins b m) parts.second in
     rw (front, back, u.0, v.0) (message_from_bits m (v_of coins b m) (product_of (u_of coins a) s) is (λ c h.
     bit_opened coins a m s (error_of seed) c (length-uniform rho) (ternary_is_ternary (hash_of RingSecret (seed ∷ [])) 0)
-        (ternary_is_ternary (hash_of RingSecret (seed ∷ [])) 64) h))
+    (ternary_is_ternary (hash_of RingSecret (seed ∷ [])) 64) h))
 
 -- a capsule's parts have no coefficient that is too large
 pub sealed_reads : (capsule key m : List ℕ) → capsule ≡ capsule_of key m

@@ -46,5 +46,5 @@ reduced_as_told bytes capsule r s same long e f good =
     let room : length (drop 1792 bytes) ≤ 448 = omega (arith, length-drop 1792 bytes) in
     let whole : take 448 (drop 1792 bytes) ≡ drop 1792 bytes = take_all 448 (drop 1792 bytes) room in
     let second : is_ok s ≡ is_none (first_too_large 0 (unpacked (drop 1792 bytes))) = part_told (drop 1792 bytes) s
-        (f ∙ ap read_packed whole) in
+    (f ∙ ap read_packed whole) in
     rw (← same, first) second

@@ -19,7 +19,7 @@ trit_at : (key : List ℕ) (place k : ℕ) → k < 1024 → IsTrit (get_or (tern
 unfolding ternary
 trit_at key place k below =
     let is : get_or (ternary key place) k (pos 0) ≡ trit_of (word_of key (place + k / 16)) (k % 16) = get_or-by_place
-        (λ c. trit_of (word_of key (place + c / 16)) (c % 16)) k (pos 0) below in
+    (λ c. trit_of (word_of key (place + c / 16)) (c % 16)) k (pos 0) below in
     subst (λ (x : ℤ). IsTrit x) (sym is) (trit_of_is_trit (word_of key (place + k / 16)) (k % 16))
 
 pub ternary_is_ternary : (key : List ℕ) (place : ℕ) → IsTernary (ternary key place)

@@ -29,8 +29,13 @@ number_fourth a b c d ha hb hc hd = omega arith
 pub group_of-number : (a b c d : ℕ) → a < 2 ^ 14 → b < 2 ^ 14 → c < 2 ^ 14 → d < 2 ^ 14
     → group_of (group_number a b c d) ≡ a ∷ b ∷ c ∷ d ∷ []
 group_of-number a b c d ha hb hc hd =
-    rw (number_low a b c d ha hb hc hd, number_second a b c d ha hb hc hd, number_third a b c d ha hb hc hd, number_fourth a b c d ha hb hc
-        hd) refl
+    rw (
+      number_low a b c d ha hb hc hd,
+      number_second a b c d ha hb hc hd,
+      number_third a b c d ha hb hc hd,
+      number_fourth a b c d ha hb hc
+          hd,
+    ) refl
 
 -- a number of 56 bits is that of its four parts
 pub number-group_of : (n : ℕ) → n < 2 ^ 56 → group_number (n % 2 ^ 14) (n / 2 ^ 14 % 2 ^ 14) (n / 2 ^ 28 % 2 ^ 14) (n / 2 ^ 42 % 2 ^ 14) ≡ n

@@ -81,29 +81,29 @@ product_adds_in_first f g t a b =
     let same : pos (get_or f k 0) +ℤ pos (get_or g k 0) ≡ coefficient H k = cc in
     get_or-sum_of f g k h ∙ ap residue same) in
     same_by_place (product_of (sum_of f g) t) (sum_of (product_of f t) (product_of g t)) (length-product_of (sum_of f g) t)
-        (length-sum_of (product_of f t) (product_of g t)) (λ k h.
+    (length-sum_of (product_of f t) (product_of g t)) (λ k h.
     get_or-Product_of (sum_of f g) H t c k h
     ∙ ap residue (product_at-sum_left H F G t is k)
     ∙ sym (get_or-sum_of (product_of f t) (product_of g t) k h
     ∙ (let x = get_or-product_of f t k h in let y = get_or-product_of g t k h in rw (x, y)
-        (residue-add (product_at F t k) (product_at G t k)))))
+    (residue-add (product_at F t k) (product_at G t k)))))
 
 pub product_adds_in_second : ProductAddsInSecond
 product_adds_in_second f s t a b =
     let F = map pos f in
     same_by_place (product_of f (signed_sum s t)) (sum_of (product_of f s) (product_of f t)) (length-product_of f (signed_sum s t))
-        (length-sum_of (product_of f s) (product_of f t)) (λ k h.
+    (length-sum_of (product_of f s) (product_of f t)) (λ k h.
     get_or-product_of f (signed_sum s t) k h
     ∙ ap residue (product_at-sum_right (signed_sum s t) s t F (signed_sum_is s t (omega arith) (omega arith)) k)
     ∙ sym (get_or-sum_of (product_of f s) (product_of f t) k h
     ∙ (let x = get_or-product_of f s k h in let y = get_or-product_of f t k h in rw (x, y)
-        (residue-add (product_at F s k) (product_at F t k)))))
+    (residue-add (product_at F s k) (product_at F t k)))))
 
 pub factors_commute : FactorsCommute
 factors_commute f s t a b c =
     let F = map pos f in
     same_by_place (product_of (product_of f s) t) (product_of (product_of f t) s) (length-product_of (product_of f s) t)
-        (length-product_of (product_of f t) s) (λ k h.
+    (length-product_of (product_of f t) s) (λ k h.
     get_or-Product_of (product_of f s) (products F s) t (Product_congruent f s) k h
     ∙ ap residue (products_comm F s t (length-pos f a) (omega arith) (omega arith) k h)
     ∙ sym (get_or-Product_of (product_of f t) (products F t) s (Product_congruent f t) k h))
@@ -130,7 +130,7 @@ masked a s r e la ls le k h =
     let c = congruent_by_place b H (length-sum_of (product_of a s) (map residue e)) (omega (arith, length-signed_sum P e)) (λ j l.
     get_or-sum_of (product_of a s) (map residue e) j l
     ∙ (let x = get_or-product_of a s j l in let y = get_or-residues e j in rw (x, y)
-        (residue-add (product_at (map pos a) s j) (coefficient e j)))
+    (residue-add (product_at (map pos a) s j) (coefficient e j)))
     ∙ ap residue (ap (λ z. z +ℤ coefficient e j) (sym (coefficient-products (map pos a) s j l)) ∙ sym (is j))) in
     get_or-Product_of b H r c k h ∙ ap residue (product_at-sum_left H P e r is k)
 

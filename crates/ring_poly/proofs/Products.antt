@@ -57,7 +57,7 @@ IsSum h f g = (m : ℕ) → coefficient h m ≡ coefficient f m +ℤ coefficient
 convolution-sum_left : (h f g r : List ℤ) → IsSum h f g → (s : ℕ) → convolution h r s ≡ convolution f r s +ℤ convolution g r s
 convolution-sum_left h f g r is s =
     total_same (s + 1) (λ i. coefficient h (s - i) *ℤ coefficient r i)
-        (λ i. coefficient f (s - i) *ℤ coefficient r i +ℤ coefficient g (s - i) *ℤ coefficient r i) (λ i l.
+    (λ i. coefficient f (s - i) *ℤ coefficient r i +ℤ coefficient g (s - i) *ℤ coefficient r i) (λ i l.
     ap (λ x. x *ℤ coefficient r i) (is (s - i)) ∙ add-mul (coefficient f (s - i)) (coefficient g (s - i)) (coefficient r i))
     ∙ total-add (s + 1) (λ i. coefficient f (s - i) *ℤ coefficient r i) (λ i. coefficient g (s - i) *ℤ coefficient r i)
 
@@ -78,7 +78,7 @@ mul-add a b c =
 convolution-sum_right : (h f g r : List ℤ) → IsSum h f g → (s : ℕ) → convolution r h s ≡ convolution r f s +ℤ convolution r g s
 convolution-sum_right h f g r is s =
     total_same (s + 1) (λ i. coefficient r (s - i) *ℤ coefficient h i)
-        (λ i. coefficient r (s - i) *ℤ coefficient f i +ℤ coefficient r (s - i) *ℤ coefficient g i) (λ i l.
+    (λ i. coefficient r (s - i) *ℤ coefficient f i +ℤ coefficient r (s - i) *ℤ coefficient g i) (λ i l.
     ap (λ x. coefficient r (s - i) *ℤ x) (is i) ∙ mul-add (coefficient r (s - i)) (coefficient f i) (coefficient g i))
     ∙ total-add (s + 1) (λ i. coefficient r (s - i) *ℤ coefficient f i) (λ i. coefficient r (s - i) *ℤ coefficient g i)
 
@@ -121,7 +121,7 @@ product_twice f s r a b c k h =
     let P = products f s in
     let G = spread (extended f) s in
     let is = extended_is P G (spread-turn (extended f) s (extended-turn f))
-        (λ j l. coefficient-products f s j l ∙ product_at_spread f s a b j l) in
+    (λ j l. coefficient-products f s j l ∙ product_at_spread f s a b j l) in
     product_at_spread P r (omega (arith, length-products f s)) c k h
     ∙ total_same 1024 (λ j. extended P (k + 2048 - j) *ℤ coefficient r j) (λ j. G (k + 2048 - j) *ℤ coefficient r j) (λ j l.
     ap (λ x. x *ℤ coefficient r j) (is (k + 2048 - j)))
@@ -162,4 +162,4 @@ convolution_congruent f g r c s =
 pub product_at_congruent : (f g r : List ℤ) → AreCongruent f g → (k : ℕ) → Congruent (product_at f r k) (product_at g r k)
 product_at_congruent f g r c k =
     congruent-sub (convolution f r k) (convolution g r k) (convolution f r (k + 1024)) (convolution g r (k + 1024))
-        (convolution_congruent f g r c k) (convolution_congruent f g r c (k + 1024))
+    (convolution_congruent f g r c k) (convolution_congruent f g r c (k + 1024))

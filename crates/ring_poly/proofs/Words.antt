@@ -25,5 +25,10 @@ pub read_multiple : (x : ℤ) (t : ℕ) (f : ℤ) → unsigned_abs x ≤ 2 ^ 30 
 read_multiple x t f hx ht hf =
     let size : unsigned_abs (pos t *ℤ f) ≤ 12289 * 1 = rw unsigned_abs-mul (mul-le t (unsigned_abs f) 12289 1 (omega arith) hf) in
     let whole = abs-add x (pos t *ℤ f) (2 ^ 30) 12289 hx (omega arith) in
-    rw (read_back x (omega arith), read_back (pos t) (omega arith), read_back f (omega arith), read_back (pos t *ℤ f) (omega arith),
-        read_back (x +ℤ (pos t *ℤ f)) (omega arith)) refl
+    rw (
+      read_back x (omega arith),
+      read_back (pos t) (omega arith),
+      read_back f (omega arith),
+      read_back (pos t *ℤ f) (omega arith),
+      read_back (x +ℤ (pos t *ℤ f)) (omega arith),
+    ) refl

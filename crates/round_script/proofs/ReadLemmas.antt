@@ -47,7 +47,7 @@ unless_is false e x y h = let h : Ok x ≡ Ok y = h in cc
 shape_is : (line : List ℕ) (shape : Shape) → shape_in line ≡ Some shape → (shape.version ≡ 1) × (2 ≤ shape.members) × (shape.members ≤ 8)
 shape_is line shape e =
     let found = map_some (λ (members : ℕ). record { version = 1; members = members })
-        (option_and_then (digit_of 2 8) (behind (codes "members ") line)) shape e in
+    (option_and_then (digit_of 2 8) (behind (codes "members ") line)) shape e in
     let digits = and_then_some (digit_of 2 8) (behind (codes "members ") line) found.0 found.1 in
     let digit = digit_is 2 8 digits.0 found.0 digits.2 in
     subst (λ (shape : Shape). (shape.version ≡ 1) × (2 ≤ shape.members) × (shape.members ≤ 8)) found.2 (refl, digit.1, digit.2)
@@ -63,7 +63,7 @@ unfolding seed_of
 seed_is line seed e =
     let digits = and_then_some seed_of (behind (codes "seed ") line) seed e in
     let read = result_some (decode_sized digits.0 32) seed (refused_some (list_any is_upper_case digits.0)
-        (result_ok (decode_sized digits.0 32)) seed digits.2) in
+    (result_ok (decode_sized digits.0 32)) seed digits.2) in
     let size = decode_sized-ok digits.0 32 seed read in
     let parts = decode_of-ok digits.0 seed (sym (decode_sized-twice digits.0 32 size) ∙ read) in
     (omega (arith, size, parts.2), parts.3)
@@ -111,7 +111,7 @@ repeated_all {A} {E} Good read each (suc n) r x e =
     let same : (first.0.0 ∷ others.0.0, others.0.1) ≡ x = (let e : Ok (first.0.0 ∷ others.0.0, others.0.1) ≡ Ok x = others.2 in cc) in
     let more = repeated_all Good read each n first.0.1 others.0 others.1 in
     subst (λ (x : List A × Reading). AllByRecursion Good x.0 × (length x.0 ≡ suc n)) same
-        ((each r first.0 first.1, more.0), omega (arith, more.1))
+    ((each r first.0 first.1, more.0), omega (arith, more.1))
 
 -- ---- the lines that may be missing
 
@@ -141,9 +141,10 @@ one_more : {A : Type 0} (key : A → ℕ) (Good : A → Type 0) (first bound : �
     → Rise (first + 1) bound (map key others) × AllByRecursion Good others
     → Rise first bound (map key (listed one ++ others)) × AllByRecursion Good (listed one ++ others)
 one_more key Good first bound (Some x) others is below rest =
-    let here = is x refl in
-    ((omega (arith, here.0), omega (arith, here.0), subst (λ (n : ℕ). Rise (n + 1) bound (map key others)) (sym here.0) rest.0),
-        (here.1, rest.1))
+    let here = is x refl in (
+      (omega (arith, here.0), omega (arith, here.0), subst (λ (n : ℕ). Rise (n + 1) bound (map key others)) (sym here.0) rest.0),
+      (here.1, rest.1),
+    )
 one_more key Good first bound None others is below rest = (rise_from first (first + 1) bound (map key others) (omega arith) rest.0, rest.1)
 
 -- the values of lines that may be missing rise as their forms do
@@ -164,7 +165,7 @@ fault_is : (k : ℕ) (line : List ℕ) (x : FaultLine) → fault_line_of k line 
 unfolding fault_line_of
 fault_is k line x e =
     let found = map_some (λ fault. record { member = k; fault = fault })
-        (option_and_then fault_of_name (behind_member (codes "fault ") k line)) x e in
+    (option_and_then fault_of_name (behind_member (codes "fault ") k line)) x e in
     (sym (ap (λ (x : FaultLine). x.member) found.2), tt {0})
 
 drop_is : (shape : Shape) (k : ℕ) (line : List ℕ) (x : Slot) → slot_dropped shape k line ≡ Some x → (rank_of x ≡ k) × IsSlotOf shape x
@@ -202,18 +203,18 @@ pub opening_is : (r : Reading) (x : Opening × Reading) → opening_at r ≡ Ok 
 unfolding opening_at
 opening_is r x e =
     let begun = bind_ok (version_at r) (λ begun. value_at shape_in begun >>= λ shape. value_at round_of shape.1 >>= λ round. value_at
-        seed_in round.1 >>= λ seed. repeated shape.0.members message_at seed.1 >>= λ messages. Ok
-        (made shape.0 round.0 seed.0 messages.0, messages.1)) x e in
+    seed_in round.1 >>= λ seed. repeated shape.0.members message_at seed.1 >>= λ messages. Ok
+    (made shape.0 round.0 seed.0 messages.0, messages.1)) x e in
     let shape = bind_ok (value_at shape_in begun.0) (λ shape. value_at round_of shape.1 >>= λ round. value_at seed_in round.1 >>= λ seed.
-        repeated shape.0.members message_at seed.1 >>= λ messages. Ok (made shape.0 round.0 seed.0 messages.0, messages.1)) x begun.2 in
+    repeated shape.0.members message_at seed.1 >>= λ messages. Ok (made shape.0 round.0 seed.0 messages.0, messages.1)) x begun.2 in
     let round = bind_ok (value_at round_of shape.0.1) (λ round. value_at seed_in round.1 >>= λ seed. repeated shape.0.0.members message_at
-        seed.1 >>= λ messages. Ok (made shape.0.0 round.0 seed.0 messages.0, messages.1)) x shape.2 in
+    seed.1 >>= λ messages. Ok (made shape.0.0 round.0 seed.0 messages.0, messages.1)) x shape.2 in
     let seed = bind_ok (value_at seed_in round.0.1) (λ seed. repeated shape.0.0.members message_at seed.1 >>= λ messages. Ok
-        (made shape.0.0 round.0.0 seed.0 messages.0, messages.1)) x round.2 in
+    (made shape.0.0 round.0.0 seed.0 messages.0, messages.1)) x round.2 in
     let messages = bind_ok (repeated shape.0.0.members message_at seed.0.1)
-        (λ messages. Ok (made shape.0.0 round.0.0 seed.0.0 messages.0, messages.1)) x seed.2 in
+    (λ messages. Ok (made shape.0.0 round.0.0 seed.0.0 messages.0, messages.1)) x seed.2 in
     let same : (made shape.0.0 round.0.0 seed.0.0 messages.0.0, messages.0.1) ≡ x =
-        (let e : Ok (made shape.0.0 round.0.0 seed.0.0 messages.0.0, messages.0.1) ≡ Ok x = messages.2 in cc) in
+    (let e : Ok (made shape.0.0 round.0.0 seed.0.0 messages.0.0, messages.0.1) ≡ Ok x = messages.2 in cc) in
     let shape_line = value_at_is shape_in begun.0 shape.0 shape.1 in
     let round_line = value_at_is round_of shape.0.1 round.0 round.1 in
     let seed_line = value_at_is seed_in round.0.1 seed.0 seed.1 in
@@ -243,15 +244,22 @@ further_is opening before script is e =
     let faults = faults_at opening.shape.members before in
     let drops = drops_at opening.shape faults.1 in
     let repeat = optional repeat_of drops.1 in
-    let made : Script = record { version = 1; round = opening.round; seed = opening.seed; messages = opening.messages; faults = faults.0;
-        drops = drops.0; repeat = repeat.0 } in
+    let made : Script = record {
+      version = 1;
+      round = opening.round;
+      seed = opening.seed;
+      messages = opening.messages;
+      faults = faults.0;
+      drops = drops.0;
+      repeat = repeat.0;
+    } in
     let same : made ≡ script = unless_is (not (length repeat.1.rest == 0)) repeat.1.place made script e in
     let rising_faults = optionals_rise fault_line_of (λ line. line.member) (λ line. Unit {0}) fault_is 1 opening.shape.members
-        (opening.shape.members + 1) before (omega arith) in
+    (opening.shape.members + 1) before (omega arith) in
     let rising_drops = optionals_rise (slot_dropped opening.shape) rank_of (IsSlotOf opening.shape) (drop_is opening.shape) 0
-        (8 * (2 * opening.shape.members + 10)) (8 * (2 * opening.shape.members + 10)) faults.1 (omega arith) in
+    (8 * (2 * opening.shape.members + 10)) (8 * (2 * opening.shape.members + 10)) faults.1 (omega arith) in
     let shape : opening.shape ≡ shape_of_script made = (let version = is.version in let count = is.count in λ i. record
-        { version = version i; members = sym count i }) in
+    { version = version i; members = sym count i }) in
     subst IsScript same (record {
       version = refl;
       least = omega (arith, is.least, is.count);

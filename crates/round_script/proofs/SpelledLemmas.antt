@@ -64,7 +64,7 @@ value_at_is {A} form r x e =
     let same : (value.0, line.0.1) ≡ x = (let h : Ok (value.0, line.0.1) ≡ Ok x = value.2 in cc) in
     let is = line_at_is r line.0 line.1 in
     subst (λ (x : A × Reading). (line : List ℕ) × (form line ≡ Some x.0) × (r.rest ≡ ended line ++ x.1.rest) × (x.1.place ≡ r.place + 1))
-        same
+    same
     (line.0.0, ok_or_ok (form line.0.0) r.place value.0 value.1, is.0, is.1)
 
 -- ---- forms
@@ -74,11 +74,11 @@ pub behind_is : (front line rest : List ℕ) → behind front line ≡ Some rest
 unfolding behind
 behind_is front line rest e =
     let found = chosen_some (nat_le (length front) (length line) && bytes_eq (take (length front) line) front) (drop (length front) line)
-        rest e in
+    rest e in
     let parts = and_parts (nat_le (length front) (length line)) (bytes_eq (take (length front) line) front) found.0 in
     let begins : take (length front) line ≡ front = same_bytes (take (length front) line) front parts.1 in
     sym (take-append-drop (length front) line) ∙ ap (λ (xs : List ℕ). xs ++ drop (length front) line) begins
-        ∙ ap (λ (ys : List ℕ). front ++ ys) found.1
+    ∙ ap (λ (ys : List ℕ). front ++ ys) found.1
   where
     same_bytes : (xs ys : List ℕ) → bytes_eq xs ys ≡ true → xs ≡ ys
     same_bytes xs ys h = search rules
@@ -109,9 +109,9 @@ pub number_is : (digits : List ℕ) (n : ℕ) → number_of digits ≡ Some n �
 unfolding number_of
 number_is digits n e =
     let found = chosen_some (nat_lt 48 (slice_index digits 0) && all_ascii_digits digits && nat_lt (digits_value 10 digits) (2 ^ 64))
-        (digits_value 10 digits) n e in
+    (digits_value 10 digits) n e in
     let parts = and_parts (nat_lt 48 (slice_index digits 0) && all_ascii_digits digits) (nat_lt (digits_value 10 digits) (2 ^ 64)) found.0
-        in
+    in
     let front = and_parts (nat_lt 48 (slice_index digits 0)) (all_ascii_digits digits) parts.0 in
     let high : 48 < slice_index digits 0 = ltb-true _ _ front.0 in
     let below : digits_value 10 digits < 2 ^ 64 = ltb-true _ _ parts.1 in

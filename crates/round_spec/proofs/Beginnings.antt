@@ -124,8 +124,15 @@ all-map P f (n ∷ ns) each = (each n, all-map P f ns each)
 
 keys-body : (c : Configuration) → IsBody (shape_in c) 0 (Keys (own_keys c))
 unfolding body_form own_keys
-keys-body c = (_, refl, (all-map IsPublicKey (λ place. key_of_seed (own_key_seed c place)) (range_with_len 0 5)
-    (λ place. key_is_public_key (own_key_seed c place)), refl))
+keys-body c = (
+  _,
+  refl,
+  (
+    all-map IsPublicKey (λ place. key_of_seed (own_key_seed c place)) (range_with_len 0 5)
+        (λ place. key_is_public_key (own_key_seed c place)),
+    refl,
+  ),
+)
 
 keys-grammar : (c : Configuration) → IsConfiguration c → OfGrammar (shape_in c) (keys_content c)
 unfolding keys_content
@@ -185,7 +192,7 @@ pub checks-from : (roster : Roster) (round : ℕ) (post : Post) (header : Header
 unfolding check_of
 checks-from roster round post header content admitted reads =
     ap (λ (r : Result Header PostRefusal). r >>= λ header. fault_as (λ (offence : Offence). BodyRefusal offence.at offence.rule)
-        (content_read (shape_of_roster roster) post.content)) admitted
+    (content_read (shape_of_roster roster) post.content)) admitted
     ∙ ap (fault_as (λ (offence : Offence). BodyRefusal offence.at offence.rule)) reads
 
 keys-sendable : (c : Configuration) → IsConfiguration c → IsSendable c.roster c.round (own_content c [] 0) (own_header c [] 0)
@@ -212,7 +219,7 @@ unfolding own_post number_said_before
 keys-admitted c is =
     let left = is.enter.leaves in
     own_posts_are_admitted c.roster c.round (own_content c [] 0) (own_header c [] 0) c.key (c.first + number_said_before c 0)
-        (keys-sendable c is) is.key (first_left left)
+    (keys-sendable c is) is.key (first_left left)
   where
     first_left : c.first + 12 ≤ leaves c.key → c.first + 0 < leaves c.key
     first_left le = omega (arith, le)
@@ -223,7 +230,7 @@ keys-check c is = record {
   content = keys_content c;
   checks = checks-from c.roster c.round (keys_post c) (own_header c [] 0) (keys_content c)
       ((admits_exactly c.roster c.round (keys_post c) (own_header c [] 0)
-          (signature-bytes c.key (c.first + number_said_before c 0) (own_content c [] 0))).1 (keys-admitted c is))
+      (signature-bytes c.key (c.first + number_said_before c 0) (own_content c [] 0))).1 (keys-admitted c is))
       (ap (content_read (shape_in c)) (keys-content c) ∙ content-is_read (shape_in c) (keys_content c) (keys-grammar c is));
   content_bytes = keys-bytes c is;
   signature_bytes = signature-bytes c.key (c.first + number_said_before c 0) (own_content c [] 0);
@@ -271,11 +278,11 @@ keys-kept c slot post is kept = by_slot (cases_Bool (is_slot (shape_in c) slot.s
             some_same post (keys_post c) (sym kept ∙ kept_in-at (keys_run c).log slot own_number (Some (keys_post c)) is_log speaks
                 (sym same)
                 (sym (get_or-set_same (replicate (slot_count (shape_in c)) nothing) own_number (Some (keys_post c)) (Some (keys_post c))
-                    (let long = length-replicate (slot_count (shape_in c)) nothing in omega (arith, own_most, long))))),
+                (let long = length-replicate (slot_count (shape_in c)) nothing in omega (arith, own_most, long))))),
           )
           | inr other ↦ absurd (none-some post (sym (kept_in-at (keys_run c).log slot number None is_log speaks refl
               (sym (get_or-set_other (replicate (slot_count (shape_in c)) nothing) own_number number (Some (keys_post c)) None other
-                  ∙ get_or-replicate (slot_count (shape_in c)) number nothing None most))) ∙ kept))
+              ∙ get_or-replicate (slot_count (shape_in c)) number nothing None most))) ∙ kept))
         ]
 
 pub keys-there : (c : Configuration) → IsConfiguration c → kept_in (keys_run c).log (own_slot (keys_run c) 0) ≡ Some (keys_post c)
@@ -287,10 +294,10 @@ keys-there c is =
     let long = length-replicate (slot_count (shape_in c)) nothing in
     kept_in-at (keys_run c).log own number (Some (keys_post c))
     (filled-is_log (empty_log (shape_in c)) own (keys_post c) (empty-is_log c is)
-        (record { least = (keys-sized c is).0; most = (keys-sized c is).1 }))
+    (record { least = (keys-sized c is).0; most = (keys-sized c is).1 }))
     (own-speaks c is) refl
     (sym (get_or-set_same (replicate (slot_count (shape_in c)) nothing) number (Some (keys_post c)) (Some (keys_post c))
-        (omega (arith, most, long))))
+    (omega (arith, most, long))))
 
 keys-honest : (c : Configuration) → IsConfiguration c → HonestRun (keys_run c)
 keys-honest c is = record {
@@ -301,12 +308,12 @@ keys-honest c is = record {
   posts = λ slot post kept. (
       let at = keys-kept c slot post is kept in
       subst (λ (s : Slot). ChecksIn c s post) (sym at.0) (subst (λ (p : Post). ChecksIn c (record { stage = 0; sender = c.number }) p)
-          (sym at.1) (keys-check c is)));
+      (sym at.1) (keys-check c is)));
   own = λ stage post kept. (
       let at = keys-kept c (own_slot (keys_run c) stage) post is kept in
       let first : stage ≡ 0 = ap (λ (s : Slot). s.stage) at.0 in
       subst (λ (s : ℕ). IsOwnPost (keys_run c) s post) (sym first)
-          (record { past = []; before = refl; goes = λ earlier lt. absurd (omega (arith, lt)); said = at.1 }));
+      (record { past = []; before = refl; goes = λ earlier lt. absurd (omega (arith, lt)); said = at.1 }));
 }
 
 pub beginnings_are_honest : BeginningsAreHonest

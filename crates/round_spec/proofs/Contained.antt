@@ -53,9 +53,9 @@ contains-filter p [] x c = absurd (contains-nothing x c)
 contains-filter {A} p (y ∷ xs) x c = elim (cases_Bool (p y)) [
   | inl passes ↦ elim (contains-cases y (filter p xs) x (subst (λ (ys : List A). Contains ys x)
       (cond-true (p y) (y ∷ filter p xs) (filter p xs) passes) c)) [
-    | inl here ↦ ((0, omega arith, here), sym (ap p here) ∙ passes)
-    | inr later ↦ (let found = contains-filter p xs x later in (contains-later y xs x found.0, found.1))
-  ]
+        | inl here ↦ ((0, omega arith, here), sym (ap p here) ∙ passes)
+        | inr later ↦ (let found = contains-filter p xs x later in (contains-later y xs x found.0, found.1))
+      ]
   | inr fails ↦ (let found = contains-filter p xs x (subst (λ (ys : List A). Contains ys x)
       (cond-false (p y) (y ∷ filter p xs) (filter p xs) fails) c) in (contains-later y xs x found.0, found.1))
 ]

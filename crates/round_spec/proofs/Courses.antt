@@ -38,7 +38,7 @@ all_some-grows {A} {B} f g (x ∷ xs) ys grows e = elim (cases_Some (f x)) [
   | inl none ↦ absurd (none-some ys (sym (ap (λ (o : Option B). all_some (o ∷ map f xs)) none) ∙ e))
   | inr found ↦
       let rest = option_map-some (λ (zs : List B). found.0 ∷ zs) (all_some (map f xs)) ys
-          (sym (ap (λ (o : Option B). all_some (o ∷ map f xs)) found.1) ∙ e) in
+      (sym (ap (λ (o : Option B). all_some (o ∷ map f xs)) found.1) ∙ e) in
       ap (λ (o : Option B). all_some (o ∷ map g xs)) (grows x found.0 found.1)
       ∙ ap (option_map (λ (zs : List B). found.0 ∷ zs)) (all_some-grows f g xs rest.0 grows rest.1)
       ∙ ap (λ (zs : List B). Some zs) rest.2
@@ -65,7 +65,7 @@ unfolding stage_filled
 filled-grows c others more stand posts contained e =
     then-some (posts_of_kind c others stand) (posts_of_kind c more stand) (kind_of_stage (shape_in c) stand.at) posts
     (λ kind. all_some-grows (post_of c others stand) (post_of c more stand) (senders_in (shape_in c) kind) posts
-        (λ sender post. post-grows c others more stand sender post contained)) e
+    (λ sender post. post-grows c others more stand sender post contained)) e
 
 pub next-grows : (c : Configuration) (others more : Others) (stand next : Stand) → IsContained others more
     → next_stand c others stand ≡ Some next → next_stand c more stand ≡ Some next
@@ -73,7 +73,7 @@ unfolding next_stand
 next-grows c others more stand next contained e = elim (cases_Bool (is_open stand.verdict)) [
   | inl still ↦ cond-true (is_open stand.verdict) (option_map (stand_behind c stand) (stage_filled c more stand)) None still
       ∙ map-some (stand_behind c stand) (stage_filled c others stand) (stage_filled c more stand) next
-          (λ posts. filled-grows c others more stand posts contained)
+      (λ posts. filled-grows c others more stand posts contained)
       (sym (cond-true (is_open stand.verdict) (option_map (stand_behind c stand) (stage_filled c others stand)) None still) ∙ e)
   | inr ended ↦ absurd (none-some next (sym (cond-false (is_open stand.verdict)
       (option_map (stand_behind c stand) (stage_filled c others stand)) None ended) ∙ e))
@@ -147,7 +147,7 @@ course-grows c others more (suc stages) stand contained = elim (cases_Some (next
   | inr next ↦ subst (λ (later : Stand). ComesThrough c more (suc stages) stand later)
       (sym (course-next c others stages stand next.0 next.1))
       (passes-through c more stages stand next.0 _ (next-grows c others more stand next.0 contained next.1)
-          (course-grows c others more stages next.0 contained))
+      (course-grows c others more stages next.0 contained))
 ]
 
 pub course-end-unique : (c : Configuration) (others more : Others) (stages longer : ℕ) (stand : Stand) → IsContained others more
@@ -158,4 +158,4 @@ course-end-unique c others more stages longer stand contained ended within =
     let split : longer ≡ through.count + (longer - through.count) = omega (arith, through.most) in
     ap (λ (k : ℕ). course_from c more k stand) split ∙ through.goes_on (longer - through.count)
     ∙ course-stays c more (longer - through.count) (course_from c others stages stand)
-        (next-ended c more (course_from c others stages stand) ended)
+    (next-ended c more (course_from c others stages stand) ended)

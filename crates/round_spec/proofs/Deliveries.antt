@@ -65,7 +65,7 @@ ending-front : (c : Configuration) (delivered : List (List ℕ)) (bytes : List �
     → ending_at c (with_last delivered bytes) count ≡ ending_at c delivered count
 ending-front c delivered bytes count le =
     ap (λ (ds : List (List ℕ)). option_map (λ (verdict : Verdict). (count, verdict)) (ending_of c ds))
-        (take-append-le count delivered (bytes ∷ []) le)
+    (take-append-le count delivered (bytes ∷ []) le)
 
 pub ending-all : (c : Configuration) (delivered : List (List ℕ)) (count : ℕ) → length delivered ≤ count
     → ending_at c delivered count ≡ option_map (λ verdict. (count, verdict)) (ending_of c delivered)
@@ -104,7 +104,7 @@ least-ending-grows c delivered bytes = record { stays = stays; comes = comes }
 
         by_last : (o : Option (ℕ × Verdict)) → option_map (λ verdict. (length delivered + 1, verdict)) (ending_of c more) ≡ o
             → first_below (suc (length more)) (ending_at c more) ≡ option_map (λ verdict. (length delivered + 1, verdict))
-                (ending_of c more)
+            (ending_of c more)
         by_last (Some ending) is = first_below-some (ending_at c more) (suc (length more)) (length delivered + 1) ending
             (omega (arith, long)) front (last ∙ is) ∙ sym is
         by_last None is = first_below-none (ending_at c more) (suc (length more)) (λ j lt. each j lt (cases_lt j (length delivered + 1)))
@@ -122,7 +122,7 @@ names-is slot header e =
     let stage : header.stage ≡ slot.stage = eqb-true header.stage slot.stage parts.0 in
     let sender : header.sender ≡ slot.sender = eqb-true header.sender slot.sender parts.1 in
     sym (ap (λ (s : ℕ). record { stage = s; sender = header.sender }) stage
-        ∙ ap (λ (s : ℕ). record { stage = slot.stage; sender = s }) sender)
+    ∙ ap (λ (s : ℕ). record { stage = slot.stage; sender = s }) sender)
 
 -- a string of which nothing is heard gives no slot a post
 given-none : (c : Configuration) (slot : Slot) (bytes : List ℕ) → heard_of c bytes ≡ None → post_given c slot bytes ≡ None
@@ -172,16 +172,16 @@ same-sound c firsts bytes heard kept reads first same =
     let sound : malformed_conviction c bytes heard ≡ None = cond-true (is_ok heard.content) None _ reads in
     let equal : bytes_eq kept.content heard.post.content ≡ true = (bytes_eq-Decides kept.content heard.post.content).1 same in
     let agrees : contradiction c firsts bytes heard ≡ None = ap (option_and_then (contradiction_with c bytes heard)) first
-        ∙ cond-true (bytes_eq kept.content heard.post.content) None _ equal in
+    ∙ cond-true (bytes_eq kept.content heard.post.content) None _ equal in
     first_some-none (malformed_conviction c bytes heard) (contradiction c firsts bytes heard ∷ []) sound
-        ∙ first_some-none (contradiction c firsts bytes heard) [] agrees
+    ∙ first_some-none (contradiction c firsts bytes heard) [] agrees
 
 idle-sound : (c : Configuration) (delivered : List (List ℕ)) (bytes : List ℕ) (firsts : Others)
     → ((slot : Slot) → firsts slot ≡ first_posts c delivered slot) → IsIdle c delivered bytes → fault_shown c firsts bytes ≡ None
 idle-sound c delivered bytes firsts are (inl nothing) = ap (option_and_then _) nothing
 idle-sound c delivered bytes firsts are (inr found) =
     ap (option_and_then (λ (heard : Heard). first_some (malformed_conviction c bytes heard ∷ contradiction c firsts bytes heard ∷ [])))
-        found.1
+    found.1
     ∙ same-sound c firsts bytes found.0 found.2.kept found.2.reads (are (slot_named found.0.header) ∙ found.2.first) found.2.same
 
 pub ending-parts : (c : Configuration) (delivered : List (List ℕ)) → ending_of c delivered ≡ None
@@ -189,7 +189,7 @@ pub ending-parts : (c : Configuration) (delivered : List (List ℕ)) → ending_
 unfolding ending_of
 ending-parts c delivered e =
     (first_some-none_parts _ [] (first_some-none_parts (option_and_then (fault_shown c (first_posts c delivered)) (last_of delivered))
-        (ending_verdict (stand_after c delivered).verdict ∷ []) e).1).0
+    (ending_verdict (stand_after c delivered).verdict ∷ []) e).1).0
 
 pub ending-none : (c : Configuration) (delivered : List (List ℕ))
     → option_and_then (fault_shown c (first_posts c delivered)) (last_of delivered) ≡ None
@@ -197,7 +197,7 @@ pub ending-none : (c : Configuration) (delivered : List (List ℕ))
 unfolding ending_of
 ending-none c delivered e =
     first_some-none (option_and_then (fault_shown c (first_posts c delivered)) (last_of delivered))
-        (ending_verdict (stand_after c delivered).verdict ∷ []) e
+    (ending_verdict (stand_after c delivered).verdict ∷ []) e
     ∙ first_some-one (ending_verdict (stand_after c delivered).verdict)
 
 pub idle_changes_nothing : IdleChangesNothing
@@ -205,12 +205,12 @@ idle_changes_nothing c delivered bytes idle =
     let more : List (List ℕ) = with_last delivered bytes in
     let posts = idle-posts c delivered bytes idle in
     let stand : stand_after c more ≡ stand_after c delivered = ap (course_of c)
-        (same-function (first_posts c more) (first_posts c delivered) posts) in
+    (same-function (first_posts c more) (first_posts c delivered) posts) in
     record {
       posts = posts;
       stand = stand;
       ending = λ none.
           ending-none c more (ap (option_and_then (fault_shown c (first_posts c more))) (last-of delivered bytes)
-              ∙ idle-sound c delivered bytes (first_posts c more) posts idle)
+          ∙ idle-sound c delivered bytes (first_posts c more) posts idle)
           ∙ ap (λ (s : Stand). ending_verdict s.verdict) stand ∙ ending-parts c delivered none;
     }

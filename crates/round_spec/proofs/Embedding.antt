@@ -49,7 +49,7 @@ checked-parts : (roster : Roster) (round : ℕ) (bytes : List ℕ) (x : Post × 
 unfolding checked_post
 checked-parts roster round bytes x e =
     let framed = bind_ok (fault_as (λ at. Frame at) (frame_of bytes)) (λ post. check_of roster round post >>= λ content. Ok (post, content))
-        x e in
+    x e in
     let checked = bind_ok (check_of roster round framed.0) (λ content. Ok (framed.0, content)) x framed.2 in
     let same : (framed.0, checked.0) ≡ x = pair-of (framed.0, checked.0) x checked.2 in
     subst (λ (x : Post × Content). (frame_of bytes ≡ Ok x.0) × (check_of roster round x.0 ≡ Ok x.1)) same
@@ -60,10 +60,10 @@ pub post-for-slot : (roster : Roster) (round : ℕ) (slot : Slot) (bytes : List 
 unfolding post_for_slot
 post-for-slot roster round slot bytes post e =
     let checked = bind_ok (fault_as Refused (checked_post roster round bytes))
-        (λ checked. unless (not (names_slot slot checked.1.header)) (Misplaced (slot_named checked.1.header)) checked.0) post e in
+    (λ checked. unless (not (names_slot slot checked.1.header)) (Misplaced (slot_named checked.1.header)) checked.0) post e in
     let parts = checked-parts roster round bytes checked.0 (fault_as_ok Refused (checked_post roster round bytes) checked.0 checked.1) in
     let stands = guard_ok (not (names_slot slot checked.0.1.header)) (Misplaced (slot_named checked.0.1.header)) checked.0.0 post checked.2
-        in
+    in
     subst (IsPostFor roster round slot bytes) stands.1
     (record { content = checked.0.1; spelled = parts.0; checks = parts.1; names = not-false _ stands.0 })
 
@@ -78,11 +78,11 @@ same-content : (v : ClosedStage) (pair : Slot × List ℕ) (post : Post) → fra
 unfolding content_kept
 same-content v pair post spelled none = elim (cases_Bool (bytes_eq (content_of_post (frame_of pair.1))
     (post_in v pair.0.stage pair.0.sender).content)) [
-  | inl same ↦ sym (ap content_of_post spelled) ∙ (bytes_eq-Decides (content_of_post (frame_of pair.1))
-      (post_in v pair.0.stage pair.0.sender).content).0 same
-  | inr other ↦ absurd (let found = sym (cond-false (bytes_eq (content_of_post (frame_of pair.1))
-      (post_in v pair.0.stage pair.0.sender).content) None _ other) ∙ none in cc)
-]
+      | inl same ↦ sym (ap content_of_post spelled) ∙ (bytes_eq-Decides (content_of_post (frame_of pair.1))
+          (post_in v pair.0.stage pair.0.sender).content).0 same
+      | inr other ↦ absurd (let found = sym (cond-false (bytes_eq (content_of_post (frame_of pair.1))
+          (post_in v pair.0.stage pair.0.sender).content) None _ other) ∙ none in cc)
+    ]
 
 -- posts for slots that repeat what was kept have the contents that were kept
 pub embedded-contents : (v : ClosedStage) (place : ℕ) (pairs : List (Slot × List ℕ)) (posts : List Post)
@@ -96,11 +96,11 @@ embedded-contents v place [] posts e none = ap contents_of (sym (told_same [] po
 embedded-contents v place (pair ∷ pairs) posts e none =
     let bad : WhyNot → BadPost = λ why. record { place = place; why = why } in
     let first = bind_ok (fault_as bad (post_for_slot v.roster v.round pair.0 pair.1))
-        (λ post. posts_for v.roster v.round (place + 1) pairs >>= λ posts. Ok (post ∷ posts)) posts e in
+    (λ post. posts_for v.roster v.round (place + 1) pairs >>= λ posts. Ok (post ∷ posts)) posts e in
     let others = bind_ok (posts_for v.roster v.round (place + 1) pairs) (λ posts. Ok (first.0 ∷ posts)) posts first.2 in
     let parts = first_some-none_parts (second_content v pair) (map (second_content v) pairs) none in
     let is = post-for-slot v.roster v.round pair.0 pair.1 first.0
-        (fault_as_ok bad (post_for_slot v.roster v.round pair.0 pair.1) first.0 first.1) in
+    (fault_as_ok bad (post_for_slot v.roster v.round pair.0 pair.1) first.0 first.1) in
     ap contents_of (sym (told_same (first.0 ∷ others.0) posts others.2))
     ∙ ap (λ (content : List ℕ). content ∷ contents_of others.0) (same-content v pair first.0 is.spelled parts.0)
     ∙ ap (λ (contents : List (List ℕ)). content_kept v pair.0 ∷ contents) (embedded-contents v (place + 1) pairs others.0 others.1 parts.1)
@@ -127,25 +127,25 @@ kept-at v i lt = by_slot (slice_get (slots_of (shape_at v)) i) refl
     by_slot (Some slot) e =
         let number = (slot_at-is (shape_at v) i slot e).1 in
         get_or_from_slice_get (map (content_kept v) (slots_of (shape_at v))) i (content_kept v slot) []
-            (slice_get-map (content_kept v) (slots_of (shape_at v)) i ∙ ap (option_map (content_kept v)) e)
+        (slice_get-map (content_kept v) (slots_of (shape_at v)) i ∙ ap (option_map (content_kept v)) e)
         ∙ ap (λ (k : ℕ). (slice_index_or v.posts k no_post).content) number
         ∙ sym (get_or-map (λ (post : Post). post.content) v.posts i no_post)
 
 -- so is what is kept in the slots before a stage
 kept-before : (v : ClosedStage) (stage : ℕ) → slots_before (shape_at v) stage ≤ length v.posts
     → take (slots_before (shape_at v) stage) (map (content_kept v) (slots_of (shape_at v))) ≡ take (slots_before (shape_at v) stage)
-        (past_at v)
+    (past_at v)
 kept-before v stage whole =
     let n : ℕ = slots_before (shape_at v) stage in
     let most = slots_before-most (shape_at v) stage in
     let long : n ≤ length (past_at v) = omega (arith, length-map v.posts (λ (post : Post). post.content)) in
     let slots : n ≤ length (map (content_kept v) (slots_of (shape_at v))) = omega
-        (arith, length-map (slots_of (shape_at v)) (content_kept v), length-slots_of (shape_at v)) in
+    (arith, length-map (slots_of (shape_at v)) (content_kept v), length-slots_of (shape_at v)) in
     let here : length (take n (map (content_kept v) (slots_of (shape_at v)))) ≡ n = length-take-le n _ slots in
     ext_get_or [] _ _ (here ∙ sym (length-take-le n (past_at v) long)) (λ i lt.
     let few : i < n = omega (arith, here) in
     get_or-take n (map (content_kept v) (slots_of (shape_at v))) i [] few ∙ kept-at v i (omega arith)
-        ∙ sym (get_or-take n (past_at v) i [] few))
+    ∙ sym (get_or-take n (past_at v) i [] few))
 
 slice-map : {A B : Type 0} (f : A → B) (xs : List A) (a b : ℕ) → slice_range (map f xs) a b ≡ map f (slice_range xs a b)
 slice-map f xs a b = ap (take (b - a)) (drop-map f a xs) ∙ take-map f (b - a) (drop a xs)
@@ -167,7 +167,7 @@ kept-embedded v content least whole =
     elim (cases_Bool (is_assent content.body)) [
       | inl assents ↦
           ap (map (content_kept v)) (cond-true (is_assent content.body) (slice_range (slots_of (shape_at v)) a b)
-              (take n (slots_of (shape_at v))) assents)
+          (take n (slots_of (shape_at v))) assents)
           ∙ sym (slice-map (content_kept v) (slots_of (shape_at v)) a b)
           ∙ sym (slice_range-take kept a b n rises (omega (arith, same)))
           ∙ ap (λ (xs : List (List ℕ)). slice_range xs a b) before
@@ -175,7 +175,7 @@ kept-embedded v content least whole =
           ∙ sym (cond-true (is_assent content.body) (slice_range (past_at v) a b) (take n (past_at v)) assents)
       | inr objects ↦
           ap (map (content_kept v)) (cond-false (is_assent content.body) (slice_range (slots_of (shape_at v)) a b)
-              (take n (slots_of (shape_at v))) objects)
+          (take n (slots_of (shape_at v))) objects)
           ∙ sym (take-map (content_kept v) n (slots_of (shape_at v)))
           ∙ before
           ∙ sym (cond-false (is_assent content.body) (slice_range (past_at v) a b) (take n (past_at v)) objects)
@@ -184,8 +184,8 @@ kept-embedded v content least whole =
 -- as many slots as posts: what is kept in the slots of all pairs
 pub kept-pairs : (v : ClosedStage) (content : Content) → length (posts_embedded content.body) ≡ length (slots_embedded (shape_at v) content)
     → map (λ (pair : Slot × List ℕ). content_kept v pair.0) (embedded_pairs v.roster content) ≡ map (content_kept v)
-        (slots_embedded (shape_at v) content)
+    (slots_embedded (shape_at v) content)
 kept-pairs v content count =
     sym (map-map (content_kept v) (λ (pair : Slot × List ℕ). pair.0)
-        (zip (slots_embedded (shape_at v) content) (posts_embedded content.body)))
+    (zip (slots_embedded (shape_at v) content) (posts_embedded content.body)))
     ∙ ap (map (content_kept v)) (firsts-zip (slots_embedded (shape_at v) content) (posts_embedded content.body) count)

@@ -95,9 +95,12 @@ in-parts : (slot : Slot) (heard : Heard) (post : Post) → heard_in slot heard �
     × (is_ok heard.content ≡ true) × (heard.post ≡ post)
 in-parts slot heard post e = elim (cases_Bool (names_slot slot heard.header && is_ok heard.content)) [
   | inl both ↦
-      let parts = and_parts (names_slot slot heard.header) (is_ok heard.content) both in
-      (parts.0, parts.1, post-same heard.post post (sym (cond-true (names_slot slot heard.header && is_ok heard.content) (Some heard.post)
-          None both) ∙ e))
+      let parts = and_parts (names_slot slot heard.header) (is_ok heard.content) both in (
+        parts.0,
+        parts.1,
+        post-same heard.post post (sym (cond-true (names_slot slot heard.header && is_ok heard.content) (Some heard.post)
+            None both) ∙ e),
+      )
   | inr not_both ↦ absurd (none-some post (sym (cond-false (names_slot slot heard.header && is_ok heard.content) (Some heard.post) None
       not_both) ∙ e))
 ]
@@ -119,7 +122,7 @@ spelled-bytes bytes post is e =
     let found = framed-found bytes post is e in
     let whole : IsBytes ((to_be_bytes w32 (length post.content) ++ post.content) ++ post.signature) = subst IsBytes found.1 is in
     IsBytes-back (to_be_bytes w32 (length post.content)) post.content
-        (IsBytes-front (to_be_bytes w32 (length post.content) ++ post.content) post.signature whole)
+    (IsBytes-front (to_be_bytes w32 (length post.content) ++ post.content) post.signature whole)
 
 delivered-by : (c : Configuration) (delivered : List (List ℕ)) (slot : Slot) (bytes : List ℕ) (heard : Heard) → IsBytes bytes
     → Contains delivered bytes → IsHeard c bytes heard
@@ -131,7 +134,7 @@ delivered-by c delivered slot bytes heard are listed is names reads =
     let signature = framed-bytes bytes post are is.spelled in
     let admitted = admit-found c.roster c.round post heard.header (framed-fits bytes post is.spelled) signature is.admitted in
     let headers = header-same read.0.header heard.header (header_of post.content)
-        (content-header (shape_in c) post.content read.0 content_is) admitted.reads in
+    (content-header (shape_in c) post.content read.0 content_is) admitted.reads in
     let slot_is = names-is slot heard.header names in
     record {
       bytes = bytes;
@@ -158,7 +161,7 @@ first_posts_delivered c delivered slot post all e =
     let parts = in-parts slot given.0 post given.2 in
     subst (IsDelivered c delivered slot) parts.2
     (delivered-by c delivered slot found.0 given.0 (All-contains IsBytes delivered found.0 all found.1) found.1
-        (heard-parts c found.0 given.0 given.1) parts.0 parts.1)
+    (heard-parts c found.0 given.0 given.1) parts.0 parts.1)
 
 content-same : (a b : Content) (r : Result Content Offence) → r ≡ Ok a → r ≡ Ok b → a ≡ b
 content-same a b r e e' = let both = sym e ∙ e' in cc

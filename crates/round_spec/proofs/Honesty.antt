@@ -53,7 +53,7 @@ checks-name c others check slot post content e reads =
     let is = check slot post e in
     let parts = checks-parts c.roster c.round post is.content is.checks in
     ap (λ (x : Content). slot_named x.header) (content-same content is.content (content_read (shape_in c) post.content) reads parts.2)
-        ∙ is.named
+    ∙ is.named
 
 -- a kept post is of a slot of the round
 kept-speaks : (c : Configuration) (others : Others) (slot : Slot) (post : Post) → kept_in (settled_log c others) slot ≡ Some post
@@ -72,7 +72,7 @@ kept-if-own : (c : Configuration) (others : Others) (P : Slot → Post → Type 
     → OthersCheck c others
     → (others slot ≡ Some post → P slot post)
     → (is_slot (shape_in c) slot.stage c.number ≡ true → IsOwnPost (settled_run c others) slot.stage post
-        → P (own_slot (settled_run c others) slot.stage) post)
+    → P (own_slot (settled_run c others) slot.stage) post)
     → kept_in (settled_log c others) slot ≡ Some post → P slot post
 unfolding post_settled
 kept-if-own c others P slot post is check other_is own_is e = elim (cases_Bool (slot.sender == c.number)) [
@@ -80,11 +80,11 @@ kept-if-own c others P slot post is check other_is own_is e = elim (cases_Bool (
       let number : slot.sender ≡ c.number = eqb-true slot.sender c.number own in
       let slot_is : slot ≡ own_slot (settled_run c others) slot.stage = ap (λ (s : ℕ). record { stage = slot.stage; sender = s }) number in
       let speaks_own : is_slot (shape_in c) slot.stage c.number ≡ true = sym (ap (λ (s : ℕ). is_slot (shape_in c) slot.stage s) number)
-          ∙ kept-speaks c others slot post e in
+      ∙ kept-speaks c others slot post e in
       let kept_own : kept_in (settled_log c others) (own_slot (settled_run c others) slot.stage) ≡ Some post = sym
-          (ap (kept_in (settled_log c others)) slot_is) ∙ e in
+      (ap (kept_in (settled_log c others)) slot_is) ∙ e in
       let own_post_is = (own_posts_settled c others slot.stage post is.round (members-least c is) (checks-name c others check) speaks_own).0
-          kept_own in
+      kept_own in
       subst (λ (s : Slot). P s post) (sym slot_is) (own_is speaks_own own_post_is)
   | inr other ↦ other_is (sym (cond-false (slot.sender == c.number) (own_post_at c (course_of c others) slot.stage) (others slot) other)
       ∙ sym (settled-kept c others slot (kept-speaks c others slot post e)) ∙ e)
@@ -108,8 +108,11 @@ slot-there : (c : Configuration) (others : Others) (k : ℕ) → k < length (set
 unfolding settled_log
 slot-there c others k lt e =
     let any : Slot = record { stage = 0; sender = 0 } in
-    let within : k < length (slots_of (shape_in c)) = omega (arith, length-map (slots_of (shape_in c))
-        (post_settled c others (course_of c others))) in
+    let within : k < length (slots_of (shape_in c)) = omega (
+      arith,
+      length-map (slots_of (shape_in c))
+          (post_settled c others (course_of c others)),
+    ) in
     none-some (get_or (slots_of (shape_in c)) k any) (sym e ∙ slice_get-get_or (slots_of (shape_in c)) k any within)
 
 place-is : (c : Configuration) (others : Others) (k : ℕ) (d : Option Post) (slot : Slot) → slice_get (slots_of (shape_in c)) k ≡ Some slot
@@ -117,9 +120,9 @@ place-is : (c : Configuration) (others : Others) (k : ℕ) (d : Option Post) (sl
 unfolding settled_log
 place-is c others k d slot e =
     get_or_from_slice_get (map (post_settled c others (course_of c others)) (slots_of (shape_in c))) k
-        (post_settled c others (course_of c others) slot) d
+    (post_settled c others (course_of c others) slot) d
     (slice_get-map (post_settled c others (course_of c others)) (slots_of (shape_in c)) k
-        ∙ ap (option_map (post_settled c others (course_of c others))) e)
+    ∙ ap (option_map (post_settled c others (course_of c others))) e)
 
 kept-if : (o : Option Post) → ((post : Post) → o ≡ Some post → IsKept post.content) → IfSome o (λ (post : Post). IsKept post.content)
 kept-if None each = tt
@@ -137,11 +140,11 @@ past-kept c others stage number past slot post e at stands =
     let all : take n log.posts ≡ map (λ x. Some x) past = all_some-is (take n log.posts) past e in
     let there : slice_get (take n log.posts) number ≡ Some (Some post) =
     ap (λ (xs : List (Option Post)). slice_get xs number) all ∙ slice_get-map (λ x. Some x) past number
-        ∙ ap (option_map (λ x. Some x)) stands in
+    ∙ ap (option_map (λ x. Some x)) stands in
     let found = take-get log.posts n number (Some post) there in
     let place = place-is c others number None slot at in
     settled-kept c others slot (slot_at-is (shape_in c) number slot at).0 ∙ sym place
-        ∙ get_or_from_slice_get log.posts number (Some post) None found.1
+    ∙ get_or_from_slice_get log.posts number (Some post) None found.1
 
 past-length : (c : Configuration) (others : Others) (stage : ℕ) (past : List Post) → before (settled_log c others) stage ≡ Some past
     → length past ≡ slots_before (shape_in c) stage
@@ -151,7 +154,7 @@ past-length c others stage past e =
     let all : take n log.posts ≡ map (λ x. Some x) past = all_some-is (take n log.posts) past e in
     let shape = ap (λ (s : Shape). slots_before s stage) (shape-same c others) in
     sym (length-map past (λ x. Some x)) ∙ ap length (sym all) ∙ length-take-le n log.posts
-        (omega (arith, places-of c others, slots_before-most log.shape stage)) ∙ shape
+    (omega (arith, places-of c others, slots_before-most log.shape stage)) ∙ shape
 
 -- a slot of the past is of an earlier stage
 earlier-slot : (shape : Shape) (stage number : ℕ) (slot : Slot) → slot_at shape number ≡ Some slot → number < slots_before shape stage
@@ -182,7 +185,7 @@ own-reads c others (suc bound) stage post is check lt speaks own =
             let earlier = earlier-slot (shape_in c) stage number slot at (omega (arith, within, length_is)) in
             kept-if-own c others (ReadsIn c) slot kept is check (λ other. checks-read c slot kept (check slot kept other))
             (λ speaks_there own_there. own-reads c others bound slot.stage kept is check (omega (arith, earlier, lt)) speaks_there
-                own_there)
+            own_there)
             (past-kept c others stage number own.past slot kept own.before at stands));
       };
     } in
@@ -219,13 +222,17 @@ kept-checks : (c : Configuration) (others : Others) (slot : Slot) (post : Post) 
     → kept_in (settled_log c others) slot ≡ Some post → ChecksIn c slot post
 kept-checks c others slot post is check e =
     kept-if-own c others (ChecksIn c) slot post is.enter check (check slot post)
-        (λ speaks own. own_posts_check c others is check slot.stage post speaks own) e
+    (λ speaks own. own_posts_check c others is check slot.stage post speaks own) e
 
 -- ---- honest runs
 
 pub settled_is_log : SettledIsLog
-settled_is_log c others is check = record { shape = shape-of c others is; places = places-of c others; contents = λ k d lt. each k d lt
-    (slice_get (slots_of (shape_in c)) k) refl }
+settled_is_log c others is check = record {
+  shape = shape-of c others is;
+  places = places-of c others;
+  contents = λ k d lt. each k d lt
+      (slice_get (slots_of (shape_in c)) k) refl;
+}
   where
     each : (k : ℕ) (d : Option Post) → k < length (settled_log c others).posts → (o : Option Slot) → slice_get (slots_of (shape_in c)) k ≡ o
         → IfSome (slice_index_or (settled_log c others).posts k d) (λ (post : Post). IsKept post.content)
@@ -235,7 +242,7 @@ settled_is_log c others is check = record { shape = shape-of c others is; places
         let there = place-is c others k d slot e in
         subst (λ (o : Option Post). IfSome o (λ (post : Post). IsKept post.content)) (sym (there ∙ sym (settled-kept c others slot at.0)))
         (kept-if (kept_in (settled_log c others) slot) (λ post kept. read-kept c slot post
-            (settled_posts_read c others is check slot post kept)))
+        (settled_posts_read c others is check slot post kept)))
 
 pub settled_run_is_honest : SettledRunIsHonest
 settled_run_is_honest c others is check = record {
@@ -264,6 +271,6 @@ run_after_is_honest c delivered is all =
 pub unforged_is_said : UnforgedIsSaid
 unforged_is_said roster runs number round posts unforged numbered bytes post header listed spelled admitted sender_is =
     let own_round : Admitted roster header.round post header = subst (λ (r : ℕ). Admitted roster r post header) (sym admitted.this_round)
-        admitted in
+    admitted in
     let has : HasNumber runs header.sender = (numbered.0, numbered.1, numbered.2 ∙ sym sender_is) in
     subst (λ (n : ℕ). Sent runs n post.content) sender_is (unforged bytes post header (inl listed) spelled own_round has)

@@ -46,7 +46,7 @@ found-is roster round slot bytes post are e =
     let parts = checks-parts roster round post is.content is.checks in
     let admitted = (admits_exactly roster round post parts.0 (framed-bytes bytes post are is.spelled)).0 parts.1 in
     let same = header-same parts.0 is.content.header (header_of post.content) admitted.reads
-        (content-header (shape_of_roster roster) post.content is.content parts.2) in
+    (content-header (shape_of_roster roster) post.content is.content parts.2) in
     record {
       spelled = framed.1;
       content = is.content;
@@ -67,9 +67,9 @@ is-found roster round slot bytes post are is =
     let framed : frame_of bytes ≡ Ok post = ap frame_of is.spelled ∙ framed-again post is.admitted.frame in
     let signature = framed-bytes bytes post are framed in
     let checks = checks-from roster round post is.content.header is.content
-        ((admits_exactly roster round post is.content.header signature).1 is.admitted) is.reads in
+    ((admits_exactly roster round post is.content.header signature).1 is.admitted) is.reads in
     let names : names_slot slot is.content.header ≡ true = subst (λ (s : Slot). names_slot s is.content.header ≡ true) is.named
-        (names-self is.content.header) in
+    (names-self is.content.header) in
     rw (framed, checks, names) refl
 
 -- ---- all of them
@@ -94,7 +94,7 @@ all-found roster round place [] posts e = subst (AllZip (Found roster round) [])
 all-found roster round place (pair ∷ pairs) posts e =
     let bad : WhyNot → BadPost = λ why. record { place = place; why = why } in
     let first = bind_ok (fault_as bad (post_for_slot roster round pair.0 pair.1))
-        (λ post. posts_for roster round (place + 1) pairs >>= λ posts. Ok (post ∷ posts)) posts e in
+    (λ post. posts_for roster round (place + 1) pairs >>= λ posts. Ok (post ∷ posts)) posts e in
     let others = bind_ok (posts_for roster round (place + 1) pairs) (λ posts. Ok (first.0 ∷ posts)) posts first.2 in
     subst (AllZip (Found roster round) (pair ∷ pairs)) (posts-same (first.0 ∷ others.0) posts others.2)
     (fault_as_ok bad (post_for_slot roster round pair.0 pair.1) first.0 first.1, all-found roster round (place + 1) pairs others.0 others.1)
@@ -122,9 +122,11 @@ are-posts : (roster : Roster) (round : ℕ) (pairs : List (Slot × List ℕ)) (p
 are-posts roster round [] [] bytes all = tt
 are-posts roster round [] (post ∷ posts) bytes all = absurd all
 are-posts roster round (pair ∷ pairs) [] bytes all = absurd all
-are-posts roster round (pair ∷ pairs) (post ∷ posts) bytes all =
-    (found-is roster round pair.0 pair.1 post (first-bytes pair pairs bytes) all.0, are-posts roster round pairs posts
-        (rest-bytes pair pairs bytes) all.1)
+are-posts roster round (pair ∷ pairs) (post ∷ posts) bytes all = (
+  found-is roster round pair.0 pair.1 post (first-bytes pair pairs bytes) all.0,
+  are-posts roster round pairs posts
+      (rest-bytes pair pairs bytes) all.1,
+)
 
 are-found : (roster : Roster) (round : ℕ) (pairs : List (Slot × List ℕ)) (posts : List Post)
     → All (λ (p : Slot × List ℕ). IsBytes p.1) pairs
@@ -132,9 +134,11 @@ are-found : (roster : Roster) (round : ℕ) (pairs : List (Slot × List ℕ)) (p
 are-found roster round [] [] bytes all = tt
 are-found roster round [] (post ∷ posts) bytes all = absurd all
 are-found roster round (pair ∷ pairs) [] bytes all = absurd all
-are-found roster round (pair ∷ pairs) (post ∷ posts) bytes all =
-    (is-found roster round pair.0 pair.1 post (first-bytes pair pairs bytes) all.0, are-found roster round pairs posts
-        (rest-bytes pair pairs bytes) all.1)
+are-found roster round (pair ∷ pairs) (post ∷ posts) bytes all = (
+  is-found roster round pair.0 pair.1 post (first-bytes pair pairs bytes) all.0,
+  are-found roster round pairs posts
+      (rest-bytes pair pairs bytes) all.1,
+)
 
 pub posts_are_found : PostsAreFound
 posts_are_found roster round place pairs posts bytes = (
@@ -161,9 +165,9 @@ pair-same a b e = cc
 earlier-found : (roster : Roster) (round k : ℕ) (pair : Slot × List ℕ) (pairs : List (Slot × List ℕ)) (post : Post)
     → Found roster round pair post
     → ((i : ℕ) (other : Slot × List ℕ) → i < k → slice_get pairs i ≡ Some other → (p : Post)
-        × (post_for_slot roster round other.0 other.1 ≡ Ok p))
+    × (post_for_slot roster round other.0 other.1 ≡ Ok p))
     → (i : ℕ) (other : Slot × List ℕ) → i < suc k → slice_get (pair ∷ pairs) i ≡ Some other → (p : Post)
-        × (post_for_slot roster round other.0 other.1 ≡ Ok p)
+    × (post_for_slot roster round other.0 other.1 ≡ Ok p)
 earlier-found roster round k pair pairs post is each zero other lt e =
     (post, subst (λ (p : Slot × List ℕ). post_for_slot roster round p.0 p.1 ≡ Ok post) (pair-same pair other e) is)
 earlier-found roster round k pair pairs post is each (suc i) other lt e = each i other (omega (arith, lt)) e
@@ -203,7 +207,7 @@ first-from roster round place (pair ∷ pairs) bad e = by_post (λ other at. fir
     by_post : ((other : BadPost) → posts_for roster round (place + 1) pairs ≡ Err other → FirstFrom roster round (place + 1) pairs other)
         → (r : Result Post WhyNot) → post_for_slot roster round pair.0 pair.1 ≡ r
         → (fault_as (λ why. record { place = place; why = why }) r >>= λ post. posts_for roster round (place + 1) pairs >>= λ posts. Ok
-            (post ∷ posts)) ≡ Err bad → FirstFrom roster round place (pair ∷ pairs) bad
+        (post ∷ posts)) ≡ Err bad → FirstFrom roster round place (pair ∷ pairs) bad
     by_post next (Err why) is all =
         let same : record { place = place; why = why } ≡ bad = bad-same (record { place = place; why = why }) bad all in
         record {
@@ -220,19 +224,19 @@ first-from roster round place (pair ∷ pairs) bad e = by_post (λ other at. fir
 told-from : (roster : Roster) (round place : ℕ) (k : ℕ) (pairs : List (Slot × List ℕ)) (pair : Slot × List ℕ) (why : WhyNot)
     → slice_get pairs k ≡ Some pair → post_for_slot roster round pair.0 pair.1 ≡ Err why
     → ((i : ℕ) (other : Slot × List ℕ) → i < k → slice_get pairs i ≡ Some other → (post : Post)
-        × (post_for_slot roster round other.0 other.1 ≡ Ok post))
+    × (post_for_slot roster round other.0 other.1 ≡ Ok post))
     → posts_for roster round place pairs ≡ Err (record { place = place + k; why = why })
 unfolding posts_for
 told-from roster round place k [] pair why at is earlier = absurd cc
 told-from roster round place zero (first ∷ pairs) pair why at is earlier =
     let here : post_for_slot roster round first.0 first.1 ≡ Err why = subst
-        (λ (p : Slot × List ℕ). post_for_slot roster round p.0 p.1 ≡ Err why) (sym (pair-same first pair at)) is in
+    (λ (p : Slot × List ℕ). post_for_slot roster round p.0 p.1 ≡ Err why) (sym (pair-same first pair at)) is in
     let place_is : place ≡ place + 0 = omega arith in
     rw here (ap (λ (n : ℕ). Err (record { place = n; why = why })) place_is)
 told-from roster round place (suc k) (first ∷ pairs) pair why at is earlier =
     let found = earlier 0 first (omega arith) refl in
     let rest = told-from roster round (place + 1) k pairs pair why at is
-        (λ i other lt there. earlier (suc i) other (omega (arith, lt)) there) in
+    (λ i other lt there. earlier (suc i) other (omega (arith, lt)) there) in
     let place_is : place + 1 + k ≡ place + suc k = omega arith in
     rw (found.1, rest) (ap (λ (n : ℕ). Err (record { place = n; why = why })) place_is)
 
@@ -282,8 +286,8 @@ says-so shape content embedded true assents e =
     votes-are shape embedded (sym (cond-true (is_assent content.body) (are_unanimous shape embedded) _ assents) ∙ e)
 says-so shape content embedded false objects e =
     let both = and_parts _ _ (sym (cond-false (is_assent content.body) (are_unanimous shape embedded)
-        (not (votes_agree shape embedded content.header.stage) && bytes_eq content.header.view
-        (view_of shape embedded content.header.stage)) objects) ∙ e) in (
+    (not (votes_agree shape embedded content.header.stage) && bytes_eq content.header.view
+    (view_of shape embedded content.header.stage)) objects) ∙ e) in (
       λ all. true-not (votes_agree shape embedded content.header.stage) both.0
           (are-votes shape (contents_at shape embedded (content.header.stage - 1)) all),
       (bytes_eq-Decides content.header.view (view_of shape embedded content.header.stage)).0 both.1,
@@ -297,10 +301,10 @@ so-said shape content embedded true assents says = cond-true (is_assent content.
     ∙ are-votes shape embedded says
 so-said shape content embedded false objects says =
     cond-false (is_assent content.body) (are_unanimous shape embedded)
-        (not (votes_agree shape embedded content.header.stage) && bytes_eq content.header.view
-        (view_of shape embedded content.header.stage)) objects
+    (not (votes_agree shape embedded content.header.stage) && bytes_eq content.header.view
+    (view_of shape embedded content.header.stage)) objects
     ∙ and_from _ _ (not-true (votes_agree shape embedded content.header.stage)
-        (λ e. says.0 (votes-are shape (contents_at shape embedded (content.header.stage - 1)) e)))
+    (λ e. says.0 (votes-are shape (contents_at shape embedded (content.header.stage - 1)) e)))
     ((bytes_eq-Decides content.header.view (view_of shape embedded content.header.stage)).1 says.1)
 
 pub zip-bytes : (slots : List Slot) (items : List (List ℕ)) → All IsBytes items → All (λ (p : Slot × List ℕ). IsBytes p.1) (zip slots items)
@@ -334,5 +338,5 @@ justified_exactly roster round content bytes = (by_posts (posts_in_content roste
         true
     back is =
         ap (is_justified_by (shape_of_roster roster) content) ((posts_are_found roster round 0 (embedded_pairs roster content) is.posts
-            pairs-bytes).1 is.embeds)
+        pairs-bytes).1 is.embeds)
         ∙ so-said (shape_of_roster roster) content (contents_of is.posts) (is_assent content.body) refl is.says

@@ -58,7 +58,7 @@ values-bytes key signed n = chains-bytes key _ n
 ots-bytes : (key : KeyParts) (message : List ℕ) → IsBytes (ots_signature key message)
 ots-bytes key message =
     IsBytes-append (u32str (type_number key.width) ++ own_randomizer key)
-        (own_values key (own_signed_string key message) (chain_count key.width))
+    (own_values key (own_signed_string key message) (chain_count key.width))
     (IsBytes-append (u32str (type_number key.width)) (own_randomizer key) (u32-bytes (type_number key.width)) (IsBytes-sha256 _))
     (values-bytes key (own_signed_string key message) (chain_count key.width))
 
@@ -79,5 +79,5 @@ signature-bytes s q message =
     let kind : List ℕ = u32str (tree_number s.lms_type) in
     IsBytes-append ((u32str q ++ ots) ++ kind) (own_path s q (height s.lms_type))
     (IsBytes-append (u32str q ++ ots) kind (IsBytes-append (u32str q) ots (u32-bytes q) (ots-bytes (leaf_key s q) message))
-        (u32-bytes (tree_number s.lms_type)))
+    (u32-bytes (tree_number s.lms_type)))
     (path-bytes s q (height s.lms_type))

@@ -45,14 +45,14 @@ twelve n member least most first last =
     let n_place : 2 + (n - 2) ≡ n = omega (arith, least) in
     let member_place : 1 + (member - 1) ≡ member = omega (arith, first) in
     let group = AllPass-from_list_all (λ (n : ℕ). list_all (λ (member : ℕ). spoken_of n member == 12) (range_with_len 1 n))
-        (range_with_len 2 7) all-twelve (n - 2) 0 (omega (arith, most, length-of 2 7)) in
+    (range_with_len 2 7) all-twelve (n - 2) 0 (omega (arith, most, length-of 2 7)) in
     let group_is : list_all (λ (member : ℕ). spoken_of n member == 12) (range_with_len 1 n) ≡ true =
     subst (λ (k : ℕ). list_all (λ (member : ℕ). spoken_of k member == 12) (range_with_len 1 k) ≡ true)
-        (get_or-range_with_len 2 7 (n - 2) 0 (omega (arith, most)) ∙ n_place) group in
+    (get_or-range_with_len 2 7 (n - 2) 0 (omega (arith, most)) ∙ n_place) group in
     let one = AllPass-from_list_all (λ (member : ℕ). spoken_of n member == 12) (range_with_len 1 n) group_is (member - 1) 0
-        (omega (arith, first, last, length-of 1 n)) in
+    (omega (arith, first, last, length-of 1 n)) in
     eqb-true (spoken_of n member) 12 (subst (λ (k : ℕ). (spoken_of n k == 12) ≡ true)
-        (get_or-range_with_len 1 n (member - 1) 0 (omega (arith, first, last)) ∙ member_place) one)
+    (get_or-range_with_len 1 n (member - 1) 0 (omega (arith, first, last)) ∙ member_place) one)
   where
     length-of : (a n : ℕ) → length (range_with_len a n) ≡ n
     length-of a zero = refl
@@ -78,7 +78,7 @@ spoken-before p stage rest speaks =
     let here : f stage ≡ 1 = ap (λ (b : Bool). cond b 1 0) speaks in
     let at : 0 + stage ≡ stage = omega arith in
     let split : sum_by f (range_with_len 0 (stage + suc rest)) ≡ sum_by f (range_with_len 0 stage) + sum_by f
-        (stage ∷ range_with_len (stage + 1) rest) =
+    (stage ∷ range_with_len (stage + 1) rest) =
     ap (sum_by f) (range-split 0 stage (suc rest)) ∙ sum_by-append f (range_with_len 0 stage) (range_with_len (0 + stage) (suc rest))
     ∙ ap (λ (b : ℕ). sum_by f (range_with_len 0 stage) + sum_by f (range_with_len b (suc rest))) at in
     omega (arith, split, sum_by-cons f stage (range_with_len (stage + 1) rest), here)
@@ -93,10 +93,10 @@ leaf-left c stage past can =
     let lt = (slot-bounds (shape_in c) stage c.number can.speaks).0 in
     let whole : stage + suc rest ≡ 2 * n + 10 = omega (arith, lt) in
     let shape_is : shape_in c ≡ record { version = 1; members = n } = ap (λ (v : ℕ). record { version = v; members = n })
-        can.enter.roster.version in
+    can.enter.roster.version in
     let fewer = spoken-before (λ (earlier : ℕ). is_slot (shape_in c) earlier c.number) stage rest can.speaks in
     let all : count_by (λ (earlier : ℕ). is_slot (shape_in c) earlier c.number) (range_with_len 0 (stage + suc rest)) ≡ spoken_of n c.number
-        =
+    =
     ap (λ (k : ℕ). count_by (λ (earlier : ℕ). is_slot (shape_in c) earlier c.number) (range_with_len 0 k)) whole
     ∙ ap (λ (s : Shape). count_by (λ (earlier : ℕ). is_slot s earlier c.number) (range_with_len 0 (2 * n + 10))) shape_is in
     let left = can.enter.leaves in
@@ -133,8 +133,12 @@ sendable c stage past can goes =
     }
   where
     long-enough : 76 ≤ length (own_content c past stage)
-    long-enough = omega (arith, ap length (own-text c past stage), content-long (shape_in c) (content_due c past stage)
-        (own_row_of_grammar c stage past can))
+    long-enough = omega (
+      arith,
+      ap length (own-text c past stage),
+      content-long (shape_in c) (content_due c past stage)
+          (own_row_of_grammar c stage past can),
+    )
 
 own-signature : Configuration → List Post → ℕ → List ℕ
 own-signature c past stage = lms_signature c.key (c.first + number_said_before c stage) (own_content c past stage)
@@ -157,7 +161,7 @@ due-read : (c : Configuration) (stage : ℕ) (past : List Post) → CanSay c sta
     → content_read (shape_in c) (own_content c past stage) ≡ Ok (content_due c past stage)
 due-read c stage past can =
     ap (content_read (shape_in c)) (own-text c past stage) ∙ content-is_read (shape_in c) (content_due c past stage)
-        (own_row_of_grammar c stage past can)
+    (own_row_of_grammar c stage past can)
 
 signed-bytes : (c : Configuration) (stage : ℕ) (past : List Post) → IsBytes (own-signature c past stage)
 unfolding own-signature
@@ -186,7 +190,7 @@ own_post_checks c stage past is can goes =
     let post : Post = record { content = own_content c past stage; signature = own-signature c past stage } in
     let signature : IsBytes (own-signature c past stage) = signature-bytes c.key q (own_content c past stage) in
     let admitted = own_posts_are_admitted c.roster c.round (own_content c past stage) (own_header c past stage) c.key q
-        (sendable c stage past can goes) is.key (leaf-left c stage past can) in
+    (sendable c stage past can goes) is.key (leaf-left c stage past can) in
     subst (ChecksIn c (record { stage = stage; sender = c.number })) (sym (own-post-is c past stage)) (record {
       content = content_due c past stage;
       checks = checks-from c.roster c.round post (own_header c past stage) (content_due c past stage)

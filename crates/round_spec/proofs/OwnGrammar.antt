@@ -57,8 +57,11 @@ pub record IsRow (c : Configuration) (stage : ℕ) (kind : StageKind) (body : Bo
 keys-are : (c : Configuration) (stage : ℕ) → IsRow c stage Keys (keys_row c)
 unfolding keys_row
 keys-are c stage = record {
-  form = (all-map IsPublicKey (λ place. key_of_seed (own_key_seed c place)) (range_with_len 0 5)
-      (λ place. key_is_public_key (own_key_seed c place)), refl);
+  form = (
+    all-map IsPublicKey (λ place. key_of_seed (own_key_seed c place)) (range_with_len 0 5)
+        (λ place. key_is_public_key (own_key_seed c place)),
+    refl,
+  );
   bytes = flat-bytes (map (λ place. key_of_seed (own_key_seed c place)) (range_with_len 0 5))
       (all-map IsBytes (λ place. key_of_seed (own_key_seed c place)) (range_with_len 0 5) (λ place. key-bytes (own_key_seed c place)));
 }
@@ -93,7 +96,7 @@ order-entries count size seed entries few are =
     let moved = entries_are_permuted seed entries (omega (arith, few, are.count)) in
     let other : (P : List ℕ → Type 0) → AllByRecursion P entries → AllByRecursion P (in_drawn_order seed entries) =
     λ P all. all-items P (in_drawn_order seed entries) (All-permutation P entries (in_drawn_order seed entries) moved
-        (all-places P entries all)) in
+    (all-places P entries all)) in
     record {
       long = other (λ entry. length entry ≡ size) are.long;
       count = length_permutation entries (in_drawn_order seed entries) moved ∙ are.count;
@@ -125,7 +128,7 @@ turn-cases seed order entries = elim (cases_Bool (has_equal entries)) [
         → (if has_equal entries then Abort else list_or_abort (option_map (in_drawn_order order) (stripped seed entries))) ≡ list_or_abort o
         → ((if has_equal entries then Abort else list_or_abort (option_map (in_drawn_order order) (stripped seed entries))) ≡ Abort)
         ⊎ ((list : List (List ℕ)) × ((if has_equal entries then Abort else list_or_abort
-            (option_map (in_drawn_order order) (stripped seed entries))) ≡ Shuffled list))
+        (option_map (in_drawn_order order) (stripped seed entries))) ≡ Shuffled list))
     by_list None e = inl e
     by_list (Some list) e = inr (list, e)
 
@@ -139,7 +142,7 @@ level-next n shuffle k lt = by_item (if shuffle == 1 then 36 + 2272 * n else 34)
 turn-row : (c : Configuration) (stage shuffle k : ℕ) (seed order : List ℕ) (entries : List (List ℕ)) → (shape_in c).members ≤ 8
     → k < (shape_in c).members
     → AreEntries (shape_in c).members (level (shape_in c).members shuffle k) entries
-        → IsRow c stage (Shuffle shuffle (suc k)) (turn_of seed order entries)
+    → IsRow c stage (Shuffle shuffle (suc k)) (turn_of seed order entries)
 turn-row c stage shuffle k seed order entries few lt are = elim (turn-cases seed order entries) [
   | inl abort ↦ subst (IsRow c stage (Shuffle shuffle (suc k))) (sym abort) (record { form = tt; bytes = IsBytes-nil })
   | inr list ↦
@@ -148,21 +151,21 @@ turn-row c stage shuffle k seed order entries few lt are = elim (turn-cases seed
       let bodies = stripped-entries (shape_in c).members (level (shape_in c).members shuffle (suc k)) seed entries said.1.0
       (subst (λ (n : ℕ). AreEntries (shape_in c).members n entries) (level-next (shape_in c).members shuffle k lt) are) said.1.1 in
       let made = subst (AreEntries (shape_in c).members (level (shape_in c).members shuffle (suc k))) (sym said.1.2)
-          (order-entries (shape_in c).members (level (shape_in c).members shuffle (suc k)) order said.1.0 few bodies) in
+      (order-entries (shape_in c).members (level (shape_in c).members shuffle (suc k)) order said.1.0 few bodies) in
       subst (IsRow c stage (Shuffle shuffle (suc k))) (sym list.1)
-          (record { form = (made.long, made.count); bytes = flat-bytes list.0 made.bytes })
+      (record { form = (made.long, made.count); bytes = flat-bytes list.0 made.bytes })
 ]
 
 over-is : (c : Configuration) (stage shuffle k : ℕ) (o : Option (List (List ℕ))) → (shape_in c).members ≤ 8 → k < (shape_in c).members
     → ((entries : List (List ℕ)) → o ≡ Some entries → AreEntries (shape_in c).members (level (shape_in c).members shuffle k) entries)
-        → IsRow c stage (Shuffle shuffle (suc k)) (turn_over c shuffle o)
+    → IsRow c stage (Shuffle shuffle (suc k)) (turn_over c shuffle o)
 over-is c stage shuffle k None few lt each = record { form = tt; bytes = IsBytes-nil }
 over-is c stage shuffle k (Some entries) few lt each = turn-row c stage shuffle k (own_key_seed c (outer_place shuffle))
     (own_order_seed c shuffle) entries few lt (each entries refl)
 
 turn-is : (c : Configuration) (stage shuffle k : ℕ) (past : List Post) → CanSay c stage past
     → kind_of_stage (shape_in c) stage ≡ Some (Shuffle shuffle k)
-        → IsRow c stage (Shuffle shuffle k) (turn_row c (contents_of past) shuffle)
+    → IsRow c stage (Shuffle shuffle k) (turn_row c (contents_of past) shuffle)
 unfolding turn_row
 turn-is c stage shuffle k past can kind =
     let at = turn-at (shape_in c) stage shuffle k kind in
@@ -172,11 +175,11 @@ turn-is c stage shuffle k past can kind =
     let stage_is = at.at in
     let back : suc (c.number - 1) ≡ k = omega (arith, own) in
     subst (λ (j : ℕ). IsRow c stage (Shuffle shuffle j) (turn_over c shuffle
-        (list_said (shape_in c) (contents_of past) shuffle (c.number - 1)))) back
+    (list_said (shape_in c) (contents_of past) shuffle (c.number - 1)))) back
     (over-is c stage shuffle (c.number - 1) (list_said (shape_in c) (contents_of past) shuffle (c.number - 1))
-        (is-member c stage past can).most (omega (arith, own))
+    (is-member c stage past can).most (omega (arith, own))
     (λ entries e. list-is c stage past shuffle (c.number - 1) entries can.past_is at.is (omega (arith, own)) (omega (arith, own, stage_is))
-        e))
+    e))
 
 -- ---- pads
 
@@ -216,7 +219,7 @@ stage-posts : (P : List ℕ → Type 0) (shape : Shape) (posts : List Post) (sta
     → AllByRecursion P (written (posts_at shape posts stage))
 stage-posts P shape posts stage all =
     all-posts P (posts_at shape posts stage) (all-take (λ post. P (post_spelling post))
-        (slots_before shape (stage + 1) - slots_before shape stage) (drop (slots_before shape stage) posts)
+    (slots_before shape (stage + 1) - slots_before shape stage) (drop (slots_before shape stage) posts)
     (all-drop (λ post. P (post_spelling post)) (slots_before shape stage) posts all))
 
 -- as many votes as members stand before a closing stage
@@ -238,7 +241,7 @@ votes-count shape posts stage kind vote at closes all whole =
 final-is : (c : Configuration) (stage shuffle : ℕ) (past : List Post) (inner outer opening : List ℕ) → IsPastAt c stage past
     → kind_of_stage (shape_in c) stage ≡ Some (Final shuffle)
     → IsItem 32 inner → IsItem 32 outer → IsItem 32 opening → IsRow c stage (Final shuffle)
-        (final_row (shape_in c) past stage inner outer opening)
+    (final_row (shape_in c) past stage inner outer opening)
 unfolding final_row
 final-is c stage shuffle past inner outer opening is kind i o p =
     let short = posts-short c stage past is in
@@ -248,8 +251,14 @@ final-is c stage shuffle past inner outer opening is kind i o p =
       | inl agree ↦ subst (IsRow c stage (Final shuffle)) (sym (cond-true (votes_agree (shape_in c) (contents_of past) stage)
           (Reveal (written (posts_at (shape_in c) past (stage - 1))) inner) (Dispute (written past) outer opening) agree))
           (record {
-            form = ((stage-posts (λ item. length item < 2 ^ 32) (shape_in c) past (stage - 1) short, votes-count (shape_in c) past stage
-                (Final shuffle) (Go shuffle) kind refl refl is.whole), i.long);
+            form = (
+              (
+                stage-posts (λ item. length item < 2 ^ 32) (shape_in c) past (stage - 1) short,
+                votes-count (shape_in c) past stage
+                    (Final shuffle) (Go shuffle) kind refl refl is.whole,
+              ),
+              i.long,
+            );
             bytes = IsBytes-append (flat_map prefixed votes) inner
                 (prefixed-bytes votes (stage-posts IsBytes (shape_in c) past (stage - 1) bytes)) i.bytes;
           })
@@ -274,8 +283,11 @@ confirm-is c stage past is kind =
       | inl agree ↦ subst (IsRow c stage Confirm) (sym (cond-true (votes_agree (shape_in c) (contents_of past) stage)
           (ConfirmBody (written (posts_at (shape_in c) past (stage - 1)))) (Differ (written past)) agree))
           (record {
-            form = (stage-posts (λ item. length item < 2 ^ 32) (shape_in c) past (stage - 1) short, votes-count (shape_in c) past stage
-                Confirm Check kind refl refl is.whole);
+            form = (
+              stage-posts (λ item. length item < 2 ^ 32) (shape_in c) past (stage - 1) short,
+              votes-count (shape_in c) past stage
+                  Confirm Check kind refl refl is.whole,
+            );
             bytes = prefixed-bytes votes (stage-posts IsBytes (shape_in c) past (stage - 1) bytes);
           })
       | inr differ ↦ subst (IsRow c stage Confirm) (sym (cond-false (votes_agree (shape_in c) (contents_of past) stage)
@@ -300,7 +312,7 @@ row-at c own stage past (Shuffle shuffle k) can is at = turn-is c stage shuffle 
 row-at c own stage past (Go shuffle) can is at = go-is c stage shuffle (contents_of past) _
 row-at c own stage past (Final shuffle) can is at =
     final-is c stage shuffle past (own_key_seed c (inner_place shuffle)) (own_key_seed c (outer_place shuffle)) (own_opening c shuffle 2)
-        can.past_is at
+    can.past_is at
     (secret-item c (inner_place shuffle + 1)) (secret-item c (outer_place shuffle + 1)) (secret-item c (5 + 2 * shuffle + 2))
 row-at c own stage past Pad can is at = pads-are c own stage past can at
 row-at c own stage past Check can is at = check-is c stage (contents_of past)
@@ -380,10 +392,10 @@ header-bytes c stage past can =
     let its_round : List ℕ = to_be_bytes w64 c.round ++ at in
     IsBytes-append (c.roster.version ∷ []) (roster_id c.roster ++ its_round) (IsBytes-cons c.roster.version [] version IsBytes-nil)
     (IsBytes-append (roster_id c.roster) its_round (hash_bytes _ _).1
-        (IsBytes-append (to_be_bytes w64 c.round) at (IsBytes-to_be_bytes w64 c.round)
+    (IsBytes-append (to_be_bytes w64 c.round) at (IsBytes-to_be_bytes w64 c.round)
     (IsBytes-append (stage ∷ []) sender (IsBytes-cons stage [] (omega (arith, bounds, most)) IsBytes-nil)
     (IsBytes-append (c.number ∷ []) view (IsBytes-cons c.number [] (omega (arith, last, most)) IsBytes-nil)
-        (view-hash (shape_in c) (contents_of past) stage).1))))
+    (view-hash (shape_in c) (contents_of past) stage).1))))
 
 kind-small : (body : Body) → kind_number body < 256
 kind-small (KeysBody keys) = omega arith
@@ -404,4 +416,4 @@ own-content-bytes c stage past can =
     let body : Body = (content_due c past stage).body in
     IsBytes-append (header_text (own_header c past stage)) ((kind_number body ∷ []) ++ body_text body) (header-bytes c stage past can)
     (IsBytes-append (kind_number body ∷ []) (body_text body) (IsBytes-cons (kind_number body) [] (kind-small body) IsBytes-nil)
-        (own-body c stage past can).row.bytes)
+    (own-body c stage past can).row.bytes)

@@ -81,9 +81,9 @@ descriptor-long c past is member =
     let n : ℕ = (shape_in c).members in
     let d : Description = own_description c past in
     let form = made_is_of_grammar n (keys_said (shape_in c) past bulk_place) (own_pad_seeds c) c.number c.message
-        (can-make c past is member) in
+    (can-make c past is member) in
     (passes n (descriptor_text (own_description c past)) (read_passes n (descriptor_text (own_description c past)) (own_description c past)
-        (spelled_are_read n (own_description c past) form)).0).long
+    (spelled_are_read n (own_description c past) form)).0).long
 
 pub own-descriptor-bytes : (c : Configuration) (past : List (List ℕ)) → IsBytes (own_descriptor c past)
 unfolding own_descriptor
@@ -108,12 +108,12 @@ opened-count c stage past is late =
 -- ---- what a member accuses
 
 record Accuses (own : List ℕ) (opened : List (Option (List ℕ))) (states : List SlotState) (seeds : List (List ℕ)) (a : Accusation) : Type 0
-    where
-  pub k : ℕ
-  pub within : k < length states
-  pub first : ℕ
-  pub bad : get_or states k Empty ≡ Bad first
-  pub is : record { slot = k + 1; member = first; seed = get_or seeds (first - 1) [] } ≡ a
+  where
+    pub k : ℕ
+    pub within : k < length states
+    pub first : ℕ
+    pub bad : get_or states k Empty ≡ Bad first
+    pub is : record { slot = k + 1; member = first; seed = get_or seeds (first - 1) [] } ≡ a
 
 mapped : {A B : Type 0} (f : A → B) (o : Option A) (y : B) → option_map f o ≡ Some y → (x : A) × (o ≡ Some x) × (f x ≡ y)
 mapped {A} {B} f None y e = absurd (none-some y e)
@@ -129,9 +129,15 @@ accuses own opened states seeds a e =
     let found = first_below-found (accusation_by own opened states seeds) (length states) a e in
     let k : ℕ = found.0 in
     let parts = mapped (λ (first : ℕ). record { slot = k + 1; member = first; seed = slice_index_or seeds (first - 1) [] })
-        (first_in own (slice_index_or opened k None) (slice_index_or states k Empty)) a found.2 in
-    record { k = k; within = found.1; first = parts.0; bad = (first_in_cases own (get_or opened k None) (get_or states k Empty) parts.0
-        parts.1).1; is = parts.2 }
+    (first_in own (slice_index_or opened k None) (slice_index_or states k Empty)) a found.2 in
+    record {
+      k = k;
+      within = found.1;
+      first = parts.0;
+      bad = (first_in_cases own (get_or opened k None) (get_or states k Empty) parts.0
+          parts.1).1;
+      is = parts.2;
+    }
 
 pub record IsItem (size : ℕ) (item : List ℕ) : Type 0 where
   pub long : length item ≡ size
@@ -183,7 +189,7 @@ states-named : (c : Configuration) (past : List (List ℕ)) → All (NamesWithin
 unfolding slots_of_past pads_sent
 states-named c past =
     subst (λ (n : ℕ). All (NamesWithin n) (slot_states (descriptors_opened (shape_in c) past) (pads_sent (shape_in c) past)))
-        (length-map-range_with_len _ 1 (shape_in c).members)
+    (length-map-range_with_len _ 1 (shape_in c).members)
     (states_name_members (descriptors_opened (shape_in c) past) (pads_sent (shape_in c) past))
 
 -- ---- what it submits
@@ -205,12 +211,12 @@ own-item c own stage past shuffle can is late = by_shuffle (cases_Bool (shuffle 
     by_shuffle : ((shuffle == 1) ≡ true) ⊎ ((shuffle == 1) ≡ false) → IsItem (if shuffle == 1 then 36 + 2272 * (shape_in c).members else 34)
         (if shuffle == 1 then own
         else item_row own (items_opened (shape_in c) (contents_of past) 1) (slots_of_past (shape_in c) (contents_of past))
-            (own_pad_seeds c))
+        (own_pad_seeds c))
     by_shuffle (inl a) = rw a is
     by_shuffle (inr b) = rw b (item-row (shape_in c).members own (items_opened (shape_in c) (contents_of past) 1)
         (slots_of_past (shape_in c) (contents_of past)) (own_pad_seeds c)
         (is-member c stage past can).most (states-count c (contents_of past) ∙ opened-count c stage past can.past_is (late b))
-            (states-named c (contents_of past)) (seed-item c))
+        (states-named c (contents_of past)) (seed-item c))
 
 layers-count : (c : Configuration) (shuffle side : ℕ) → length (own_layer_seeds c shuffle side) ≡ (shape_in c).members
 layers-count c shuffle side = (seeds_are_messages (own_opening c shuffle side) c.round shuffle side c.number (shape_in c).members).0
@@ -229,7 +235,7 @@ own-submission c own stage past shuffle can of_own late =
     let inner_count = keys-count c (contents_of past) (inner_place shuffle) in
     let outer_count = keys-count c (contents_of past) (outer_place shuffle) in
     let adds = submission_adds inner outer (own_layer_seeds c shuffle 1) (own_layer_seeds c shuffle 2) item
-        (inner_count ∙ sym (layers-count c shuffle 1)) (outer_count ∙ sym (layers-count c shuffle 2)) in
+    (inner_count ∙ sym (layers-count c shuffle 1)) (outer_count ∙ sym (layers-count c shuffle 2)) in
     record {
       long = layers-long n (item_size c shuffle) (length item) (length inner) (length outer) _ is.long inner_count outer_count adds.1;
       bytes = wrapping-bytes outer (own_layer_seeds c shuffle 2) (wrapping_of inner (own_layer_seeds c shuffle 1) item)
@@ -258,7 +264,7 @@ found-pad d member seed pad few e = by_seed _ e
     by_seed (Some s) e = elim (cases_Bool (bytes_eq (hash_of_pad (pad_of s d.length)) (pad_hash_for d member))) [
       | inl is ↦
           let same = pad-same (pad_of s d.length) pad (sym (cond-true (bytes_eq (hash_of_pad (pad_of s d.length)) (pad_hash_for d member))
-              (Some (pad_of s d.length)) None is) ∙ e) in
+          (Some (pad_of s d.length)) None is) ∙ e) in
           subst IsPad same (record { short = omega (arith, few, length-pad_of s d.length); bytes = pad-bytes s d.length })
       | inr not_it ↦ absurd (none-some pad (sym (cond-false (bytes_eq (hash_of_pad (pad_of s d.length)) (pad_hash_for d member))
           (Some (pad_of s d.length)) None not_it) ∙ e))

@@ -53,8 +53,14 @@ pub stands-there : (c : Configuration) (stage : ℕ) (past : List Post) (number 
     → slice_get past number ≡ Some post → StandsThere c number post
 stands-there c stage past number post is at =
     let within = slice_get_within past number post at in
-    let slot = there (slots_of (shape_in c)) number (omega (arith, within, is.whole, slots_before-most (shape_in c) stage, length-slots_of
-        (shape_in c))) in
+    let slot = there (slots_of (shape_in c)) number (omega (
+      arith,
+      within,
+      is.whole,
+      slots_before-most (shape_in c) stage,
+      length-slots_of
+          (shape_in c),
+    )) in
     record { slot = slot.0; at = slot.1; reads = is.reads number slot.0 post slot.1 at }
 
 -- a post that checks is admitted
@@ -92,7 +98,7 @@ pub spelled-bytes : (c : Configuration) (slot : Slot) (post : Post) → ReadsIn 
 spelled-bytes c slot post is =
     let head : List ℕ = to_be_bytes w32 (length post.content) in
     IsBytes-append (head ++ post.content) post.signature (IsBytes-append head post.content (IsBytes-to_be_bytes w32 (length post.content))
-        is.content_bytes) is.signature_bytes
+    is.content_bytes) is.signature_bytes
 
 -- its content is of the grammar, and names its slot
 pub record IsSaidIn (c : Configuration) (slot : Slot) (post : Post) : Type 0 where
@@ -136,10 +142,10 @@ past-said c later stage member past is speaks_there lt =
     let within = (slot_number-within shape stage member speaks_there).1 in
     let found = there past number (omega (arith, is.whole, within, slots_before-rises shape (stage + 1) later (omega arith))) in
     let said = said-there c (record { stage = stage; sender = member }) found.0
-        (is.reads number (record { stage = stage; sender = member }) found.0 (slot_at-number shape stage member speaks_there) found.1) in
+    (is.reads number (record { stage = stage; sender = member }) found.0 (slot_at-number shape stage member speaks_there) found.1) in
     let text : get_or (contents_of past) number [] ≡ found.0.content =
     get_or_from_slice_get (contents_of past) number found.0.content []
-        (slice_get-map (λ (p : Post). p.content) past number ∙ ap (option_map (λ (p : Post). p.content)) found.1) in
+    (slice_get-map (λ (p : Post). p.content) past number ∙ ap (option_map (λ (p : Post). p.content)) found.1) in
     record {
       body = said.content.body;
       said = ap (λ (bytes : List ℕ). body_of (content_read shape bytes)) text ∙ ap body_of said.reads;
@@ -178,7 +184,7 @@ list-entries : (shape : Shape) (before shuffle k : ℕ) (body : Body) (list : Li
     → AreEntries shape.members (level shape.members shuffle k) list
 list-entries shape before shuffle k (Shuffled entries) list is bytes e =
     subst (AreEntries shape.members (level shape.members shuffle k)) (some-list entries list e)
-        (record { long = is.0; count = is.1; bytes = bytes-flat entries bytes })
+    (record { long = is.0; count = is.1; bytes = bytes-flat entries bytes })
   where
     some-list : (a b : List (List ℕ)) → (let told : List (List ℕ) → Option (List (List ℕ)) = λ x. Some x in told a ≡ told b) → a ≡ b
     some-list a b e = cc
@@ -202,8 +208,11 @@ turn-speaks shape shuffle k is least most = ap (λ (o : Option StageKind). speak
 all-range : {A : Type 0} (P : A → Type 0) (f : ℕ → A) (a n : ℕ) → ((k : ℕ) → a ≤ k → k < a + n → P (f k))
     → AllByRecursion P (map f (range_with_len a n))
 all-range P f a zero each = tt
-all-range P f a (suc n) each = (each a (omega arith) (omega arith), all-range P f (a + 1) n
-    (λ k least most. each k (omega (arith, least)) (omega (arith, most))))
+all-range P f a (suc n) each = (
+  each a (omega arith) (omega arith),
+  all-range P f (a + 1) n
+      (λ k least most. each k (omega (arith, least)) (omega (arith, most))),
+)
 
 length-range : {A : Type 0} (f : ℕ → A) (a n : ℕ) → length (map f (range_with_len a n)) ≡ n
 length-range f a n = length-map-range_with_len f a n
@@ -244,15 +253,15 @@ submissions-are c stage past shuffle is shuffle_is lt = record {
 pub list-is : (c : Configuration) (stage : ℕ) (past : List Post) (shuffle turn : ℕ) (entries : List (List ℕ)) → IsPastAt c stage past
     → IsShuffle shuffle → turn ≤ (shape_in c).members
     → submit_stage (shape_in c) shuffle + turn < stage → list_said (shape_in c) (contents_of past) shuffle turn ≡ Some entries
-        → AreEntries (shape_in c).members (level (shape_in c).members shuffle turn) entries
+    → AreEntries (shape_in c).members (level (shape_in c).members shuffle turn) entries
 list-is c stage past shuffle zero entries is shuffle_is most lt e =
     subst (AreEntries (shape_in c).members (level (shape_in c).members shuffle 0)) (some-entries _ entries e)
-        (submissions-are c stage past shuffle is shuffle_is (omega (arith, lt)))
+    (submissions-are c stage past shuffle is shuffle_is (omega (arith, lt)))
 list-is c stage past shuffle (suc turn) entries is shuffle_is most lt e =
     let shape = shape_in c in
     let at : ℕ = submit_stage shape shuffle + suc turn in
     let said = past-said c stage at (suc turn) past is (turn-speaks shape shuffle (suc turn) shuffle_is (omega arith) most) lt in
     list-entries shape (slots_before shape at) shuffle (suc turn) said.body entries
     (kind-body shape at (AtShuffle shuffle (suc turn)) said.body (turn-kind shape shuffle (suc turn) shuffle_is (omega arith) most)
-        said.grammar) said.bytes
+    said.grammar) said.bytes
     (sym (ap list_of said.said) ∙ e)

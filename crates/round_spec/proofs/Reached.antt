@@ -36,8 +36,12 @@ filled-parts c others stand posts e = by_kind (kind_of_stage (shape_in c) stand.
     by_kind : (o : Option StageKind) → kind_of_stage (shape_in c) stand.at ≡ o
         → option_and_then (posts_of_kind c others stand) o ≡ Some posts → Fills c others stand posts
     by_kind None is e = absurd (none-some posts e)
-    by_kind (Some kind) is e = record { kind = kind; is = is; posts_are = all_some-is
-        (map (post_of c others stand) (senders_in (shape_in c) kind)) posts e }
+    by_kind (Some kind) is e = record {
+      kind = kind;
+      is = is;
+      posts_are = all_some-is
+          (map (post_of c others stand) (senders_in (shape_in c) kind)) posts e;
+    }
 
 -- as many posts as senders
 fills-count : (c : Configuration) (others : Others) (stand : Stand) (posts : List Post) (fills : Fills c others stand posts)
@@ -50,7 +54,7 @@ fills-count c others stand posts fills =
 sender-place : (c : Configuration) (stage sender : ℕ) (kind : StageKind) → kind_of_stage (shape_in c) stage ≡ Some kind
     → is_slot (shape_in c) stage sender ≡ true
     → (place : ℕ) × (slot_number (shape_in c) stage sender ≡ slots_before (shape_in c) stage + place)
-        × (slice_get (senders_in (shape_in c) kind) place ≡ Some sender)
+    × (slice_get (senders_in (shape_in c) kind) place ≡ Some sender)
 sender-place c stage sender kind is speaks =
     let shape = shape_in c in
     let within = slot_number-within shape stage sender speaks in
@@ -95,7 +99,7 @@ filled-post c others stand posts place sender fills at = by_post (slice_get post
 
 pub next-parts : (c : Configuration) (others : Others) (stand next : Stand) → next_stand c others stand ≡ Some next
     → (is_open stand.verdict ≡ true) × ((posts : List Post) × (stage_filled c others stand ≡ Some posts)
-        × (stand_behind c stand posts ≡ next))
+    × (stand_behind c stand posts ≡ next))
 unfolding next_stand
 next-parts c others stand next e = elim (cases_Bool (is_open stand.verdict)) [
   | inl still ↦ (
@@ -123,7 +127,7 @@ due-longer : (c : Configuration) (others : Others) (past posts : List Post) (sta
     → post_due c others past stage sender ≡ post_due c others (past ++ posts) stage sender
 due-longer c others past posts stage sender long =
     ap (λ (front : List Post). if sender == c.number then Some (own_post c front stage) else others
-        (record { stage = stage; sender = sender }))
+    (record { stage = stage; sender = sender }))
     (sym (take-append-le (slots_before (shape_in c) stage) past posts long))
 
 -- what is due in the stage that is being filled
@@ -133,7 +137,7 @@ due-now : (c : Configuration) (others : Others) (stand : Stand) (posts : List Po
 due-now c others stand posts sender whole =
     let n : ℕ = slots_before (shape_in c) stand.at in
     ap (λ (front : List Post). if sender == c.number then Some (own_post c front stand.at) else others
-        (record { stage = stand.at; sender = sender }))
+    (record { stage = stand.at; sender = sender }))
     (sym (take-append-le n stand.past posts (omega (arith, whole)) ∙ take_all n stand.past (omega (arith, whole))))
 
 behind-reached : (c : Configuration) (others : Others) (stand : Stand) (posts : List Post) → is_open stand.verdict ≡ true
@@ -178,17 +182,17 @@ behind-reached c others stand posts still filled is = record {
     each stage sender speaks lt (inr now) =
         let same : stage ≡ stand.at = omega arith in
         subst (λ (s : ℕ). slice_get (stand.past ++ posts) (slot_number (shape_in c) s sender) ≡ post_due c others (stand.past ++ posts) s
-            sender) (sym same)
+        sender) (sym same)
         (here sender (sender-place c stand.at sender fills.kind fills.is
-            (sym (ap (λ (s : ℕ). is_slot (shape_in c) s sender) same) ∙ speaks)))
+        (sym (ap (λ (s : ℕ). is_slot (shape_in c) s sender) same) ∙ speaks)))
       where
         here : (sender : ℕ) → (place : ℕ) × (slot_number (shape_in c) stand.at sender ≡ slots_before (shape_in c) stand.at + place)
             × (slice_get (senders_in (shape_in c) fills.kind) place ≡ Some sender)
             → slice_get (stand.past ++ posts) (slot_number (shape_in c) stand.at sender) ≡ post_due c others (stand.past ++ posts) stand.at
-                sender
+            sender
         here sender at =
             let number : slot_number (shape_in c) stand.at sender ≡ length stand.past + at.0 = at.1
-                ∙ ap (λ (k : ℕ). k + at.0) (sym is.whole) in
+            ∙ ap (λ (k : ℕ). k + at.0) (sym is.whole) in
             ap (slice_get (stand.past ++ posts)) number
             ∙ slice_get_right stand.past posts at.0
             ∙ filled-post c others stand posts at.0 sender fills at.2
@@ -199,15 +203,15 @@ behind-reached c others stand posts still filled is = record {
     gone stage lt (inl earlier) =
         let rises = slots_before-rises (shape_in c) (stage + 1) stand.at (omega arith) in
         ap (λ (front : List Post). verdict_of (closing_of c front stage))
-            (take-append-le (slots_before (shape_in c) (stage + 1)) stand.past posts (omega (arith, is.whole)))
+        (take-append-le (slots_before (shape_in c) (stage + 1)) stand.past posts (omega (arith, is.whole)))
         ∙ is.goes stage earlier
     gone stage lt (inr now) =
         let same : stage + 1 ≡ stand.at = omega arith in
         let n : slots_before (shape_in c) (stage + 1) ≡ length stand.past = ap (λ (s : ℕ). slots_before (shape_in c) s) same
-            ∙ sym is.whole in
+        ∙ sym is.whole in
         ap (λ (front : List Post). verdict_of (closing_of c front stage))
         (take-append-le (slots_before (shape_in c) (stage + 1)) stand.past posts (omega (arith, n))
-            ∙ take_all (slots_before (shape_in c) (stage + 1)) stand.past (omega (arith, n)))
+        ∙ take_all (slots_before (shape_in c) (stage + 1)) stand.past (omega (arith, n)))
         ∙ is.last stage same ∙ open-goes stand.verdict still
 
 first-reached : (c : Configuration) (others : Others) → IsReached c others first_stand

@@ -33,9 +33,12 @@ pub checks-parts : (roster : Roster) (round : ℕ) (post : Post) (content : Cont
 unfolding check_of
 checks-parts roster round post content e =
     let header = bind_ok (admission_of roster round post) (λ header. fault_as (λ offence. Body offence.at offence.rule)
-        (content_read (shape_of_roster roster) post.content)) content e in
-    (header.0, header.1, fault_as_ok (λ offence. Body offence.at offence.rule) (content_read (shape_of_roster roster) post.content) content
-        header.2)
+    (content_read (shape_of_roster roster) post.content)) content e in (
+      header.0,
+      header.1,
+      fault_as_ok (λ offence. Body offence.at offence.rule) (content_read (shape_of_roster roster) post.content) content
+          header.2,
+    )
 
 -- ---- what one run sent
 
@@ -48,14 +51,14 @@ unfolding sent
 own_row run content honest listed =
     let found = contains-map (λ (post : Post). post.content) (posts_said run) content listed in
     let at = contains-filter_map (λ stage. kept_in run.log (own_slot run stage)) (range_with_len 0 (stage_count run.log.shape)) found.0
-        found.1 in
+    found.1 in
     row at.0 found.0 at.2 found.2 (honest.own at.0 found.0 at.2) (honest.posts (own_slot run at.0) found.0 at.2)
   where
     row : (stage : ℕ) (post : Post) → kept_in run.log (own_slot run stage) ≡ Some post → post.content ≡ content → IsOwnPost run stage post
         → ChecksIn run.config (own_slot run stage) post → IsOwnRow run content
     row stage post kept is own checks =
         let said : content ≡ own_content run.config own.past stage = sym is ∙ ap (λ (p : Post). p.content) own.said
-            ∙ own-content run.config own.past stage in
+        ∙ own-content run.config own.past stage in
         let parts = checks-parts run.config.roster run.config.round post checks.content checks.checks in
         let spelled = content-is_spelled (shape_in run.config) post.content checks.content checks.content_bytes parts.2 in
         record {
@@ -90,9 +93,16 @@ run_of_content roster runs number content header honest listed reads =
     let found = contains-flat sent (runs_of runs number) content listed in
     let of_member = contains-filter (λ (run : Run). run.config.number == number) runs found.0 found.1 in
     let row = own_row found.0 content (All-contains HonestRun runs found.0 honest.honest of_member.0) found.2 in
-    let same = headers-same (own_header found.0.config row.past row.stage) header (header_of content) row.header reads in
-    (found.0, record { listed = of_member.0; number = eqb-true found.0.config.number number of_member.1; round = ap
-        (λ (h : Header). h.round) same }, found.2)
+    let same = headers-same (own_header found.0.config row.past row.stage) header (header_of content) row.header reads in (
+      found.0,
+      record {
+        listed = of_member.0;
+        number = eqb-true found.0.config.number number of_member.1;
+        round = ap
+            (λ (h : Header). h.round) same;
+      },
+      found.2,
+    )
 
 runs-same : (x y : Run) → (let told : Run → Option Run = λ z. Some z in told x ≡ told y) → x ≡ y
 runs-same x y e = cc
@@ -109,7 +119,7 @@ run_unique roster runs number round run other honest is is_other = by_place is.l
     apart k l a b lt within at there numbers rounds =
         let far = honest.apart k l a lt within in
         let both : AreApart a b = subst (λ (x : Run). AreApart x b) at
-            (subst (λ (y : Run). AreApart (slice_index_or runs k a) y) (at-place runs l b a within there) far) in
+        (subst (λ (y : Run). AreApart (slice_index_or runs k a) y) (at-place runs l b a within there) far) in
         both numbers rounds
 
     by_place : Contains runs run → Contains runs other → run ≡ other
@@ -132,20 +142,24 @@ same-stage run a b h g honest listed_a listed_b reads_a reads_b stages =
     let row_a = own_row run a honest listed_a in
     let row_b = own_row run b honest listed_b in
     let stage_a : row_a.stage ≡ h.stage = ap (λ (x : Header). x.stage)
-        (headers-same (own_header run.config row_a.past row_a.stage) h (header_of a) row_a.header reads_a) in
+    (headers-same (own_header run.config row_a.past row_a.stage) h (header_of a) row_a.header reads_a) in
     let stage_b : row_b.stage ≡ g.stage = ap (λ (x : Header). x.stage)
-        (headers-same (own_header run.config row_b.past row_b.stage) g (header_of b) row_b.header reads_b) in
+    (headers-same (own_header run.config row_b.past row_b.stage) g (header_of b) row_b.header reads_b) in
     let one : row_a.stage ≡ row_b.stage = stage_a ∙ stages ∙ sym stage_b in
     let posts : row_a.post ≡ row_b.post = some-post _ _ (sym row_a.kept ∙ ap (λ (s : ℕ). kept_in run.log (own_slot run s)) one ∙ row_b.kept)
-        in
+    in
     sym row_a.content_is ∙ ap (λ (p : Post). p.content) posts ∙ row_b.content_is
 
 pub one_per_slot : OnePerSlot
 one_per_slot roster runs number a b h g honest listed_a listed_b reads_a reads_b rounds stages =
     let run_a = run_of_content roster runs number a h honest listed_a reads_a in
     let run_b = run_of_content roster runs number b g honest listed_b reads_b in
-    let is_b : IsRunOf runs number h.round run_b.0 = record { listed = run_b.1.listed; number = run_b.1.number; round = run_b.1.round
-        ∙ sym rounds } in
+    let is_b : IsRunOf runs number h.round run_b.0 = record {
+      listed = run_b.1.listed;
+      number = run_b.1.number;
+      round = run_b.1.round
+          ∙ sym rounds;
+    } in
     let same : run_b.0 ≡ run_a.0 = run_unique roster runs number h.round run_b.0 run_a.0 honest is_b run_a.1 in
     same-stage run_a.0 a b h g (All-contains HonestRun runs run_a.0 honest.honest run_a.1.listed) run_a.2
-        (subst (λ (run : Run). Contains (sent run) b) same run_b.2) reads_a reads_b stages
+    (subst (λ (run : Run). Contains (sent run) b) same run_b.2) reads_a reads_b stages

@@ -71,7 +71,7 @@ pub prefixed-bytes : (xs : List (List ℕ)) → AllByRecursion IsBytes xs → Is
 prefixed-bytes [] all = IsBytes-nil
 prefixed-bytes (x ∷ xs) all =
     IsBytes-append (prefixed x) (flat_map prefixed xs) (IsBytes-append (to_be_bytes w32 (length x)) x (IsBytes-to_be_bytes w32 (length x))
-        all.0) (prefixed-bytes xs all.1)
+    all.0) (prefixed-bytes xs all.1)
 
 map-bytes : (f : ℕ → ℕ) (ns : List ℕ) → ((n : ℕ) → f n < 256) → IsBytes (map f ns)
 map-bytes f [] each = IsBytes-nil
@@ -125,7 +125,7 @@ layer-bytes key m body is =
     let check : List ℕ = hash_of LayerTag (m ∷ masked m body ∷ []) in
     IsBytes-append (capsule_of key m ++ hash_of LayerTag (m ∷ masked m body ∷ [])) (masked m body)
     (IsBytes-append (capsule_of key m) (hash_of LayerTag (m ∷ masked m body ∷ [])) (capsule-bytes key m)
-        (hash_bytes LayerTag (m ∷ masked m body ∷ [])).1) (masked-bytes m body is)
+    (hash_bytes LayerTag (m ∷ masked m body ∷ [])).1) (masked-bytes m body is)
 
 pub wrapping-bytes : (keys ms : List (List ℕ)) (blob : List ℕ) → IsBytes blob → IsBytes (wrapping_of keys ms blob)
 unfolding wrapping_of
@@ -139,7 +139,7 @@ unfolding layer_of
 opened-bytes seed layer m body opens is =
     let whole : IsBytes (layer_of (key_of_seed seed) m body) = subst IsBytes opens.is is in
     let hidden : IsBytes (masked m body) = IsBytes-back (capsule_of (key_of_seed seed) m ++ hash_of LayerTag (m ∷ masked m body ∷ []))
-        (masked m body) whole in
+    (masked m body) whole in
     subst IsBytes (masked_twice m body) (masked-bytes m (masked m body) hidden)
 
 pub bodies-bytes : (seed : List ℕ) (entries bodies : List (List ℕ)) → AllZip (HasBody seed) entries bodies → AllByRecursion IsBytes entries
@@ -147,8 +147,11 @@ pub bodies-bytes : (seed : List ℕ) (entries bodies : List (List ℕ)) → AllZ
 bodies-bytes seed [] [] are all = tt
 bodies-bytes seed [] (body ∷ bodies) are all = absurd are
 bodies-bytes seed (entry ∷ entries) [] are all = absurd are
-bodies-bytes seed (entry ∷ entries) (body ∷ bodies) are all = (opened-bytes seed entry are.0.0 body are.0.1 all.0, bodies-bytes seed entries
-    bodies are.1 all.1)
+bodies-bytes seed (entry ∷ entries) (body ∷ bodies) are all = (
+  opened-bytes seed entry are.0.0 body are.0.1 all.0,
+  bodies-bytes seed entries
+      bodies are.1 all.1,
+)
 
 pub bodies-long : (seed : List ℕ) (size : ℕ) (entries bodies : List (List ℕ)) → AllZip (HasBody seed) entries bodies
     → AllByRecursion (λ entry. length entry ≡ size + 2272) entries
@@ -177,7 +180,7 @@ pub own-pad-bytes : (seeds : List (List ℕ)) (member : ℕ) (message : List ℕ
 unfolding own_pad pads_of
 own-pad-bytes seeds member message is =
     hidden-bytes message (other_pads seeds member (length message)) is
-        (all-map IsBytes (λ seed. pad_of seed (length message)) _ (λ seed. pad-bytes seed (length message)))
+    (all-map IsBytes (λ seed. pad_of seed (length message)) _ (λ seed. pad-bytes seed (length message)))
 
 pub descriptor-bytes : (keys seeds : List (List ℕ)) (member : ℕ) (message : List ℕ)
     → IsBytes (descriptor_text (made_descriptor keys seeds member message))
@@ -187,7 +190,7 @@ descriptor-bytes keys seeds member message =
     let capsules : List (List ℕ) = map (λ (p : List ℕ × List ℕ). capsule_of p.0 p.1) (zip keys seeds) in
     let hash : List ℕ = hash_of Message (message ∷ []) in
     IsBytes-append (to_be_bytes w32 (length message)) (hash ++ (concat hashes ++ concat capsules))
-        (IsBytes-to_be_bytes w32 (length message))
+    (IsBytes-to_be_bytes w32 (length message))
     (IsBytes-append hash (concat hashes ++ concat capsules) (hash_bytes Message (message ∷ [])).1
     (IsBytes-append (concat hashes) (concat capsules)
     (concat-bytes hashes (all-map IsBytes hash_of_pad (made_pads seeds member message) (λ pad. (hash_bytes PadHash (pad ∷ [])).1)))

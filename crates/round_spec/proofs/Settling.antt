@@ -37,9 +37,9 @@ settled-kept c others slot speaks =
     let f = post_settled c others (course_of c others) in
     let number : ℕ = slot_number shape slot.stage slot.sender in
     cond-true (is_slot shape slot.stage slot.sender) (option_flatten
-        (slice_get (map (post_settled c others (course_of c others)) (slots_of shape)) number)) None speaks
+    (slice_get (map (post_settled c others (course_of c others)) (slots_of shape)) number)) None speaks
     ∙ ap (λ (o : Option (Option Post)). option_flatten o) (slice_get-map (post_settled c others (course_of c others)) (slots_of shape)
-        number ∙ ap (option_map (post_settled c others (course_of c others))) (slot_at-number shape slot.stage slot.sender speaks))
+    number ∙ ap (option_map (post_settled c others (course_of c others))) (slot_at-number shape slot.stage slot.sender speaks))
 
 -- the own post of a stage that the member has spoken at
 spoken : (c : Configuration) (stand : Stand) (stage : ℕ) → has_spoken c stand stage ≡ true
@@ -73,11 +73,11 @@ settled-passed c others stand stage sender is speaks lt = by_sender (cases_Bool 
         cond-true (sender == c.number) (own_post_at c stand stage) (others slot) own
         ∙ spoken c stand stage (spoken-passed c stand stage (sym (ap (λ (s : ℕ). is_slot (shape_in c) stage s) number) ∙ speaks) lt)
         ∙ sym (cond-true (sender == c.number) (Some (own_post c (take (slots_before (shape_in c) stage) stand.past) stage)) (others slot)
-            own)
+        own)
     by_sender (inr other) =
         cond-false (sender == c.number) (own_post_at c stand stage) (others slot) other
         ∙ sym (cond-false (sender == c.number) (Some (own_post c (take (slots_before (shape_in c) stage) stand.past) stage)) (others slot)
-            other)
+        other)
 
 -- in the stage that is being filled it is what would fill it
 pub settled-now : (c : Configuration) (others : Others) (stand : Stand) (sender : ℕ) → IsReached c others stand
@@ -95,9 +95,9 @@ settled-now c others stand sender is still speaks = by_sender (cases_Bool (sende
         let number = eqb-true sender c.number own in
         cond-true (sender == c.number) (own_post_at c stand stand.at) (others slot) own
         ∙ spoken c stand stand.at (spoken-now c stand stand.at (sym (ap (λ (s : ℕ). is_slot (shape_in c) stand.at s) number) ∙ speaks) still
-            refl)
+        refl)
         ∙ ap (λ (past : List Post). Some (own_post c past stand.at))
-            (take_all (slots_before (shape_in c) stand.at) stand.past (omega (arith, is.whole)))
+        (take_all (slots_before (shape_in c) stand.at) stand.past (omega (arith, is.whole)))
         ∙ sym (cond-true (sender == c.number) (Some (own_post c stand.past stand.at)) (others slot) own)
     by_sender (inr other) =
         cond-false (sender == c.number) (own_post_at c stand stand.at) (others slot) other
@@ -145,19 +145,23 @@ before-settled c others stage is le =
     let most = slots_before-most (shape_in c) stage in
     let whole = is.whole in
     let kept : List (Option Post) = map (post_settled c others stand) (slots_of (shape_in c)) in
-    let long : n ≤ length kept = omega (arith, length-map (slots_of (shape_in c)) (post_settled c others stand), length-slots_of
-        (shape_in c)) in
+    let long : n ≤ length kept = omega (
+      arith,
+      length-map (slots_of (shape_in c)) (post_settled c others stand),
+      length-slots_of
+          (shape_in c),
+    ) in
     let here : length (take n kept) ≡ n = length-take-le n kept long in
     let front : length (take n stand.past) ≡ n = length-take-le n stand.past (omega arith) in
     let same : take n kept ≡ map (λ post. Some post) (take n stand.past) = ext_get_or None (take n kept)
-        (map (λ post. Some post) (take n stand.past))
+    (map (λ post. Some post) (take n stand.past))
     (here ∙ sym (length-map (take n stand.past) (λ (post : Post). Some post) ∙ front)) (λ i lt.
     let few : i < n = omega (arith, here) in
     let there = slice_get-get_or stand.past i no_post (omega arith) in
     get_or-take n kept i None few ∙ place-settled c others stand i is (omega arith) ∙ there
     ∙ sym (get_or_from_slice_get (map (λ post. Some post) (take n stand.past)) i (Some (get_or stand.past i no_post)) None
     (slice_get-map (λ (post : Post). Some post) (take n stand.past) i
-        ∙ ap (option_map (λ (post : Post). Some post)) (slice_get-take stand.past n i few ∙ there)))) in
+    ∙ ap (option_map (λ (post : Post). Some post)) (slice_get-take stand.past n i few ∙ there)))) in
     ap all_some same ∙ all_some-map (take n stand.past)
 
 -- ---- an open round has not passed the stage where it waits
@@ -169,12 +173,12 @@ post-there kept n i posts e lt long =
     sym (get_or-take n kept i None lt) ∙ ap (λ (os : List (Option Post)). get_or os i None) e
     ∙ get_or_from_slice_get (map (λ post. Some post) posts) i (Some (get_or posts i no_post)) None
     (slice_get-map (λ (post : Post). Some post) posts i ∙ ap (option_map (λ (post : Post). Some post))
-        (slice_get-get_or posts i no_post (omega (arith, count))))
+    (slice_get-get_or posts i no_post (omega (arith, count))))
 
 pub filled-if : (c : Configuration) (others : Others) (kind : StageKind) (posts : List Post) → IsReached c others (course_of c others)
     → is_open (course_of c others).verdict ≡ true
     → kind_of_stage (shape_in c) (course_of c others).at ≡ Some kind
-        → before (settled_log c others) ((course_of c others).at + 1) ≡ Some posts
+    → before (settled_log c others) ((course_of c others).at + 1) ≡ Some posts
     → stage_filled c others (course_of c others) ≡ Some (drop (slots_before (shape_in c) (course_of c others).at) posts)
 unfolding settled_log stage_filled
 filled-if c others kind posts is still kind_is e =
@@ -218,15 +222,15 @@ filled-if c others kind posts is still kind_is e =
         let speaks = (slot_at-is (shape_in c) (a + i) slot at).0 in
         sym (settled-now c others stand (get_or senders i 0) is still speaks)
         ∙ sym (get_or_from_slice_get kept (a + i) (post_settled c others stand slot) None
-            (slice_get-map (post_settled c others stand) (slots_of (shape_in c)) (a + i)
-            ∙ ap (option_map (post_settled c others stand)) at))
+        (slice_get-map (post_settled c others stand) (slots_of (shape_in c)) (a + i)
+        ∙ ap (option_map (post_settled c others stand)) at))
         ∙ post-there kept n (a + i) posts all (omega (arith, next, many)) long
 
     same : map (post_of c others stand) senders ≡ map (λ post. Some post) (drop a posts)
     same = ext_get_or None _ _
         (length-map senders (post_of c others stand) ∙ many ∙ sym
-            (length-map (drop a posts) (λ (post : Post). Some post) ∙ length-drop a posts
-            ∙ (let few : length posts - a ≡ senders_of (shape_in c) kind = omega (arith, count, next) in few)))
+        (length-map (drop a posts) (λ (post : Post). Some post) ∙ length-drop a posts
+        ∙ (let few : length posts - a ≡ senders_of (shape_in c) kind = omega (arith, count, next) in few)))
         (λ i lt.
         let few : i < length senders = omega (arith, length-map senders (post_of c others stand)) in
         let within : i < length (drop a posts) = omega (arith, length-drop a posts, count, next, many) in
@@ -236,7 +240,7 @@ filled-if c others kind posts is still kind_is e =
         ∙ ap (λ (post : Post). Some post) (sym (get_or-drop a posts i no_post))
         ∙ sym (get_or_from_slice_get (map (λ post. Some post) (drop a posts)) i (Some (get_or (drop a posts) i no_post)) None
         (slice_get-map (λ (post : Post). Some post) (drop a posts) i
-            ∙ ap (option_map (λ (post : Post). Some post)) (slice_get-get_or (drop a posts) i no_post within))))
+        ∙ ap (option_map (λ (post : Post). Some post)) (slice_get-get_or (drop a posts) i no_post within))))
 
 -- ---- the own post of a stage
 
@@ -280,7 +284,7 @@ not-ended c others stage past is ended e goes le = by_at stand.at refl
     by_at (suc last) later =
         let next : last + 1 ≡ stand.at = omega (arith, later) in
         let same : take (slots_before (shape_in c) (last + 1)) past ≡ stand.past = ap (λ (s : ℕ). take (slots_before (shape_in c) s) past)
-            next ∙ front in
+        next ∙ front in
         let goes_on = goes last (omega (arith, later)) in
         let verdict = sym (is.last last next) ∙ sym (ap (λ (posts : List Post). verdict_of (closing_of c posts last)) same) ∙ goes_on in
         (let still = ap is_open verdict in let both = sym ended ∙ still in cc)
@@ -293,7 +297,7 @@ all-go c others stage is when earlier lt =
     let stand : Stand = course_of c others in
     let rises = slots_before-rises (shape_in c) (earlier + 1) stage (omega arith) in
     ap (λ (posts : List Post). verdict_of (closing_of c posts earlier))
-        (take-take (slots_before (shape_in c) (earlier + 1)) (slots_before (shape_in c) stage) stand.past rises)
+    (take-take (slots_before (shape_in c) (earlier + 1)) (slots_before (shape_in c) stage) stand.past rises)
     ∙ by_when when
   where
     by_when : (stage < (course_of c others).at) ⊎ ((is_open (course_of c others).verdict ≡ true) × (stage ≡ (course_of c others).at))
@@ -305,9 +309,9 @@ all-go c others stage is when earlier lt =
           let stage_is = now.1 in
           let next : earlier + 1 ≡ (course_of c others).at = omega arith in
           let whole : slots_before (shape_in c) (earlier + 1) ≡ length (course_of c others).past = ap
-              (λ (s : ℕ). slots_before (shape_in c) s) next ∙ sym is.whole in
+          (λ (s : ℕ). slots_before (shape_in c) s) next ∙ sym is.whole in
           ap (λ (posts : List Post). verdict_of (closing_of c posts earlier))
-              (take_all (slots_before (shape_in c) (earlier + 1)) (course_of c others).past (omega (arith, whole)))
+          (take_all (slots_before (shape_in c) (earlier + 1)) (course_of c others).past (omega (arith, whole)))
           ∙ is.last earlier next ∙ open-goes (course_of c others).verdict now.0
     ]
 
@@ -316,9 +320,9 @@ spoken-when : (c : Configuration) (stand : Stand) (stage : ℕ) → has_spoken c
     ⊎ ((is_open stand.verdict ≡ true) × (stage ≡ stand.at))
 spoken-when c stand stage e = elim (or_cases (nat_lt stage stand.at) (is_open stand.verdict && (stage == stand.at))
     (and_parts (is_slot (shape_in c) stage c.number) _ e).1) [
-  | inl passed ↦ inl (ltb-true stage stand.at passed)
-  | inr now ↦ (let parts = and_parts (is_open stand.verdict) (stage == stand.at) now in inr (parts.0, eqb-true stage stand.at parts.1))
-]
+      | inl passed ↦ inl (ltb-true stage stand.at passed)
+      | inr now ↦ (let parts = and_parts (is_open stand.verdict) (stage == stand.at) now in inr (parts.0, eqb-true stage stand.at parts.1))
+    ]
 
 own-kept : (c : Configuration) (others : Others) (stage : ℕ) → is_slot (shape_in c) stage c.number ≡ true
     → kept_in (settled_log c others) (own_slot (settled_run c others) stage) ≡ own_post_at c (course_of c others) stage

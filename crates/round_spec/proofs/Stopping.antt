@@ -49,8 +49,11 @@ unfolding own_content content_with
 own-header c posts stage small =
     let x : Content = content_with c (own_descriptor c (contents_of posts)) posts stage in
     begins-header_of (content_text x) (own_header c posts stage) (record {
-      widths = record { group_long = (hash_bytes _ _).0; round_small = small; view_long = view-long (shape_in c) (contents_of posts) stage
-          };
+      widths = record {
+        group_long = (hash_bytes _ _).0;
+        round_small = small;
+        view_long = view-long (shape_in c) (contents_of posts) stage;
+      };
       rest = (kind_number x.body ∷ []) ++ body_text x.body;
       spelled = refl;
     })
@@ -61,7 +64,7 @@ pub own-names : (c : Configuration) (posts : List Post) (stage : ℕ) (content :
 unfolding own_post
 own-names c posts stage content small reads =
     same-header content.header (own_header c posts stage) (header_of (own_content c posts stage))
-        (content-header (shape_in c) (own_content c posts stage) content reads) (own-header c posts stage small)
+    (content-header (shape_in c) (own_content c posts stage) content reads) (own-header c posts stage small)
 
 -- ---- the last stage
 
@@ -71,13 +74,13 @@ due-names : (c : Configuration) (others : Others) (past : List Post) (stage send
 due-names c others past stage sender post content small names due reads = elim (cases_Bool (sender == c.number)) [
   | inl own ↦
       let is : own_post c (take (slots_before (shape_in c) stage) past) stage ≡ post = told_same _ _
-          (sym (cond-true (sender == c.number) (Some (own_post c (take (slots_before (shape_in c) stage) past) stage)) _ own) ∙ due) in
+      (sym (cond-true (sender == c.number) (Some (own_post c (take (slots_before (shape_in c) stage) past) stage)) _ own) ∙ due) in
       ap (λ (h : Header). h.stage) (own-names c (take (slots_before (shape_in c) stage) past) stage content small
-          (ap (λ (p : Post). content_read (shape_in c) p.content) is ∙ reads))
+      (ap (λ (p : Post). content_read (shape_in c) p.content) is ∙ reads))
   | inr other ↦
       ap (λ (slot : Slot). slot.stage) (names (record { stage = stage; sender = sender }) post content
       (sym (cond-false (sender == c.number) (Some (own_post c (take (slots_before (shape_in c) stage) past) stage))
-          (others (record { stage = stage; sender = sender })) other) ∙ due) reads)
+      (others (record { stage = stage; sender = sender })) other) ∙ due) reads)
 ]
   where
     told_same : (x y : Post) → (let told : Post → Option Post = λ z. Some z in told x ≡ told y) → x ≡ y
@@ -118,13 +121,13 @@ last-ends c others stand small least names is end = ended stand.verdict (λ goes
         let first = in_round.least in
         let last = in_round.most in
         let speaks_there : is_slot (shape_in c) stage member ≡ true = ap (λ (o : Option StageKind). speaks (shape_in c) o member) kind
-            ∙ is_there member first last in
+        ∙ is_there member first last in
         let within = slot_number-within (shape_in c) stage member speaks_there in
         let after = within.1 in
         let n : slots_before (shape_in c) (stage + 1) ≡ length stand.past = ap (λ (s : ℕ). slots_before (shape_in c) s) back
-            ∙ sym is.whole in
+        ∙ sym is.whole in
         let there = due-there stand.past (slot_number (shape_in c) stage member) _ content (shape_in c)
-            (is.posts stage member speaks_there (omega (arith, back))) reads (omega (arith, n)) in
+        (is.posts stage member speaks_there (omega (arith, back))) reads (omega (arith, n)) in
         due-names c others stand.past stage member there.0 content small names there.1 there.2
       where
         is_there : (member : ℕ) → 1 ≤ member → member ≤ (shape_in c).members → is_member (shape_in c).members member ≡ true
@@ -166,7 +169,7 @@ unfilled : (c : Configuration) (others : Others) (stand : Stand) → next_stand 
 unfolding next_stand
 unfilled c others stand none still =
     nothing_mapped (stand_behind c stand) (stage_filled c others stand)
-        (sym (cond-true (is_open stand.verdict) (option_map (stand_behind c stand) (stage_filled c others stand)) None still) ∙ none)
+    (sym (cond-true (is_open stand.verdict) (option_map (stand_behind c stand) (stage_filled c others stand)) None still) ∙ none)
 
 pub course_stops : CourseStops
 unfolding course_of

@@ -50,10 +50,10 @@ view-listed : (log : Log) (stage : ℕ) (past : List Post) → stage < stage_cou
 unfolding view_strings_of
 view-listed log stage past lt e =
     contains-flat-from (view_string_at log) (range_with_len 0 (stage_count log.shape)) stage
-        (view_string log.shape (contents_of past) stage)
+    (view_string log.shape (contents_of past) stage)
     (range-has 0 (stage_count log.shape) stage (omega arith) (omega arith))
     (subst (λ (o : Option (List Post)). Contains (option_map_or (λ posts. view_string log.shape (contents_of posts) stage ∷ []) o [])
-        (view_string log.shape (contents_of past) stage)) (sym e) (contains-here _ []))
+    (view_string log.shape (contents_of past) stage)) (sym e) (contains-here _ []))
 
 -- the strings of earlier views look at the front alone
 view_string-take : (shape : Shape) (past : List (List ℕ)) (stage later : ℕ) → stage ≤ later
@@ -65,7 +65,7 @@ view_string-take shape past (suc stage) later le =
     let rises = slots_before-rises shape stage (stage + 1) (omega arith) in
     ap (λ (view : List ℕ). hashed View (view ∷ contents_at shape (take n past) stage)) (view_of-take shape past stage later (omega arith))
     ∙ ap (λ (contents : List (List ℕ)). hashed View (view_of shape past stage ∷ contents))
-        (slice_range-take past (slots_before shape stage) (slots_before shape (stage + 1)) n rises next)
+    (slice_range-take past (slots_before shape stage) (slots_before shape (stage + 1)) n rises next)
 
 view_strings-take : (shape : Shape) (past : List (List ℕ)) (stage later : ℕ) → stage ≤ later
     → view_strings shape (take (slots_before shape later) past) stage ≡ view_strings shape past stage
@@ -74,13 +74,13 @@ view_strings-take shape past (suc stage) later le =
     let n : ℕ = slots_before shape later in
     ap (λ (string : List ℕ). string ∷ view_strings shape (take n past) stage) (view_string-take shape past (suc stage) later le)
     ∙ ap (λ (strings : List (List ℕ)). view_string shape past (suc stage) ∷ strings)
-        (view_strings-take shape past stage later (omega arith))
+    (view_strings-take shape past stage later (omega arith))
 
 front-strings : (shape : Shape) (past : List Post) (stage : ℕ) → view_strings shape (contents_of (take (slots_before shape stage) past))
     stage ≡ view_strings shape (contents_of past) stage
 front-strings shape past stage =
     ap (λ (contents : List (List ℕ)). view_strings shape contents stage)
-        (sym (take-map (λ (post : Post). post.content) (slots_before shape stage) past))
+    (sym (take-map (λ (post : Post). post.content) (slots_before shape stage) past))
     ∙ view_strings-take shape (contents_of past) stage stage (omega arith)
 
 pub views-listed : (log : Log) → HasViews log (view_strings_of log)
@@ -90,11 +90,11 @@ views-listed log zero past string lt e listed = elim (contains-cases _ [] string
 ]
 views-listed log (suc stage) past string lt e listed = elim (contains-cases _ (view_strings log.shape (contents_of past) stage) string
     listed) [
-  | inl here ↦ subst (λ (s : List ℕ). Contains (view_strings_of log) s) here (view-listed log (suc stage) past lt e)
-  | inr later ↦ views-listed log stage (take (slots_before log.shape stage) past) string (omega (arith, lt))
-      (before-front log stage (suc stage) past (omega arith) e)
-      (subst (λ (strings : List (List ℕ)). Contains strings string) (sym (front-strings log.shape past stage)) later)
-]
+      | inl here ↦ subst (λ (s : List ℕ). Contains (view_strings_of log) s) here (view-listed log (suc stage) past lt e)
+      | inr later ↦ views-listed log stage (take (slots_before log.shape stage) past) string (omega (arith, lt))
+          (before-front log stage (suc stage) past (omega arith) e)
+          (subst (λ (strings : List (List ℕ)). Contains strings string) (sym (front-strings log.shape past stage)) later)
+    ]
 
 -- ---- what contents show
 
@@ -102,7 +102,7 @@ layer-listed : (shape : Shape) (opening : List ℕ) (round shuffle side member l
     → Contains (layer_strings shape opening round shuffle side member) (layer_seed_string opening round shuffle side member layer)
 layer-listed shape opening round shuffle side member layer least most =
     contains-map-from (layer_seed_string opening round shuffle side member) (range_with_len 1 shape.members) layer
-        (range-has 1 shape.members layer least (omega arith))
+    (range-has 1 shape.members layer least (omega arith))
 
 shown-listed : (shape : Shape) (round : ℕ) (contents : List Content)
     → HasShown shape round contents (flat_map (strings_shown shape round) contents)
@@ -111,9 +111,9 @@ shown-listed shape round contents content posts seed opening shuffle layer liste
     ap (λ (body : Body). strings_shown_at shape round content.header body (kind_of_stage shape content.header.stage)) disputes
     ∙ ap (strings_shown_at shape round content.header (Dispute posts seed opening)) final in
     contains-flat-from (strings_shown shape round) contents content (layer_seed_string opening round shuffle 2 content.header.sender layer)
-        listed
+    listed
     (subst (λ (strings : List (List ℕ)). Contains strings (layer_seed_string opening round shuffle 2 content.header.sender layer))
-        (sym here)
+    (sym here)
     (layer-listed shape opening round shuffle 2 content.header.sender layer least most))
 
 pads-listed : (contents : List Content) → HasPads contents (flat_map strings_of_pads contents)
@@ -127,9 +127,9 @@ own-listed : (c : Configuration) (shuffle side layer : ℕ) → Contains (1 ∷ 
 unfolding own_layer_strings
 own-listed c shuffle side layer of_two on_two least most =
     contains-flat-from (λ s. flat_map (λ side. layer_strings (shape_in c) (own_opening c s side) c.round s side c.number) (1 ∷ 2 ∷ []))
-        (1 ∷ 2 ∷ []) shuffle _ of_two
+    (1 ∷ 2 ∷ []) shuffle _ of_two
     (contains-flat-from (λ side. layer_strings (shape_in c) (own_opening c shuffle side) c.round shuffle side c.number) (1 ∷ 2 ∷ []) side _
-        on_two
+    on_two
     (layer-listed (shape_in c) (own_opening c shuffle side) c.round shuffle side c.number layer least most))
 
 own-pad-listed : (c : Configuration) (pad : List ℕ) → Contains (made_pads (own_pad_seeds c) c.number c.message) pad
@@ -147,14 +147,14 @@ run_has_strings run = record {
       (Contains-append_left layers rest_2 _ (own-listed run.config shuffle side layer of_two on_two least most));
   shown = λ content posts seed opening shuffle layer listed disputes final least most.
       Contains-append_right views rest_1 _ (Contains-append_right layers rest_2 _
-          (Contains-append_left shown rest_3 _ (shown-listed run.log.shape run.config.round (contents_kept run) content posts seed opening
-          shuffle layer listed disputes final least most)));
+      (Contains-append_left shown rest_3 _ (shown-listed run.log.shape run.config.round (contents_kept run) content posts seed opening
+      shuffle layer listed disputes final least most)));
   own_pads = λ pad has. Contains-append_right views rest_1 _ (Contains-append_right layers rest_2 _
       (Contains-append_right shown rest_3 _ (Contains-append_left own sent_pads _ (own-pad-listed run.config pad has))));
   sent_pads = λ content pads pad listed says has.
       Contains-append_right views rest_1 _ (Contains-append_right layers rest_2 _
-          (Contains-append_right shown rest_3 _ (Contains-append_right own sent_pads _
-          (pads-listed (contents_kept run) content pads pad listed says has))));
+      (Contains-append_right shown rest_3 _ (Contains-append_right own sent_pads _
+      (pads-listed (contents_kept run) content pads pad listed says has))));
 }
   where
     views : List (List ℕ)
@@ -186,25 +186,25 @@ unfolding strings_of_transcript
 transcript_has_strings roster t = record {
   listed_views = λ log is stage past string lt e has. Contains-append_left listed rest_1 string
       (subst (λ (o : Option Log). Contains (option_map_or view_strings_of o []) string) (sym is)
-          (views-listed log stage past string lt e has));
+      (views-listed log stage past string lt e has));
   embedded_views = λ log has stage past string lt e listed_there. Contains-append_right listed rest_1 string
       (Contains-append_left embedded rest_2 string
       (contains-flat-from view_strings_of (logs_embedded roster t) log string has (views-listed log stage past string lt e listed_there)));
   shown = λ content posts seed opening shuffle layer has disputes final least most.
       Contains-append_right listed rest_1 _ (Contains-append_right embedded rest_2 _ (Contains-append_left shown rest_3 _
       (shown-listed (shape_of_roster roster) t.round (contents_listed roster t) content posts seed opening shuffle layer has disputes final
-          least most)));
+      least most)));
   pads = λ content pads pad has says is_said.
       Contains-append_right listed rest_1 _ (Contains-append_right embedded rest_2 _
-          (Contains-append_right shown rest_3 _ (Contains-append_left sent_pads accused _
-          (pads-listed (contents_listed roster t) content pads pad has says is_said))));
+      (Contains-append_right shown rest_3 _ (Contains-append_left sent_pads accused _
+      (pads-listed (contents_listed roster t) content pads pad has says is_said))));
   accused_pad = λ a log d detail is there.
       Contains-append_right listed rest_1 _ (Contains-append_right embedded rest_2 _
-          (Contains-append_right shown rest_3 _ (Contains-append_right sent_pads accused _
+      (Contains-append_right shown rest_3 _ (Contains-append_right sent_pads accused _
       (subst (λ (o : Option Accusation). Contains (option_map_or (accused_pad_strings roster t) o []) (pad_string (pad_of a.seed d.length)))
-          (sym detail)
+      (sym detail)
       (subst (λ (o : Option Description). Contains (option_map_or (λ (d : Description). pad_string (pad_of a.seed d.length) ∷ []) o [])
-          (pad_string (pad_of a.seed d.length)))
+      (pad_string (pad_of a.seed d.length)))
       (sym (ap (option_and_then (descriptor_accused a)) is ∙ there)) (contains-here _ []))))));
 }
   where
@@ -236,5 +236,5 @@ pub kept_is_read : KeptIsRead
 unfolding contents_read
 kept_is_read run post content kept reads =
     contains-filter_map-from (λ (post : Post). result_ok (content_read run.log.shape post.content)) (posts_kept run.log.posts) post content
-        kept
+    kept
     (ap result_ok reads)

@@ -55,19 +55,29 @@ turn-from-a : (shape : Shape) (stage shuffle k : ℕ) → kind_of_stage shape st
     → TurnAt shape stage shuffle k
 turn-from-a shape stage shuffle k e least most =
     let same = same-turn (kind_of_stage shape stage) 1 shuffle (stage - 1) k
-        (turn_a shape stage (stage - 1) (omega arith) (omega arith) (omega arith)) e in
+    (turn_a shape stage (stage - 1) (omega arith) (omega arith) (omega arith)) e in
     let turn = same.turn in
-    record { is = inl (sym same.shuffle); least = omega arith; most = omega arith; at = omega
-        (arith, submit-a shape shuffle (sym same.shuffle)) }
+    record {
+      is = inl (sym same.shuffle);
+      least = omega arith;
+      most = omega arith;
+      at = omega
+          (arith, submit-a shape shuffle (sym same.shuffle));
+    }
 
 turn-from-b : (shape : Shape) (stage shuffle k : ℕ) → kind_of_stage shape stage ≡ Some (Shuffle shuffle k) → shape.members + 7 < stage
     → stage < shape.members + shape.members + 8 → TurnAt shape stage shuffle k
 turn-from-b shape stage shuffle k e least most =
     let same = same-turn (kind_of_stage shape stage) 2 shuffle (stage - (shape.members + 7)) k
-        (turn_b shape stage (stage - (shape.members + 7)) (omega arith) (omega arith) (omega arith)) e in
+    (turn_b shape stage (stage - (shape.members + 7)) (omega arith) (omega arith) (omega arith)) e in
     let turn = same.turn in
-    record { is = inr (sym same.shuffle); least = omega arith; most = omega arith; at = omega
-        (arith, submit-b shape shuffle (sym same.shuffle)) }
+    record {
+      is = inr (sym same.shuffle);
+      least = omega arith;
+      most = omega arith;
+      at = omega
+          (arith, submit-b shape shuffle (sym same.shuffle));
+    }
 
 -- a stage between the turns of the two shuffles is no turn
 no-turn : (shape : Shape) (stage shuffle k : ℕ) → kind_of_stage shape stage ≡ Some (Shuffle shuffle k) → shape.members + 1 < stage

@@ -57,7 +57,7 @@ keys-sent c is =
     let stages : stage_count (shape_in c) ≡ suc (2 * length c.roster.keys + 9) = omega arith in
     contains-map-from (λ (post : Post). post.content) (posts_said (keys_run c)) (keys_post c)
     (contains-filter_map-from (λ stage. kept_in (keys_run c).log (own_slot (keys_run c) stage))
-        (range_with_len 0 (stage_count (shape_in c))) 0 (keys_post c)
+    (range_with_len 0 (stage_count (shape_in c))) 0 (keys_post c)
     (subst (λ (n : ℕ). Contains (range_with_len 0 n) 0) (sym stages) (range-first (2 * length c.roster.keys + 9))) (keys-there c is))
 
 keys-listed : (configs : List Configuration) (c : Configuration) (number : ℕ) → IsConfiguration c → Contains configs c → c.number ≡ number
@@ -66,7 +66,7 @@ unfolding contents_sent
 keys-listed configs c number is listed same =
     contains-flat-from sent (runs_of (map keys_run configs) number) (keys_run c) (keys_post c).content
     (contains-filter-from (λ (run : Run). run.config.number == number) (map keys_run configs) (keys_run c)
-        (contains-map-from keys_run configs c listed) (eq-eqb c.number number same))
+    (contains-map-from keys_run configs c listed) (eq-eqb c.number number same))
     (keys-sent c is)
 
 -- keys close nothing
@@ -84,7 +84,7 @@ keys_are_not_forged roster configs all one bytes post header (inl given) spelled
     let is = All-contains IsConfiguration configs keys.config all keys.listed in
     let own = (keys-admitted keys.config is).reads in
     let headers = header-same header (own_header keys.config [] 0) (header_of post.content) admitted.reads
-        (ap (λ (p : Post). header_of p.content) keys.is ∙ own) in
+    (ap (λ (p : Post). header_of p.content) keys.is ∙ own) in
     subst (λ (p : Post). Sent (map keys_run configs) header.sender p.content) (sym keys.is)
     (keys-listed configs keys.config header.sender is keys.listed (sym (ap (λ (h : Header). h.sender) headers)))
 keys_are_not_forged roster configs all one bytes post header (inr (outer, given, embedded)) spelled admitted numbered =
@@ -92,6 +92,6 @@ keys_are_not_forged roster configs all one bytes post header (inr (outer, given,
     let is = All-contains IsConfiguration configs keys.config all keys.listed in
     let own = (keys-admitted keys.config is).reads in
     let headers = header-same embedded.content.header (own_header keys.config [] 0) (header_of embedded.post.content)
-        (content-header (shape_of_roster roster) embedded.post.content embedded.content embedded.reads)
-        (ap (λ (p : Post). header_of p.content) keys.is ∙ own) in
+    (content-header (shape_of_roster roster) embedded.post.content embedded.content embedded.reads)
+    (ap (λ (p : Post). header_of p.content) keys.is ∙ own) in
     absurd (not-closing roster embedded.content.header.stage (ap (λ (h : Header). h.stage) headers) embedded.closing)

@@ -42,9 +42,9 @@ gives-post c slot bytes post other is =
     let admitted = admit-again c.roster c.round post is.content.header is.admitted in
     let sender : is.content.header.sender ≡ slot.sender = ap (λ (s : Slot). s.sender) is.named in
     let apart : (is.content.header.sender == c.number) ≡ false = false_from_ne_true (is.content.header.sender == c.number)
-        (λ same. other (sym sender ∙ eqb-true is.content.header.sender c.number same)) in
+    (λ same. other (sym sender ∙ eqb-true is.content.header.sender c.number same)) in
     let names : names_slot slot is.content.header ≡ true = subst (λ (s : Slot). names_slot s is.content.header ≡ true) is.named
-        (names-self is.content.header) in
+    (names-self is.content.header) in
     rw (framed, admitted, apart, names, is.reads) refl
 
 pub none-of : {A B : Type 0} (f : A → Option B) (xs : List A) (x : A) → first_some (map f xs) ≡ None → Contains xs x → f x ≡ None
@@ -72,7 +72,7 @@ missing_are_unheard c delivered slot all other = (
         let is = first_posts_delivered c delivered slot post all e in
         let parts = checks-parts c.roster c.round post is.checks.content is.checks.checks in
         let headers = header-same is.header is.checks.content.header (header_of post.content) is.admitted.reads
-            (content-header (shape_in c) post.content is.checks.content parts.2) in
+        (content-header (shape_in c) post.content is.checks.content parts.2) in
         absurd (unheard is.bytes post is.listed (record {
           spelled = (framed-found is.bytes post (All-contains IsBytes delivered is.bytes all is.listed) is.spelled).1;
           content = is.checks.content;

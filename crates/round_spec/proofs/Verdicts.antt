@@ -54,7 +54,7 @@ on-none v verdict_on member none is =
     let most = is.most in
     let same : (member - 1) + 1 ≡ member = omega arith in
     subst (λ (k : ℕ). verdict_on k ≡ None) same (first_below-each (λ place. verdict_on (place + 1)) (shape_at v).members none (member - 1)
-        (omega arith))
+    (omega arith))
 
 -- the least member on which there is one
 record IsFirstOn (v : ClosedStage) (verdict_on : ℕ → Option Verdict) (verdict : Verdict) : Type 0 where
@@ -105,7 +105,7 @@ justify-parts shape content (Err bad) e = absurd cc
 
 justified-parts : (v : ClosedStage) (content : Content) → is_content_justified v.roster v.round content ≡ true
     → (posts : List Post) × (posts_in_content v.roster v.round content ≡ Ok posts)
-        × (is_justified (shape_at v) content (contents_of posts) ≡ true)
+    × (is_justified (shape_at v) content (contents_of posts) ≡ true)
 unfolding is_content_justified
 justified-parts v content e = justify-parts (shape_at v) content (posts_in_content v.roster v.round content) e
 
@@ -165,15 +165,15 @@ slots-count shape content is (inl assents) =
     let long : length (slice_range (slots_of shape) a b) ≡ b - a = length-take-le (b - a) (drop a (slots_of shape)) within in
     let few : b - a ≡ shape.members = omega (arith, next) in
     assents.1 ∙ sym few ∙ sym long ∙ sym (ap length (cond-true (is_assent content.body) (slice_range (slots_of shape) a b)
-        (take (slots_before shape stage) (slots_of shape)) assents.0))
+    (take (slots_before shape stage) (slots_of shape)) assents.0))
 slots-count shape content is (inr dissents) =
     let stage : ℕ = content.header.stage in
     let n : ℕ = slots_before shape stage in
     let most = slots_before-most shape stage in
     let long : length (take n (slots_of shape)) ≡ n = length-take-le n (slots_of shape) (omega (arith, length-slots_of shape)) in
     dissents.2 ∙ sym long ∙ sym (ap length (cond-false (is_assent content.body)
-        (slice_range (slots_of shape) (slots_before shape (stage - 1)) (slots_before shape (stage - 1 + 1))) (take n (slots_of shape))
-        dissents.0))
+    (slice_range (slots_of shape) (slots_before shape (stage - 1)) (slots_before shape (stage - 1 + 1))) (take n (slots_of shape))
+    dissents.0))
 
 -- ---- no bad log and no equivocation
 
@@ -187,7 +187,7 @@ second-none : (v : ClosedStage) (member : ℕ) (content : Content) → equivocat
 unfolding equivocation
 second-none v member content none is reads =
     sym (ap (λ (r : Result Content Offence). first_some (map (second_content v) (pairs_read v r))) reads)
-        ∙ on-none v (equivocation_in v) member none is
+    ∙ on-none v (equivocation_in v) member none is
 
 -- so each member said what it ought to
 pub faithful : (v : ClosedStage) → IsWhole v → bad_log v ≡ None → equivocation v ≡ None → AreFaithful v
@@ -204,18 +204,18 @@ faithful v whole no_bad no_second member is =
         let kind' : IsClosingKind (shape_at v) content.header.stage = subst (IsClosingKind (shape_at v)) (sym stage_is) kind in
         let body : IsOfKind (shape_at v) content.header.stage content.body =
         body-kind (shape_at v) content.header.stage kind'.kind content.body
-            (closings_are_read (shape_at v) (post_in v v.stage member).content content kind'.kind kind'.vote reads kind'.is kind'.closes) in
+        (closings_are_read (shape_at v) (post_in v v.stage member).content content kind'.kind kind'.vote reads kind'.is kind'.closes) in
         let least = (closing-follows (shape_at v) content.header.stage kind'.kind kind'.vote kind'.is kind'.closes).0 in
         let rises = slots_before-rises (shape_at v) v.stage (v.stage + 1) (omega arith) in
         let long : slots_before (shape_at v) content.header.stage ≤ length v.posts = subst
-            (λ (s : ℕ). slots_before (shape_at v) s ≤ length v.posts) (sym stage_is) (omega (arith, whole.posts)) in
+        (λ (s : ℕ). slots_before (shape_at v) s ≤ length v.posts) (sym stage_is) (omega (arith, whole.posts)) in
         let parts = justified-parts v content justified in
         let contents : contents_of parts.0 ≡ embedded_of (shape_at v) content (past_at v) =
         embedded-contents v 0 (embedded_pairs v.roster content) parts.0 parts.1 (second-none v member content no_second is reads)
         ∙ kept-pairs v content (slots-count (shape_at v) content kind' body)
         ∙ kept-embedded v content least long in
         let closing : IsSome (option_and_then vote_of (kind_of_stage (shape_at v) content.header.stage)) = subst
-            (λ (s : ℕ). IsSome (option_and_then vote_of (kind_of_stage (shape_at v) s))) (sym stage_is) whole.closing in
+        (λ (s : ℕ). IsSome (option_and_then vote_of (kind_of_stage (shape_at v) s))) (sym stage_is) whole.closing in
         let assents : is_assent content.body ≡ agree_before v =
         one-kind (shape_at v) (past_at v) content closing (sym (ap (is_justified (shape_at v) content) contents) ∙ parts.2)
         ∙ ap (votes_agree (shape_at v) (past_at v)) stage_is in
@@ -240,7 +240,7 @@ closing-body : (v : ClosedStage) (member : ℕ) → closing_body v member ≡ bo
 unfolding said_in
 closing-body v member =
     ap (λ (bytes : List ℕ). body_of (content_read (shape_at v) bytes))
-        (get_or-map (λ (post : Post). post.content) v.posts (slot_number (shape_at v) v.stage member) no_post)
+    (get_or-map (λ (post : Post). post.content) v.posts (slot_number (shape_at v) v.stage member) no_post)
 
 faithful-body : (v : ClosedStage) (member : ℕ) (is : IsFaithful v member) → closing_body v member ≡ is.content.body
 faithful-body v member is = closing-body v member ∙ ap body_of is.reads
@@ -259,7 +259,7 @@ all-say : (v : ClosedStage) (is_one : Body → Bool) → ((member : ℕ) → IsM
 all-say v is_one each =
     list_all-map (λ body. is_one body) (closing_body v) (range_with_len 1 (shape_at v).members)
     ∙ range-all (λ member. is_one (closing_body v member)) 1 (shape_at v).members
-        (λ k le lt. each k (record { least = le; most = omega arith }))
+    (λ k le lt. each k (record { least = le; most = omega arith }))
 
 not-all-say : (v : ClosedStage) (is_one : Body → Bool) → 1 ≤ (shape_at v).members → is_one (closing_body v 1) ≡ false
     → all_say v is_one ≡ false
@@ -281,7 +281,7 @@ unfolding concluded_at
 concluded-dissented v least all differ =
     let first : IsMemberOf v 1 = record { least = omega arith; most = least } in
     cond-false (all_say v is_assent) (agreed_at v (kind_of_stage (shape_at v) v.stage))
-        (if all_say v is_dissent then dissented_at v else Goes)
+    (if all_say v is_dissent then dissented_at v else Goes)
     (not-all-say v is_assent least (ap is_assent (faithful-body v 1 (all 1 first)) ∙ (all 1 first).assents ∙ differ))
     ∙ cond-true (all_say v is_dissent) (dissented_at v) Goes
     (all-say v is_dissent (λ member is. ap is_dissent (faithful-body v member (all member is)) ∙ (all member is).dissents differ))
@@ -328,7 +328,7 @@ case-equivocation v x verdict none some is =
     let read = read-justified v (closing_content v found.member) (bad-none v none found.member found.is_member) in
     let pairs_are : pairs_read v (closing_content v found.member) ≡ embedded_pairs v.roster read.0 = ap (pairs_read v) read.1 in
     let first = first-in (second_content v) (embedded_pairs v.roster read.0) x
-        (sym (ap (λ (pairs : List (Slot × List ℕ)). first_some (map (second_content v) pairs)) pairs_are) ∙ found.here) in
+    (sym (ap (λ (pairs : List (Slot × List ℕ)). first_some (map (second_content v) pairs)) pairs_are) ∙ found.here) in
     let pair : Slot × List ℕ = first.0 in
     let kept : List ℕ = (post_in v pair.0.stage pair.0.sender).content in
     let here = unless-some (bytes_eq (content_of_post (frame_of pair.1)) kept) _ x first.2 in
@@ -397,13 +397,13 @@ agree-confirm v all agree kind = record {
 -- an item that gives a verdict is an accusation that holds
 pad-parts : (v : ClosedStage) (item : Option (List ℕ)) (x : Verdict) → bad_pad_by v item ≡ Some x
     → (bytes : List ℕ) × (a : Accusation) × (item ≡ Some bytes) × (accusation_of bytes ≡ Some a)
-        × (is_held (shape_at v) (past_at v) a ≡ true) × (x ≡ bad_pad v a)
+    × (is_held (shape_at v) (past_at v) a ≡ true) × (x ≡ bad_pad v a)
 pad-parts v None x e = absurd (none-some x e)
 pad-parts v (Some bytes) x e = by_accusation (accusation_of bytes) refl e
   where
     by_accusation : (o : Option Accusation) → accusation_of bytes ≡ o → option_and_then (bad_pad_if v) o ≡ Some x
         → (bytes' : List ℕ) × (a : Accusation) × (Some bytes ≡ Some bytes') × (accusation_of bytes' ≡ Some a)
-            × (is_held (shape_at v) (past_at v) a ≡ true) × (x ≡ bad_pad v a)
+        × (is_held (shape_at v) (past_at v) a ≡ true) × (x ≡ bad_pad v a)
     by_accusation None is e = absurd (none-some x e)
     by_accusation (Some a) is e =
         let held = held_parts (is_held (shape_at v) (past_at v) a) (bad_pad v a) e in
@@ -447,7 +447,7 @@ case-final v shuffle verdict all agree kind is = by_seed (wrong_seed v shuffle) 
     by_seed None e =
         let agrees = agree-final v shuffle all agree kind e in
         let is_so : verdict ≡ (if shuffle == 1 then Goes else unwrap_or (first_bad_pad v) Done) = is
-            ∙ ap (λ (o : Option Verdict). unwrap_or o (if shuffle == 1 then Goes else unwrap_or (first_bad_pad v) Done)) e in
+        ∙ ap (λ (o : Option Verdict). unwrap_or o (if shuffle == 1 then Goes else unwrap_or (first_bad_pad v) Done)) e in
         elim (cases_Bool (shuffle == 1)) [
           | inl first ↦ GoesOn agrees (inl (kind ∙ ap (λ (s : ℕ). Some (AtFinal s)) (eqb-true shuffle 1 first)))
               (is_so ∙ cond-true (shuffle == 1) Goes (unwrap_or (first_bad_pad v) Done) first)

@@ -116,7 +116,7 @@ votes-kind shape stage closing = by_kind (kind_of_stage shape stage) refl
 vote-place : (shape : Shape) (past : List (List ℕ)) (stage i : ℕ) (kind : StageKind) → IsVotesOf shape stage kind
     → slots_before shape (stage + 1) ≤ length past
     → i < length (contents_at shape past stage) → (i < shape.members)
-        × (get_or (contents_at shape past stage) i [] ≡ slice_index_or past (slot_number shape stage (i + 1)) [])
+    × (get_or (contents_at shape past stage) i [] ≡ slice_index_or past (slot_number shape stage (i + 1)) [])
 vote-place shape past stage i kind is whole lt =
     let a : ℕ = slots_before shape stage in
     let b : ℕ = slots_before shape (stage + 1) in
@@ -125,9 +125,11 @@ vote-place shape past stage i kind is whole lt =
     let long : length (contents_at shape past stage) ≡ b - a = length-take-le (b - a) (drop a past) within in
     let few : i < b - a = omega (arith, long) in
     let number : a + i ≡ slot_number shape stage (i + 1) = sym (ap (λ (o : Option StageKind). a + place_in o (i + 1)) is.0
-        ∙ ap (λ (k : ℕ). a + k) (is.2 (i + 1)) ∙ omega arith) in
-    (omega (arith, next), get_or-take (b - a) (drop a past) i [] few ∙ get_or-drop a past i []
-        ∙ ap (λ (k : ℕ). slice_index_or past k []) number)
+    ∙ ap (λ (k : ℕ). a + k) (is.2 (i + 1)) ∙ omega arith) in (
+      omega (arith, next),
+      get_or-take (b - a) (drop a past) i [] few ∙ get_or-drop a past i []
+          ∙ ap (λ (k : ℕ). slice_index_or past k []) number,
+    )
 
 -- the votes stand in the front that reaches to the closing stage
 pub votes-front : (shape : Shape) (past : List (List ℕ)) (stage : ℕ) → is_closing shape stage ≡ true
@@ -135,7 +137,7 @@ pub votes-front : (shape : Shape) (past : List (List ℕ)) (stage : ℕ) → is_
 votes-front shape past stage closing =
     let least = (votes-kind shape stage closing).0 in
     ap (are_unanimous shape) (slice_range-take past (slots_before shape (stage - 1)) (slots_before shape (stage - 1 + 1))
-        (slots_before shape stage)
+    (slots_before shape stage)
     (slots_before-rises shape (stage - 1) (stage - 1 + 1) (omega arith)) (slots_before-rises shape (stage - 1 + 1) stage (omega arith)))
 
 -- ---- blame
@@ -187,10 +189,15 @@ all-same q closing whole none = by_members q.shape.members refl
         other = other;
         vote = (vote member m).0;
         other_vote = (vote other o).0;
-        said = record { speaks = member-speaks q.shape (q.stage - 1) member follows.1.0 follows.1.1 m.least m.most; read = (vote member m).1
-            };
-        other_said = record { speaks = member-speaks q.shape (q.stage - 1) other follows.1.0 follows.1.1 o.least o.most; read =
-            (vote other o).1 };
+        said = record {
+          speaks = member-speaks q.shape (q.stage - 1) member follows.1.0 follows.1.1 m.least m.most;
+          read = (vote member m).1;
+        };
+        other_said = record {
+          speaks = member-speaks q.shape (q.stage - 1) other follows.1.0 follows.1.1 o.least o.most;
+          read =
+              (vote other o).1;
+        };
         unlike = λ same. (let t = (bytes_eq-Decides (vote member m).0.header.view (vote other o).0.header.view).1 same in cc);
       }))) none)
     ]
@@ -205,7 +212,7 @@ all-same q closing whole none = by_members q.shape.members refl
         let few = at.0 in
         let o : IsMember q (i + 1) = record { least = omega arith; most = omega arith } in
         ap (vote_in q.shape) at.1 ∙ (vote (i + 1) o).2 ∙ ap (λ (view : List ℕ). Some (record { yes = true; view = view }))
-            (one_view (i + 1) 1 o m))
+        (one_view (i + 1) 1 o m))
 
 pub not_unanimous_blames : NotUnanimousBlames
 not_unanimous_blames q closing whole differ = elim (some-or (culprit_of q)) [

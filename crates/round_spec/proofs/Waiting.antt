@@ -32,7 +32,7 @@ earlier-complete : (c : Configuration) (others : Others) (stage : ℕ) → IsRea
 earlier-complete c others stage is lt =
     complete-before (settled_log c others) (course_of c others).at stage
     (some_is (before (settled_log c others) (course_of c others).at) _ (before-settled c others (course_of c others).at is (omega arith)))
-        lt
+    lt
 
 -- and that one is not, where the round is open
 here-incomplete : (c : Configuration) (others : Others) → IsReached c others (course_of c others) → IsStopped c others (course_of c others)
@@ -41,7 +41,7 @@ here-incomplete : (c : Configuration) (others : Others) → IsReached c others (
 here-incomplete c others is stops still = false_from_ne_true _ (λ complete.
     let kind = stops.stage still in
     let there = before-complete (settled_log c others) ((course_of c others).at + 1)
-        (λ earlier lt. each earlier lt complete (cases_lt earlier (course_of c others).at)) in
+    (λ earlier lt. each earlier lt complete (cases_lt earlier (course_of c others).at)) in
     none-some _ (sym (stops.unfilled still) ∙ filled-if c others kind.0 there.0 is still kind.1 there.1))
   where
     each : (earlier : ℕ) → earlier < (course_of c others).at + 1 → is_complete (settled_log c others) (course_of c others).at ≡ true
@@ -64,7 +64,7 @@ shape-same c others n lt = lt
 
 missing-is : (c : Configuration) (others : Others) (member : ℕ) → is_slot (shape_in c) (course_of c others).at member ≡ true
     → is_missing (settled_log c others) (course_of c others).at member ≡ is_none
-        (kept_in (settled_log c others) (record { stage = (course_of c others).at; sender = member }))
+    (kept_in (settled_log c others) (record { stage = (course_of c others).at; sender = member }))
 unfolding settled_log
 missing-is c others member speaks = ap (λ (b : Bool). b && is_none
     (kept_in (settled_log c others) (record { stage = (course_of c others).at; sender = member }))) speaks
@@ -72,10 +72,10 @@ missing-is c others member speaks = ap (λ (b : Bool). b && is_none
 first-incomplete : (c : Configuration) (others : Others) (kind : StageKind) → IsReached c others (course_of c others)
     → IsStopped c others (course_of c others) → is_open (course_of c others).verdict ≡ true
     → kind_of_stage (shape_in c) (course_of c others).at ≡ Some kind
-        → first_incomplete_of (settled_log c others) ≡ Some (course_of c others).at
+    → first_incomplete_of (settled_log c others) ≡ Some (course_of c others).at
 first-incomplete c others kind is stops still e =
     first_below-some (incomplete_stage (settled_log c others)) (stage_count (settled_log c others).shape) (course_of c others).at
-        (course_of c others).at (shape-same c others (course_of c others).at (within-round c (course_of c others).at kind e))
+    (course_of c others).at (shape-same c others (course_of c others).at (within-round c (course_of c others).at kind e))
     (λ j lt. complete-none (settled_log c others) j (earlier-complete c others j is lt))
     (incomplete-some (settled_log c others) (course_of c others).at (here-incomplete c others is stops still))
 
@@ -114,8 +114,14 @@ open_rounds_wait c others small least names still =
 
 -- an inquiry of a verdict with another shape and another past
 inquiry_with : ClosedStage → Shape → List (List ℕ) → Inquiry
-inquiry_with v shape past = record { shape = shape; past = past; stage = v.stage; round = v.round; shown = shown_at v
-    (kind_of_stage (shape_at v) v.stage) }
+inquiry_with v shape past = record {
+  shape = shape;
+  past = past;
+  stage = v.stage;
+  round = v.round;
+  shown = shown_at v
+      (kind_of_stage (shape_at v) v.stage);
+}
 
 pub inquiry_is_of_log : InquiryIsOfLog
 unfolding inquiry_with

@@ -26,16 +26,19 @@ part-contains : (delivered : List (List ℕ)) (count i : ℕ) (bytes : List ℕ)
     → Contains delivered bytes
 part-contains delivered count i bytes e =
     let within = slice_get_within (take count delivered) i bytes e in
-    let long = length-take count delivered in
-    (i, omega (arith, long), sym (get_or-take count delivered i bytes (omega (arith, long)))
-        ∙ get_or_from_slice_get (take count delivered) i bytes bytes e)
+    let long = length-take count delivered in (
+      i,
+      omega (arith, long),
+      sym (get_or-take count delivered i bytes (omega (arith, long)))
+          ∙ get_or_from_slice_get (take count delivered) i bytes bytes e,
+    )
 
 sound-heard : (c : Configuration) (delivered : List (List ℕ)) (count : ℕ) (bytes : List ℕ) (heard : Heard) → is_ok heard.content ≡ true
     → ((first : Post) → first_posts c delivered (slot_named heard.header) ≡ Some first → first.content ≡ heard.post.content)
     → first_some (malformed_conviction c bytes heard ∷ contradiction c (first_posts c (take count delivered)) bytes heard ∷ []) ≡ None
 sound-heard c delivered count bytes heard reads same =
     first_some-none (malformed_conviction c bytes heard) (contradiction c firsts bytes heard ∷ [])
-        (cond-true (is_ok heard.content) None _ reads)
+    (cond-true (is_ok heard.content) None _ reads)
     ∙ first_some-none (contradiction c firsts bytes heard) [] (by_first (firsts (slot_named heard.header)) refl)
   where
     firsts : Others
@@ -46,7 +49,7 @@ sound-heard c delivered count bytes heard reads same =
     by_first (Some first) e =
         let kept = first_posts_contained c delivered count (slot_named heard.header) first e in
         let equal : bytes_eq first.content heard.post.content ≡ true = (bytes_eq-Decides first.content heard.post.content).1
-            (same first kept) in
+        (same first kept) in
         ap (option_and_then (contradiction_with c bytes heard)) e ∙ cond-true (bytes_eq first.content heard.post.content) None _ equal
 
 sound-string : (c : Configuration) (delivered : List (List ℕ)) (count : ℕ) (bytes : List ℕ) → AreConsistent c delivered
@@ -60,7 +63,7 @@ sound-string c delivered count bytes consistent listed = by_heard (heard_of c by
     by_heard (Some heard) e =
         let is = consistent bytes heard listed e in
         ap (option_and_then (λ (heard : Heard). first_some (malformed_conviction c bytes heard ∷ contradiction c
-            (first_posts c (take count delivered)) bytes heard ∷ []))) e
+        (first_posts c (take count delivered)) bytes heard ∷ []))) e
         ∙ sound-heard c delivered count bytes heard is.0 is.1
 
 sound-part : (c : Configuration) (delivered : List (List ℕ)) (count : ℕ) → AreConsistent c delivered
@@ -106,7 +109,7 @@ unfolding least_ending
 none-ends c delivered e =
     nothing_mapped (λ (verdict : Verdict). (length delivered, verdict)) (ending_of c delivered)
     (sym (ending-all c delivered (length delivered) (omega arith))
-        ∙ first_below-each (ending_at c delivered) (suc (length delivered)) e (length delivered) (omega arith))
+    ∙ first_below-each (ending_at c delivered) (suc (length delivered)) e (length delivered) (omega arith))
 
 -- where the course of a first part has ended, so has that of the whole
 same-end : (c : Configuration) (delivered : List (List ℕ)) (count : ℕ) → is_open (stand_after c (take count delivered)).verdict ≡ false
@@ -114,7 +117,7 @@ same-end : (c : Configuration) (delivered : List (List ℕ)) (count : ℕ) → i
 unfolding course_of
 same-end c delivered count ended =
     course-end-unique c (first_posts c (take count delivered)) (first_posts c delivered) (stage_count (shape_in c))
-        (stage_count (shape_in c)) first_stand
+    (stage_count (shape_in c)) first_stand
     (first_posts_contained c delivered count) ended (omega arith)
 
 -- ---- the result

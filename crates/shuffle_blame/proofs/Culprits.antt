@@ -64,7 +64,7 @@ pub view-told : (log : Log) (stage round : ℕ) (shown : List Shown) (found : Op
 view-told log stage round shown found e =
     let posts = option_map-some (λ (posts : List Post). first_wrong log.shape (contents_of posts) stage) (before log stage) found e in
     ap (λ (o : Option (List Post)). option_map (λ (slot : Slot). fault View slot.sender)
-        (first_wrong log.shape (contents_of (unwrap_or o [])) stage)) posts.1
+    (first_wrong log.shape (contents_of (unwrap_or o [])) stage)) posts.1
     ∙ ap (option_map (λ (slot : Slot). fault View slot.sender)) posts.2
 
 -- what is shown at the end of a shuffle, made ready for use
@@ -75,7 +75,7 @@ shown-length shape o shuffle shown e are = subst (λ (o : Option StageKind). Are
 pub shown-told : (log : Log) (stage round shuffle : ℕ) (shown : List Shown) (parts : List Part)
     → kind_of_stage log.shape stage ≡ Some (Final shuffle) → shown_by parts ≡ shown
     → fault_shown (Some (Final shuffle)) (inquiry_of log stage round (shown_by parts)) ≡ fault_shown (kind_of_stage log.shape stage)
-        (inquiry_of log stage round shown)
+    (inquiry_of log stage round shown)
 shown-told log stage round shuffle shown parts kind same =
     ap (λ (s : List Shown). fault_shown (Some (Final shuffle)) (inquiry_of log stage round s)) same
     ∙ ap (λ (o : Option StageKind). fault_shown o (inquiry_of log stage round shown)) (sym kind)

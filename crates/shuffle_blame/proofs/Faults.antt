@@ -35,7 +35,7 @@ first_member-each q fault_at member none is =
     let most = is.most in
     let same : (member - 1) + 1 ≡ member = omega arith in
     subst (λ (k : ℕ). fault_at k ≡ None) same (first_below-each (λ place. fault_at (place + 1)) q.shape.members none (member - 1)
-        (omega arith))
+    (omega arith))
 
 -- ---- views
 
@@ -48,7 +48,7 @@ no_view_fault q stage sender none speaks before =
     let slot : Slot = record { stage = stage; sender = sender } in
     let number : ℕ = slot_number q.shape stage sender in
     let wrong : first_wrong q.shape q.past q.stage ≡ None = nothing_mapped (λ (slot : Slot). fault View slot.sender)
-        (first_wrong q.shape q.past q.stage) none in
+    (first_wrong q.shape q.past q.stage) none in
     let within = slot_number-within q.shape stage sender speaks in
     let rises = slots_before-rises q.shape (stage + 1) q.stage (omega arith) in
     let here = first_below-each (wrong_at q.shape q.past) (slots_before q.shape q.stage) wrong number (omega (arith, within.1)) in
@@ -97,7 +97,7 @@ pub no_seed_fault : NoSeedFault
 no_seed_fault q shuffle member none is =
     let here = first_member-each q (λ member. fault_unless (shows_its_seed q shuffle member) (fault OuterSeed member)) member none is in
     key_said shuffle (outer_seed q member) (body_in q 0 member)
-        (fault_unless-holds (shows_its_seed q shuffle member) (fault OuterSeed member) here)
+    (fault_unless-holds (shows_its_seed q shuffle member) (fault OuterSeed member) here)
 
 -- ---- votes
 

@@ -24,7 +24,7 @@ first_member-none q fault_at each = first_below-none (λ place. fault_at (place 
 
 pub first_member-some : (q : Inquiry) (fault_at : ℕ → Option Fault) (member : ℕ) (x : Fault) → IsMember q member
     → ((earlier : ℕ) → 1 ≤ earlier → earlier < member → fault_at earlier ≡ None) → fault_at member ≡ Some x
-        → first_member q fault_at ≡ Some x
+    → first_member q fault_at ≡ Some x
 first_member-some q fault_at member x is before here =
     let least = is.least in
     let most = is.most in
@@ -39,7 +39,7 @@ pub all_pass : (q : Inquiry) (test : ℕ → Bool) (at : ℕ → Fault)
     → first_member q (λ member. fault_unless (test member) (at member)) ≡ None
 all_pass q test at each =
     first_member-none q (λ member. fault_unless (test member) (at member))
-        (λ member least most. fault_unless-true (test member) (at member) (each member least most))
+    (λ member least most. fault_unless-true (test member) (at member) (each member least most))
 
 pub one_fails : (q : Inquiry) (test : ℕ → Bool) (at : ℕ → Fault) (member : ℕ) → IsMember q member
     → ((earlier : ℕ) → 1 ≤ earlier → earlier < member → test earlier ≡ true) → test member ≡ false
@@ -47,7 +47,7 @@ pub one_fails : (q : Inquiry) (test : ℕ → Bool) (at : ℕ → Fault) (member
 one_fails q test at member is before fails =
     first_member-some q (λ member. fault_unless (test member) (at member)) member (at member) is
     (λ earlier least lt. fault_unless-true (test earlier) (at earlier) (before earlier least lt))
-        (fault_unless-false (test member) (at member) fails)
+    (fault_unless-false (test member) (at member) fails)
 
 -- ---- what members show and said
 
@@ -58,7 +58,7 @@ pub part-opening : (log : Log) (ended : Ended) (parts : List Part) (member place
 part-opening log ended parts member place part at lt here =
     ap (λ (k : ℕ). get_or (map (λ (s : Shown). s.outer_opening) (shown_by parts)) k []) (sym at)
     ∙ get_or-map (λ (s : Shown). s.outer_opening) (shown_by parts) place part.shown []
-        (omega (arith, length-map parts (λ (part : Part). part.shown)))
+    (omega (arith, length-map parts (λ (part : Part). part.shown)))
     ∙ ap (λ (s : Shown). s.outer_opening) (get_or-map (λ (part : Part). part.shown) parts place part part.shown lt)
     ∙ ap (λ (part : Part). part.shown.outer_opening) (sym here)
 
@@ -70,7 +70,7 @@ part-seed log ended parts member place part at lt here =
     ∙ ap (λ (part : Part). part.shown.outer_seed) here
     ∙ ap (λ (s : Shown). s.outer_seed) (sym (get_or-map (λ (part : Part). part.shown) parts place part part.shown lt))
     ∙ sym (get_or-map (λ (s : Shown). s.outer_seed) (shown_by parts) place part.shown []
-        (omega (arith, length-map parts (λ (part : Part). part.shown))))
+    (omega (arith, length-map parts (λ (part : Part). part.shown))))
     ∙ ap (λ (k : ℕ). get_or (outer_seeds (inquiry_at log ended parts)) k []) at
 
 pub submissions-next : (q : Inquiry) (sender : ℕ) (list : List (List ℕ)) (bytes : List ℕ) → 1 ≤ sender
@@ -90,5 +90,8 @@ submission-at q member d least most = get_or-map-range_with_len (submission q) 1
 
 -- what holds below a number and at it
 pub up_to : (P : ℕ → Type 0) (n : ℕ) → ((k : ℕ) → 1 ≤ k → k < n → P k) → P n → (k : ℕ) → 1 ≤ k → k < n + 1 → P k
-up_to P n below here k least lt = elim (cases_lt k n) [ inl before ↦ below k least before | inr now ↦ subst P
-    (let same : n ≡ k = omega arith in same) here ]
+up_to P n below here k least lt = elim (cases_lt k n) [
+  | inl before ↦ below k least before
+  | inr now ↦ subst P
+      (let same : n ≡ k = omega arith in same) here
+]

@@ -12,7 +12,7 @@ use Rattle.shuffle_blame.specs.Laws.{PermutationsAreFound}
 
 permutation-cons : (entry : List ℕ) (entries others : List (List ℕ))
     → is_permutation (entry ∷ entries) others ≡ is_passed (λ place. is_permutation entries (remove others place))
-        (position (bytes_eq entry) others)
+    (position (bytes_eq entry) others)
 unfolding is_permutation
 permutation-cons entry entries others = refl
 
@@ -33,7 +33,7 @@ permutation_there [] [] e = IsPermutation-refl []
 permutation_there [] (body ∷ bodies) e = absurd cc
 permutation_there (entry ∷ entries) bodies e =
     let found = passed-some (λ place. is_permutation entries (remove bodies place)) (position (bytes_eq entry) bodies)
-        (sym (permutation-cons entry entries bodies) ∙ e) in
+    (sym (permutation-cons entry entries bodies) ∙ e) in
     IsPermutation-trans bodies (entry ∷ remove bodies found.0) (entry ∷ entries) (to_front entry bodies found.0 found.1)
     (IsPermutation-cons entry (remove bodies found.0) entries (permutation_there entries (remove bodies found.0) found.2))
 
@@ -64,7 +64,7 @@ count-absent entry (other ∷ others) fails =
     let first : bytes_eq entry other ≡ false = fails 0 (omega arith) in
     let rest : count_of entry others ≡ 0 = count-absent entry others (λ k lt. fails (suc k) (omega arith)) in
     count-cons entry other others ∙ ap (λ (b : Bool). cond b 1 0 + count_of entry others) first
-        ∙ (let sum : cond false 1 0 + count_of entry others ≡ 0 = omega (arith, rest) in sum)
+    ∙ (let sum : cond false 1 0 + count_of entry others ≡ 0 = omega (arith, rest) in sum)
 
 -- the same number of each entry
 SameCounts : List (List ℕ) → List (List ℕ) → Type 0
@@ -111,7 +111,7 @@ permutation_back [] (body ∷ bodies) same =
     absurd (omega arith)
 permutation_back (entry ∷ entries) bodies same =
     by_place (position (bytes_eq entry) bodies) refl (λ place e. permutation_back entries (remove bodies place)
-        (counts-rest entry entries bodies place e same))
+    (counts-rest entry entries bodies place e same))
   where
     by_place : (o : Option ℕ) → position (bytes_eq entry) bodies ≡ o
         → ((place : ℕ) → position (bytes_eq entry) bodies ≡ Some place → is_permutation entries (remove bodies place) ≡ true)
@@ -126,5 +126,8 @@ permutation_back (entry ∷ entries) bodies same =
 
 pub permutations_are_found : PermutationsAreFound
 unfolding SameCounts
-permutations_are_found list bodies = (permutation_there list bodies, λ order. permutation_back list bodies
-    (λ y. sym (count-order y bodies list order)))
+permutations_are_found list bodies = (
+  permutation_there list bodies,
+  λ order. permutation_back list bodies
+      (λ y. sym (count-order y bodies list order)),
+)

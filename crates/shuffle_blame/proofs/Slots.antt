@@ -30,7 +30,7 @@ said-there : (log : Log) (stage round : ℕ) (shown : List Shown) (slot : Slot) 
 said-there log stage round shown slot kind complete at speaks_there lt =
     let posts = some_of (before log stage) complete in
     let is : is_slot log.shape slot.stage slot.sender ≡ true = ap (λ (o : Option StageKind). speaks log.shape o slot.sender) at
-        ∙ speaks_there in
+    ∙ speaks_there in
     body_kept-past log stage round shown posts.0 slot posts.1 is lt
 
 -- ---- votes
@@ -69,7 +69,7 @@ pub vote-said : (log : Log) (stage round member : ℕ) (shown : List Shown) → 
 vote-said log stage round member shown closing complete least most =
     let votes = votes-before log.shape stage closing in
     said-there log stage round shown (record { stage = stage - 1; sender = member }) votes.kind complete votes.at
-        (votes.all_speak member (member-there log.shape.members member least most)) (omega (arith, votes.least))
+    (votes.all_speak member (member-there log.shape.members member least most)) (omega (arith, votes.least))
 
 -- ---- the end of a shuffle
 
@@ -81,17 +81,17 @@ pub keys-said : (log : Log) (ended : Ended) (parts : List Part) (member : ℕ) �
     → body_kept log (record { stage = 0; sender = member }) ≡ body_in (inquiry_at log ended parts) 0 member
 keys-said log ended parts member is least most =
     said-there log ended.stage ended.round (shown_by parts) (record { stage = 0; sender = member }) Keys is.complete refl
-        (member-there log.shape.members member least most)
+    (member-there log.shape.members member least most)
     (omega (arith, end-least log.shape ended.stage ended.shuffle is.ends))
 
 pub submission-said : (log : Log) (ended : Ended) (parts : List Part) (member : ℕ)
     → kind_of_stage log.shape ended.stage ≡ Some (Final ended.shuffle) → IsSome (before log ended.stage)
     → 1 ≤ member → member ≤ log.shape.members
     → body_kept log (record { stage = ended.stage - (log.shape.members + 2); sender = member }) ≡ body_in (inquiry_at log ended parts)
-        (submit_stage (inquiry_at log ended parts)) member
+    (submit_stage (inquiry_at log ended parts)) member
 submission-said log ended parts member ends complete least most =
     said-there log ended.stage ended.round (shown_by parts) (record { stage = ended.stage - (log.shape.members + 2); sender = member })
-        (Submit ended.shuffle) complete
+    (Submit ended.shuffle) complete
     (submit_there log.shape ended.stage ended.shuffle ends) (member-there log.shape.members member least most)
     (omega (arith, end-least log.shape ended.stage ended.shuffle ends))
 
@@ -100,6 +100,6 @@ pub turn-said : (log : Log) (ended : Ended) (parts : List Part) (turn : ℕ) →
     ≡ body_in (inquiry_at log ended parts) (submit_stage (inquiry_at log ended parts) + turn) turn
 turn-said log ended parts turn is least most =
     said-there log ended.stage ended.round (shown_by parts) (record { stage = ended.stage - (log.shape.members + 2) + turn; sender = turn })
-        (Shuffle ended.shuffle turn) is.complete
+    (Shuffle ended.shuffle turn) is.complete
     (turn_there log.shape ended.stage ended.shuffle turn is.ends least most) (eq-eqb turn turn refl)
     (omega (arith, end-least log.shape ended.stage ended.shuffle is.ends))

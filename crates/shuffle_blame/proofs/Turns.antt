@@ -22,8 +22,14 @@ record Ordered (o said : Option (List (List ℕ))) : Type 0 where
   order : IsPermutation bodies list
 
 ordered : (o said : Option (List (List ℕ))) → is_order_of o said ≡ true → Ordered o said
-ordered (Some bodies) (Some list) e = record { bodies = bodies; list = list; first = refl; second = refl; order = permutation_there list
-    bodies e }
+ordered (Some bodies) (Some list) e = record {
+  bodies = bodies;
+  list = list;
+  first = refl;
+  second = refl;
+  order = permutation_there list
+      bodies e;
+}
 ordered None said e = absurd cc
 ordered (Some bodies) None e = absurd cc
 
@@ -41,12 +47,12 @@ next_list q turns lt so_far right =
     let before : list_after q (suc turns - 1) ≡ Some so_far.list = ap (list_after q) place ∙ so_far.said in
     let bodies : stripped seed so_far.list ≡ Some said.bodies = sym (ap (option_and_then (stripped seed)) before) ∙ said.first in
     let rest = strips_in_any_order seed so_far.list so_far.bodies said.bodies (IsPermutation-sym so_far.bodies so_far.list so_far.order)
-        bodies in
+    bodies in
     let more = strips_through_more (take turns (outer_seeds q)) seed (submissions q) so_far.bodies so_far.stripped in
     let next : suc turns ≡ turns + 1 = omega arith in
     let seeds : take (suc turns) (outer_seeds q) ≡ take turns (outer_seeds q) ++ seed ∷ []
     = ap (λ (k : ℕ). take k (outer_seeds q)) next ∙ seeds-next q turns lt
-        ∙ ap (λ (k : ℕ). take turns (outer_seeds q) ++ outer_seed q k ∷ []) (sym next) in
+    ∙ ap (λ (k : ℕ). take turns (outer_seeds q) ++ outer_seed q k ∷ []) (sym next) in
     record {
       list = said.list;
       bodies = rest.0;
@@ -65,7 +71,7 @@ lists_are_stripped q zero le right = record {
 }
 lists_are_stripped q (suc turns) le right =
     next_list q turns (omega arith) (lists_are_stripped q turns (omega arith) (λ turn least most. right turn least (omega arith)))
-        (right (suc turns) (omega arith) (omega arith))
+    (right (suc turns) (omega arith) (omega arith))
 
 pub last_list_has : LastListHas
 last_list_has q long none =

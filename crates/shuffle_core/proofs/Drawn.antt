@@ -64,7 +64,7 @@ first_of_pair false p q = refl
 shuffled-list : {X : Type 0} (xs : List X) (s : Stream) → (shuffled xs 0 s).0
     ≡ list_of (nat_lt (length xs) (2 ^ 32 - 1))
     ((narrow_swaps xs (chooser_at 0) s (length xs - 0)).0, (narrow_swaps xs (chooser_at 0) s (length xs - 0)).2)
-        (wide_swaps xs 0 s (length xs - 0))
+    (wide_swaps xs 0 s (length xs - 0))
 shuffled-list xs s =
     let p = narrow_swaps xs (chooser_at 0) s (length xs - 0) in
     first_of_pair (nat_lt (length xs) (2 ^ 32 - 1)) (p.0, p.2) (wide_swaps xs 0 s (length xs - 0))
@@ -93,7 +93,7 @@ unfolding in_drawn_order drawn_order
 in_drawn_order-shuffled seed entries =
     let numbers = range_with_len 0 (length entries) in
     ap (λ xs. (shuffled xs 0 (drawn_stream seed)).0) (by_place entries)
-        ∙ shuffled-map (λ place. get_or entries place []) numbers (drawn_stream seed)
+    ∙ shuffled-map (λ place. get_or entries place []) numbers (drawn_stream seed)
 
 -- ---- what a stream of words draws is below its bound
 
@@ -167,7 +167,7 @@ grow_is_chunk (suc fuel) m product current count is at some fits =
     either (IsChunk m) (nat_lt (2 ^ 32 - 1) (product * current)) _ _
     (λ test. record { product = is; some = some; fits = fits })
     (λ test. grow_is_chunk fuel m (product * current) (current + 1) (count + 1) (rw (is, at) (sym (rising_more m count))) (omega arith)
-        (omega arith) (grind (arith, nat_tests)))
+    (omega arith) (grind (arith, nat_tests)))
 
 -- what is left of a draw is below the product of the factors that it still serves
 record IsSound (c : Chooser) : Type 0 where
@@ -199,7 +199,7 @@ next_is_next c s small sound wordy =
     let r = chooser_refill c s in
     let filled = refill_is_refilled c s small sound wordy in
     either (IsNext n) (r.1 == 1) (r.0, record { n = n + 1; chunk = r.0; left = 0 }, r.2)
-        (r.0 % (n + 1), record { n = n + 1; chunk = r.0 / (n + 1); left = r.1 - 1 }, r.2)
+    (r.0 % (n + 1), record { n = n + 1; chunk = r.0 / (n + 1); left = r.1 - 1 }, r.2)
     (λ test.
     let one : r.1 ≡ 1 = grind (arith, nat_tests) in
     record {
@@ -235,7 +235,7 @@ narrow_step_is_narrowed xs k p below few before =
     record {
       moved = IsPermutation-trans xs p.0 (swap p.0 p.1.n d.0) before.moved
           (IsPermutation-swap p.0 (swap p.0 p.1.n d.0) p.1.n d.0 (omega (arith, before.bound, long))
-              (omega (arith, before.bound, long, next.within)) refl);
+          (omega (arith, before.bound, long, next.within)) refl);
       bound = omega (arith, next.bound, before.bound);
       sound = next.sound;
       rest = next.rest;
@@ -244,12 +244,17 @@ narrow_step_is_narrowed xs k p below few before =
 narrow_is_narrowed : {X : Type 0} (xs : List X) (s : Stream) (k : ℕ) → k ≤ length xs → length xs < 2 ^ 32 → IsWordy s
     → IsNarrowed xs k (narrow_swaps xs (chooser_at 0) s k)
 unfolding narrow_swaps rising
-narrow_is_narrowed xs s zero within few wordy = record { moved = IsPermutation-refl xs; bound = refl; sound = record
-    { below = λ _. omega arith }; rest = wordy }
+narrow_is_narrowed xs s zero within few wordy = record {
+  moved = IsPermutation-refl xs;
+  bound = refl;
+  sound = record
+      { below = λ _. omega arith };
+  rest = wordy;
+}
 narrow_is_narrowed xs s (suc k) within few wordy =
     rw (narrow-suc xs (chooser_at 0) s k)
     (narrow_step_is_narrowed xs k (narrow_swaps xs (chooser_at 0) s k) (omega arith) few
-        (narrow_is_narrowed xs s k (omega arith) few wordy))
+    (narrow_is_narrowed xs s k (omega arith) few wordy))
 
 record IsWidened {X : Type 0} (xs : List X) (p : List X × Stream) : Type 0 where
   moved : IsPermutation xs p.0
@@ -285,7 +290,7 @@ unfolding wide_swaps
 wide_is_widened xs s zero within few wordy = record { moved = IsPermutation-refl xs; rest = wordy }
 wide_is_widened xs s (suc k) within few wordy =
     rw (wide-suc xs s k) (wide_step_is_widened xs (0 + k) (wide_swaps xs 0 s k) (omega arith) few
-        (wide_is_widened xs s k (omega arith) few wordy))
+    (wide_is_widened xs s k (omega arith) few wordy))
 
 either_moves : {X : Type 0} (xs : List X) (b : Bool) (p q : List X × Stream) → IsPermutation xs p.0 → IsPermutation xs q.0
     → IsPermutation xs (list_of b p q)
@@ -300,7 +305,7 @@ shuffled_moves xs s few wordy =
     let narrowed = narrow_is_narrowed xs s n (omega arith) few wordy in
     let widened = wide_is_widened xs s n (omega arith) few wordy in
     rw (shuffled-list xs s) (either_moves xs (nat_lt (length xs) (2 ^ 32 - 1)) (p.0, p.2) (wide_swaps xs 0 s n) narrowed.moved
-        widened.moved)
+    widened.moved)
 
 -- ---- the two laws
 

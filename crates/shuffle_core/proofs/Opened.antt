@@ -85,7 +85,7 @@ item_shorter [] entry item e =
     omega (arith, ap length same)
 item_shorter (seed ∷ seeds) entry item e =
     through seed entry item seeds (body_of seed entry) refl (sym (opened_item-cons seed seeds entry) ∙ e)
-        (λ body f. item_shorter seeds body item f)
+    (λ body f. item_shorter seeds body item f)
 
 pub opened_list_short : (seeds entries : List (List ℕ)) (bound : ℕ) → All (λ entry. length entry < bound) entries
     → All (λ item. ForSome item (λ bytes. length bytes < bound)) (opened_list seeds entries)

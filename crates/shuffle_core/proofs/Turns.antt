@@ -72,8 +72,12 @@ differ (x ∷ xs) e =
 differing : (xs : List (List ℕ)) → IsDistinct bytes_eq xs → has_equal xs ≡ false
 differing [] distinct = has_equal-nil
 differing (x ∷ xs) distinct =
-    rw (has_equal-cons x xs, pass_none (bytes_eq x) xs (IsDistinct-head bytes_eq x xs distinct), differing xs
-        (IsDistinct-tail bytes_eq x xs distinct)) refl
+    rw (
+      has_equal-cons x xs,
+      pass_none (bytes_eq x) xs (IsDistinct-head bytes_eq x xs distinct),
+      differing xs
+          (IsDistinct-tail bytes_eq x xs distinct),
+    ) refl
 
 apart : (xs : List (List ℕ)) → has_equal xs ≡ false → AreDistinct xs
 apart xs e i j d before within same =
@@ -84,7 +88,7 @@ apart xs e i j d before within same =
 from_apart : (xs : List (List ℕ)) → AreDistinct xs → has_equal xs ≡ false
 from_apart xs distinct =
     differing xs (IsDistinct-from_apart bytes_eq xs (λ i j d before within. eq-false (get_or xs i d) (get_or xs j d)
-        (distinct i j d before within)))
+    (distinct i j d before within)))
 
 pub distinct_are_found : DistinctAreFound
 distinct_are_found xs = (apart xs, from_apart xs)
@@ -129,8 +133,11 @@ permutation_keeps xs ys moved = (
 
 said : (seed order_seed : List ℕ) (entries : List (List ℕ)) (equal : Bool) (bodies : Option (List (List ℕ))) → has_equal entries ≡ equal
     → stripped seed entries ≡ bodies
-    → turn_of seed order_seed entries ≡ (elim equal [ true ↦ Abort | false ↦ elim bodies
-        [ None ↦ Abort | Some list ↦ Shuffled (in_drawn_order order_seed list) ] ])
+    → turn_of seed order_seed entries ≡ (elim equal [
+      | true ↦ Abort
+      | false ↦ elim bodies
+          [ None ↦ Abort | Some list ↦ Shuffled (in_drawn_order order_seed list) ]
+    ])
 unfolding turn_of
 said seed order_seed entries true bodies equal is = rw equal refl
 said seed order_seed entries false None equal is = rw (equal, is) refl
@@ -138,9 +145,11 @@ said seed order_seed entries false (Some list) equal is = rw (equal, is) refl
 
 pub turn_permutes : TurnPermutes
 turn_permutes seed order_seed entries bodies few distinct is =
-    let long = strips_all seed entries bodies is in
-    (in_drawn_order order_seed bodies, said seed order_seed entries false (Some bodies) (from_apart entries distinct) is,
-        entries_are_permuted order_seed bodies (omega arith))
+    let long = strips_all seed entries bodies is in (
+      in_drawn_order order_seed bodies,
+      said seed order_seed entries false (Some bodies) (from_apart entries distinct) is,
+      entries_are_permuted order_seed bodies (omega arith),
+    )
 
 same_list : (x y : List (List ℕ)) → Shuffled x ≡ Shuffled y → x ≡ y
 same_list x y e = cc
@@ -153,9 +162,15 @@ says seed order_seed entries list true bodies equal is e = let abort : Abort ≡
     (said seed order_seed entries true bodies equal is) ∙ e in cc
 says seed order_seed entries list false None equal is e = let abort : Abort ≡ Shuffled list = sym
     (said seed order_seed entries false None equal is) ∙ e in cc
-says seed order_seed entries list false (Some bodies) equal is e =
-    (apart entries equal, (bodies, is, same_list list (in_drawn_order order_seed bodies)
-        (sym e ∙ said seed order_seed entries false (Some bodies) equal is)))
+says seed order_seed entries list false (Some bodies) equal is e = (
+  apart entries equal,
+  (
+    bodies,
+    is,
+    same_list list (in_drawn_order order_seed bodies)
+        (sym e ∙ said seed order_seed entries false (Some bodies) equal is),
+  ),
+)
 
 pub turn_says_bodies : TurnSaysBodies
 turn_says_bodies seed order_seed entries list e = says seed order_seed entries list (has_equal entries) (stripped seed entries) refl refl e

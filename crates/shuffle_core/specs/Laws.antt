@@ -16,7 +16,7 @@ use Rattle.shuffle_core.specs.Shuffle.{layer_seeds_of, submission_of, has_equal,
 abbrev pub SeedsAreMessages : Type 0
 SeedsAreMessages = (opening : List ℕ) (round shuffle side member n : ℕ) →
     (length (layer_seeds_of opening round shuffle side member n) ≡ n)
-        × AllByRecursion IsMessage (layer_seeds_of opening round shuffle side member n)
+    × AllByRecursion IsMessage (layer_seeds_of opening round shuffle side member n)
 
 -- the first is that of layer 1
 abbrev pub SeedsAreByLayer : Type 0

@@ -101,21 +101,21 @@ framed-again post fits =
     let back : drop 4 bytes ≡ c ++ s = ap (drop 4) grouped ∙ drop_at head (c ++ s) 4 refl in
     let word : word_at bytes 0 ≡ n = ap (from_be_bytes w32) front ∙ from_be_bytes-to_be_bytes_4 n small in
     let content : take (word_at bytes 0) (drop 4 bytes) ≡ c = ap (λ (m : ℕ). take m (drop 4 bytes)) word ∙ ap (take n) back
-        ∙ take_at c s n refl in
+    ∙ take_at c s n refl in
     let signature : drop (4 + word_at bytes 0) bytes ≡ s = ap (λ (m : ℕ). drop (4 + m) bytes) word ∙ sym (drop-drop n 4 bytes)
-        ∙ ap (drop n) back ∙ drop_at c s n refl in
+    ∙ ap (drop n) back ∙ drop_at c s n refl in
     let o1 = fault_unless (nat_le (length bytes) POST_LIMIT) 0 in
     let o2 = fault_unless (nat_le 4 (length bytes)) (length bytes) in
     let o3 = fault_unless (nat_le LEAST_CONTENT (word_at bytes 0)) 0 in
     let o4 = fault_unless (nat_le (4 + word_at bytes 0) (length bytes)) (length bytes) in
     let none : frame_fault bytes ≡ None =
     first_some-none o1 (o2 ∷ o3 ∷ o4 ∷ []) (fault_unless-true (nat_le (length bytes) POST_LIMIT) 0
-        (le-leb _ _ (omega (arith, fits.most, long))))
+    (le-leb _ _ (omega (arith, fits.most, long))))
     ∙ first_some-none o2 (o3 ∷ o4 ∷ []) (fault_unless-true (nat_le 4 (length bytes)) (length bytes) (le-leb _ _ (omega (arith, long))))
     ∙ first_some-none o3 (o4 ∷ []) (fault_unless-true (nat_le LEAST_CONTENT (word_at bytes 0)) 0
-        (le-leb _ _ (omega (arith, fits.least, word))))
+    (le-leb _ _ (omega (arith, fits.least, word))))
     ∙ first_some-none o4 [] (fault_unless-true (nat_le (4 + word_at bytes 0) (length bytes)) (length bytes)
-        (le-leb _ _ (omega (arith, long, word)))) in
+    (le-leb _ _ (omega (arith, long, word)))) in
     ap (λ (o : Option ℕ). value_unless o (spelled_post bytes)) none
     ∙ ap (λ (x : List ℕ). ok x (drop (4 + word_at bytes 0) bytes)) content
     ∙ ap (λ (x : List ℕ). ok c x) signature

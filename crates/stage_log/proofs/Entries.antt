@@ -25,10 +25,10 @@ pub kept_in-at : (log : Log) (slot : Slot) (number : ℕ) (entry : Option Post) 
 kept_in-at log slot number entry is speaks number_is entry_is =
     let within = number-within log slot is speaks in
     cond-true (is_slot log.shape slot.stage slot.sender) (option_flatten
-        (slice_get log.posts (slot_number log.shape slot.stage slot.sender))) None speaks
+    (slice_get log.posts (slot_number log.shape slot.stage slot.sender))) None speaks
     ∙ ap (λ (k : ℕ). option_flatten (slice_get log.posts k)) (sym number_is)
     ∙ ap (λ (o : Option (Option Post)). option_flatten o) (slice_get_read log.posts (length log.posts) number entry refl (omega arith)
-        entry_is)
+    entry_is)
 
 -- and can be kept
 pub entry-kept : (log : Log) (number : ℕ) (entry : Option Post) → IsLog log → number < length log.posts

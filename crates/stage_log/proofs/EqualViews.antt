@@ -53,13 +53,13 @@ next-front shape past stage =
 pub views-equal : (shape : Shape) (past other : List (List ℕ)) (stage : ℕ) → ArePieces past → ArePieces other
     → view_of shape past stage ≡ view_of shape other stage
     → (take (slots_before shape stage) past ≡ take (slots_before shape stage) other)
-        ⊎ SomeCollide (view_strings shape past stage) (view_strings shape other stage)
+    ⊎ SomeCollide (view_strings shape past stage) (view_strings shape other stage)
 views-equal shape past other zero all all' e = inl refl
 views-equal shape past other (suc stage) all all' e =
     let pieces : List (List ℕ) = view_of shape past stage ∷ contents_at shape past stage in
     let pieces' : List (List ℕ) = view_of shape other stage ∷ contents_at shape other stage in
     elim (collide_or_same View View pieces pieces' (view-short shape past stage, contents_at-pieces shape past stage all)
-        (view-short shape other stage, contents_at-pieces shape other stage all') e) [
+    (view-short shape other stage, contents_at-pieces shape other stage all') e) [
       | inl same ↦
           let both : pieces ≡ pieces' = same.1 in
           let views : view_of shape past stage ≡ view_of shape other stage = cc in

@@ -31,7 +31,7 @@ before-front log stage later posts le e =
     let m : ℕ = slots_before log.shape later in
     let within : n ≤ m = slots_before-rises log.shape stage later le in
     ap all_some (sym (take-take n m log.posts within) ∙ ap (take n) (all_some-is (take m log.posts) posts e)
-        ∙ take-map (λ x. Some x) n posts)
+    ∙ take-map (λ x. Some x) n posts)
     ∙ all_some-map (take n posts)
 
 -- ---- a post that is put
@@ -49,8 +49,8 @@ front-filled places posts n k post e empty =
     elim (cases_lt k n) [
       | inl lt ↦
           let entry : slice_get places k ≡ option_map (λ x. Some x) (slice_get posts k) = sym (slice_get-take places n k lt)
-              ∙ ap (λ (t : List (Option Post)). slice_get t k) (all_some-is (take n places) posts e)
-              ∙ slice_get-map (λ x. Some x) posts k in
+          ∙ ap (λ (t : List (Option Post)). slice_get t k) (all_some-is (take n places) posts e)
+          ∙ slice_get-map (λ x. Some x) posts k in
           let none = missing (slice_get posts k) (sym (ap (λ (o : Option (Option Post)). option_flatten o) entry) ∙ empty) in
           let past : slice_get places k ≡ None = entry ∙ ap (option_map (λ x. Some x)) none in
           ap (λ (t : List (Option Post)). all_some (take n t)) (set-past places k (Some post) past) ∙ e
@@ -70,7 +70,7 @@ before-put log slot post stage posts speaks e = by_kept (kept_in log slot) refl
     by_kept None is =
         let number : ℕ = slot_number log.shape slot.stage slot.sender in
         let empty : option_flatten (slice_get log.posts number) ≡ None = sym
-            (cond-true (is_slot log.shape slot.stage slot.sender) (option_flatten (slice_get log.posts number)) None speaks) ∙ is in
+        (cond-true (is_slot log.shape slot.stage slot.sender) (option_flatten (slice_get log.posts number)) None speaks) ∙ is in
         ap (λ (o : Option Post). before (filled_if o log (filled log slot post)) stage) is
         ∙ front-filled log.posts posts (slots_before log.shape stage) number post e empty
 
@@ -80,7 +80,7 @@ all_some-append : {A : Type 0} (xs zs : List (Option A)) (ys ws : List A) → al
     → all_some (xs ++ zs) ≡ Some (ys ++ ws)
 all_some-append {A} xs zs ys ws e e' =
     ap all_some (ap (λ (t : List (Option A)). t ++ zs) (all_some-is xs ys e)
-        ∙ ap (λ (t : List (Option A)). map (λ x. Some x) ys ++ t) (all_some-is zs ws e') ∙ sym (map-append (λ x. Some x) ys ws))
+    ∙ ap (λ (t : List (Option A)). map (λ x. Some x) ys ++ t) (all_some-is zs ws e') ∙ sym (map-append (λ x. Some x) ys ws))
     ∙ all_some-map (ys ++ ws)
 
 -- a list in which each value is there
@@ -124,14 +124,14 @@ contents_at-take : (shape : Shape) (past : List (List ℕ)) (stage later : ℕ) 
     → contents_at shape (take (slots_before shape later) past) stage ≡ contents_at shape past stage
 contents_at-take shape past stage later lt =
     slice_range-take past (slots_before shape stage) (slots_before shape (stage + 1)) (slots_before shape later)
-        (slots_before-rises shape stage (stage + 1) (omega arith)) (slots_before-rises shape (stage + 1) later (omega arith))
+    (slots_before-rises shape stage (stage + 1) (omega arith)) (slots_before-rises shape (stage + 1) later (omega arith))
 
 pub view_of-take : (shape : Shape) (past : List (List ℕ)) (stage later : ℕ) → stage ≤ later
     → view_of shape (take (slots_before shape later) past) stage ≡ view_of shape past stage
 view_of-take shape past zero later le = refl
 view_of-take shape past (suc stage) later le =
     ap (λ (v : List ℕ). hash_of View (v ∷ contents_at shape (take (slots_before shape later) past) stage))
-        (view_of-take shape past stage later (omega arith))
+    (view_of-take shape past stage later (omega arith))
     ∙ ap (λ (t : List (List ℕ)). hash_of View (view_of shape past stage ∷ t)) (contents_at-take shape past stage later (omega arith))
 
 first_below-same : {A : Type 0} (f g : ℕ → Option A) (n : ℕ) → ((k : ℕ) → k < n → f k ≡ g k) → first_below n f ≡ first_below n g
@@ -168,9 +168,9 @@ wrong_at-take shape past stage later number le lt = by_slot (slot_at shape numbe
         let rises = slots_before-rises shape stage later le in
         let right : is_right shape front slot ≡ is_right shape past slot =
         ap (λ (v : List ℕ). is_carried v (slice_get front (slot_number shape slot.stage slot.sender)))
-            (view_of-take shape past slot.stage later (omega arith))
+        (view_of-take shape past slot.stage later (omega arith))
         ∙ ap (is_carried (view_of shape past slot.stage)) (slice_get-take past (slots_before shape later)
-            (slot_number shape slot.stage slot.sender) (omega (arith, found.1))) in
+        (slot_number shape slot.stage slot.sender) (omega (arith, found.1))) in
         ap (option_and_then (wrong_slot shape front)) is
         ∙ ap (λ (b : Bool). if b then None else Some slot) right
         ∙ sym (ap (option_and_then (wrong_slot shape past)) is)
@@ -179,7 +179,7 @@ pub first_wrong-take : (shape : Shape) (past : List (List ℕ)) (stage later : �
     → first_wrong shape (take (slots_before shape later) past) stage ≡ first_wrong shape past stage
 first_wrong-take shape past stage later le =
     first_below-same (wrong_at shape (take (slots_before shape later) past)) (wrong_at shape past) (slots_before shape stage)
-        (λ number lt. wrong_at-take shape past stage later number le lt)
+    (λ number lt. wrong_at-take shape past stage later number le lt)
 
 pub some_is : {A : Type 0} (o : Option A) (x : A) → o ≡ Some x → IsSome o
 some_is (Some y) x e = refl
@@ -191,11 +191,11 @@ pub views-same : (shape : Shape) (past other : List (List ℕ)) (stage : ℕ)
     → take (slots_before shape stage) past ≡ take (slots_before shape stage) other → view_of shape past stage ≡ view_of shape other stage
 views-same shape past other stage e =
     sym (view_of-take shape past stage stage (omega arith)) ∙ ap (λ (t : List (List ℕ)). view_of shape t stage) e
-        ∙ view_of-take shape other stage stage (omega arith)
+    ∙ view_of-take shape other stage stage (omega arith)
 
 pub wrong-same : (shape : Shape) (past other : List (List ℕ)) (stage : ℕ)
     → take (slots_before shape stage) past ≡ take (slots_before shape stage) other
     → first_wrong shape past stage ≡ first_wrong shape other stage
 wrong-same shape past other stage e =
     sym (first_wrong-take shape past stage stage (omega arith)) ∙ ap (λ (t : List (List ℕ)). first_wrong shape t stage) e
-        ∙ first_wrong-take shape other stage stage (omega arith)
+    ∙ first_wrong-take shape other stage stage (omega arith)

@@ -21,7 +21,7 @@ bits-next f member bits least e =
     let same : 1 + (member - 1) ≡ member = omega arith in
     let more : sum_by f (range_with_len 1 (member + 1 - 1)) ≡ sum_by f (range_with_len 1 (member - 1)) + f (1 + (member - 1)) =
     ap (λ (k : ℕ). sum_by f (range_with_len 1 k)) next ∙ ap (sum_by f) (range-more 1 (member - 1))
-        ∙ sum_by_push f (range_with_len 1 (member - 1)) (1 + (member - 1)) in
+    ∙ sum_by_push f (range_with_len 1 (member - 1)) (1 + (member - 1)) in
     omega (arith, more, ap f same)
 
 pub bits-below : (member bits bit : ℕ) → 1 ≤ member → bits < 2 ^ (member - 1) → bit ≤ 2 ^ (member - 1) → bits + bit < 2 ^ (member + 1 - 1)

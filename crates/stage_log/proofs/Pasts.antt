@@ -87,7 +87,7 @@ pub before-kept : (log : Log) (stage : ℕ) → IsSome (before log stage)
 before-kept log stage is =
     let past = some_of (before log stage) is in
     past.1 ∙ ap (λ (posts : List Post). Some posts) (sym (ap posts_kept
-        (all_some-is (take (slots_before log.shape stage) log.posts) past.0 past.1) ∙ posts_kept-map past.0))
+    (all_some-is (take (slots_before log.shape stage) log.posts) past.0 past.1) ∙ posts_kept-map past.0))
 
 pub kept-ok : {A E : Type 0} (items : A → List Post) (o : Option (List Post)) (kept : List Post) (r : Result A E) → o ≡ Some kept
     → IfOk r (λ x. items x ≡ kept) → IfOk r (λ x. o ≡ Some (items x))

@@ -45,7 +45,7 @@ place-small shape stage place is lt = by_kind shape stage place (kind_of_stage s
 
 pub slot_at-sender : (shape : Shape) (stage place : ℕ) → slots_before shape stage + place < slots_before shape (stage + 1)
     → slot_at shape (slots_before shape stage + place) ≡ Some (record
-        { stage = stage; sender = sender_of (kind_of_stage shape stage) place })
+    { stage = stage; sender = sender_of (kind_of_stage shape stage) place })
 slot_at-sender shape stage place lt = by_kind shape stage place (kind_of_stage shape stage) refl lt
   where
     by_kind : (shape : Shape) (stage place : ℕ) (o : Option StageKind) → kind_of_stage shape stage ≡ o
@@ -53,5 +53,5 @@ slot_at-sender shape stage place lt = by_kind shape stage place (kind_of_stage s
         → slot_at shape (slots_before shape stage + place) ≡ Some (record { stage = stage; sender = sender_of o place })
     by_kind shape stage place (Some kind) e lt =
         slot_at-place shape stage place (sender_of (Some kind) place) kind e
-            (sender-in shape kind place (omega (arith, slots_next shape stage kind e)))
+        (sender-in shape kind place (omega (arith, slots_next shape stage kind e)))
     by_kind shape stage place None e lt = absurd (omega (arith, slots_past shape stage e))

@@ -30,7 +30,7 @@ view_of-next shape past stage = ap (view_of shape past) (add-one stage)
 -- the view is carried on over the places of a stage
 pub next_view : (log : Log) (stage later : ℕ) (posts : List Post) → stage < later → before log later ≡ Some posts
     → hash_of View (view_of log.shape (contents_of posts) stage ∷ contents_in (posts_in log stage)) ≡ view_of log.shape (contents_of posts)
-        (stage + 1)
+    (stage + 1)
 next_view log stage later posts lt e =
     ap (λ (t : List (List ℕ)). hash_of View (view_of log.shape (contents_of posts) stage ∷ t)) (contents_in-past log stage later posts lt e)
     ∙ sym (view_of-next log.shape (contents_of posts) stage)
@@ -66,7 +66,7 @@ some_content (Some post) = refl
 place-content : (log : Log) (stage later : ℕ) (posts : List Post) (place : ℕ) → stage < later → before log later ≡ Some posts
     → slots_before log.shape stage + place < slots_before log.shape (stage + 1)
     → option_and_then content_in (slice_get (posts_in log stage) place) ≡ slice_get (contents_of posts)
-        (slots_before log.shape stage + place)
+    (slots_before log.shape stage + place)
 place-content log stage later posts place lt e within =
     let a : ℕ = slots_before log.shape stage in
     let b : ℕ = slots_before log.shape (stage + 1) in
@@ -81,9 +81,9 @@ place-content log stage later posts place lt e within =
 -- whether the slot of a place is right: its content carries the view of the stage
 place-right : (log : Log) (stage later : ℕ) (posts : List Post) (place : ℕ) (slot : Slot) → stage < later → before log later ≡ Some posts
     → slots_before log.shape stage + place < slots_before log.shape (stage + 1)
-        → slot_at log.shape (slots_before log.shape stage + place) ≡ Some slot
+    → slot_at log.shape (slots_before log.shape stage + place) ≡ Some slot
     → is_right log.shape (contents_of posts) slot ≡ is_carried (view_of log.shape (contents_of posts) stage)
-        (option_and_then content_in (slice_get (posts_in log stage) place))
+    (option_and_then content_in (slice_get (posts_in log stage) place))
 place-right log stage later posts place slot lt e within at =
     let past : List (List ℕ) = contents_of posts in
     let found = slot_at-sender log.shape stage place within in
@@ -113,32 +113,35 @@ unlike-some view places place x e =
     elim (cases_Bool (is_carried view (option_and_then content_in (slice_get places place)))) [
       | inl passes ↦ absurd (let none = cond-true (is_carried view (option_and_then content_in (slice_get places place))) None (Some place)
           passes in cc)
-      | inr fails ↦ (fails, let some = cond-false (is_carried view (option_and_then content_in (slice_get places place))) None (Some place)
-          fails in cc)
+      | inr fails ↦ (
+        fails,
+        let some = cond-false (is_carried view (option_and_then content_in (slice_get places place))) None (Some place)
+            fails in cc,
+      )
     ]
 
 place-not_wrong : (log : Log) (stage later : ℕ) (posts : List Post) (place : ℕ) → stage < later → before log later ≡ Some posts
     → slots_before log.shape stage + place < slots_before log.shape (stage + 1)
     → unlike_at (view_of log.shape (contents_of posts) stage) (posts_in log stage) place ≡ None
-        → wrong_at log.shape (contents_of posts) (slots_before log.shape stage + place) ≡ None
+    → wrong_at log.shape (contents_of posts) (slots_before log.shape stage + place) ≡ None
 place-not_wrong log stage later posts place lt e within none =
     let past : List (List ℕ) = contents_of posts in
     let at = slot_at-sender log.shape stage place within in
     ap (option_and_then (wrong_slot log.shape past)) at
     ∙ cond-true (is_right log.shape past _) None (Some _) (place-right log stage later posts place _ lt e within at
-        ∙ unlike-none (view_of log.shape past stage) (posts_in log stage) place none)
+    ∙ unlike-none (view_of log.shape past stage) (posts_in log stage) place none)
 
 place-wrong : (log : Log) (stage later : ℕ) (posts : List Post) (place x : ℕ) (slot : Slot) → stage < later → before log later ≡ Some posts
     → slots_before log.shape stage + place < slots_before log.shape (stage + 1)
-        → slot_at log.shape (slots_before log.shape stage + place) ≡ Some slot
+    → slot_at log.shape (slots_before log.shape stage + place) ≡ Some slot
     → unlike_at (view_of log.shape (contents_of posts) stage) (posts_in log stage) place ≡ Some x
-        → wrong_at log.shape (contents_of posts) (slots_before log.shape stage + place) ≡ Some slot
+    → wrong_at log.shape (contents_of posts) (slots_before log.shape stage + place) ≡ Some slot
 place-wrong log stage later posts place x slot lt e within at some =
     let past : List (List ℕ) = contents_of posts in
     ap (option_and_then (wrong_slot log.shape past)) at
     ∙ cond-false (is_right log.shape past slot) None (Some slot)
-        (place-right log stage later posts place slot lt e within at
-        ∙ (unlike-some (view_of log.shape past stage) (posts_in log stage) place x some).0)
+    (place-right log stage later posts place slot lt e within at
+    ∙ (unlike-some (view_of log.shape past stage) (posts_in log stage) place x some).0)
 
 -- where all slots before a stage are right, and the places of the stage before a place, all numbers before it are
 pub numbers-right : (log : Log) (stage later : ℕ) (posts : List Post) (places : ℕ) → IsLog log → stage < later
@@ -167,7 +170,7 @@ stage-right log stage later posts is lt e earlier none number below =
     let rises = slots_before-rises log.shape stage (stage + 1) (omega arith) in
     numbers-right log stage later posts (length (posts_in log stage)) is lt e (omega arith) earlier
     (first_below-each (unlike_at view (posts_in log stage)) (length (posts_in log stage)) none) number
-        (omega (arith, length-posts_in log stage is))
+    (omega (arith, length-posts_in log stage is))
 
 -- the first place of a stage that does not carry the view is the first slot that is not right
 pub stage-wrong : (log : Log) (stage later : ℕ) (posts : List Post) (place : ℕ) (slot : Slot) → IsLog log → stage < later
@@ -184,10 +187,10 @@ stage-wrong log stage later posts place slot is lt e earlier some at =
     let rises = slots_before-rises log.shape (stage + 1) later (omega arith) in
     let rises_here = slots_before-rises log.shape stage (stage + 1) (omega arith) in
     let within : slots_before log.shape stage + place < slots_before log.shape (stage + 1) = omega
-        (arith, length-posts_in log stage is, found.1) in
+    (arith, length-posts_in log stage is, found.1) in
     let gives : unlike_at view row place ≡ Some place = subst (λ (k : ℕ). unlike_at view row k ≡ Some place) same found.2 in
     first_below-some (wrong_at log.shape (contents_of posts)) (slots_before log.shape later) (slots_before log.shape stage + place) slot
-        (omega arith)
+    (omega arith)
     (numbers-right log stage later posts place is lt e (omega (arith, found.1)) earlier (λ k lt. found.3 k (omega arith)))
     (place-wrong log stage later posts place place slot lt e within at gives)
 

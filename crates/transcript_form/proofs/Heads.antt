@@ -153,7 +153,7 @@ count_at-takes wanted size r x fits e =
     let number = number_at-takes_4 r a.0 fits (fault_as_ok (cut size) (number_at w32 r) a.0 a.1) in
     let is : a.0.0 ≡ wanted = eqb-true a.0.0 wanted (not-false (a.0.0 == wanted) wants.0) in
     subst (λ (x : ℕ × Reading). Takes (to_be_bytes w32 wanted) r x.1) wants.1
-        (subst (λ (n : ℕ). Takes (to_be_bytes w32 n) r a.0.1) is number.0)
+    (subst (λ (n : ℕ). Takes (to_be_bytes w32 n) r a.0.1) is number.0)
 
 count_at-again : (wanted size place : ℕ) (rest : List ℕ) → wanted < 2 ^ 32
     → count_at wanted size (reading_at place (to_be_bytes w32 wanted ++ rest)) ≡ Ok (wanted, reading_at (place + 4) rest)
@@ -168,7 +168,7 @@ count_at-again wanted size place rest small =
 abbrev pub head_text : Shape → Head → List ℕ
 head_text shape h =
     (claim_number h.claim ∷ []) ++ ((h.accused ∷ []) ++ (to_be_bytes w64 h.round
-        ++ (detail_spelling h.detail ++ to_be_bytes w32 (claim_posts shape h.claim))))
+    ++ (detail_spelling h.detail ++ to_be_bytes w32 (claim_posts shape h.claim))))
 
 -- a head that has a spelling
 pub record IsHead (shape : Shape) (h : Head) : Type 0 where
@@ -220,7 +220,7 @@ head_at-claim shape size r x e =
 head_reads : (shape : Shape) (size : ℕ) (r : Reading) (claim : Claim × Reading) (accused round : ℕ × Reading)
     (detail : Option Accusation × Reading) (count : ℕ × Reading)
     → claim_at size r ≡ Ok claim → accused_at shape size claim.1 ≡ Ok accused → number_at w64 accused.1 ≡ Ok round
-        → detail_at claim.0 size round.1 ≡ Ok detail → count_at (claim_posts shape claim.0) size detail.1 ≡ Ok count
+    → detail_at claim.0 size round.1 ≡ Ok detail → count_at (claim_posts shape claim.0) size detail.1 ≡ Ok count
     → head_at shape size r ≡ Ok (record { claim = claim.0; accused = accused.0; round = round.0; detail = detail.0 }, count.1)
 unfolding head_at
 head_reads shape size r claim accused round detail count e1 e2 e3 e4 e5 = rw (e1, e2, e3, e4, e5) refl
@@ -235,18 +235,18 @@ head_at-again shape size h place rest small is =
     let r3 = detail ++ r4 in
     let r2 = round ++ r3 in
     let grouped : (round ++ (detail ++ count)) ++ rest ≡ r2 = append_assoc round (detail ++ count) rest
-        ∙ ap (λ (x : List ℕ). round ++ x) (append_assoc detail count rest) in
+    ∙ ap (λ (x : List ℕ). round ++ x) (append_assoc detail count rest) in
     let whole : head_text shape h ++ rest ≡ claim_number h.claim ∷ h.accused ∷ r2 = ap
-        (λ (x : List ℕ). claim_number h.claim ∷ h.accused ∷ x) grouped in
+    (λ (x : List ℕ). claim_number h.claim ∷ h.accused ∷ x) grouped in
     let ends : place + 1 + 1 + 8 + length detail + 4 ≡ place + length (head_text shape h) = omega
-        (arith, length-append round (detail ++ count), length-append detail count) in
+    (arith, length-append round (detail ++ count), length-append detail count) in
     let told : ℕ → Result (Head × Reading) FailedForm = λ k. Ok (h, reading_at k rest) in
     ap (λ (x : List ℕ). head_at shape size (reading_at place x)) whole
     ∙ head_reads shape size (reading_at place (claim_number h.claim ∷ h.accused ∷ r2)) (h.claim, reading_at (place + 1) (h.accused ∷ r2))
-        (h.accused, reading_at (place + 1 + 1) r2) (h.round, reading_at (place + 1 + 1 + 8) r3)
-        (h.detail, reading_at (place + 1 + 1 + 8 + length detail) r4)
-        (claim_posts shape h.claim, reading_at (place + 1 + 1 + 8 + length detail + 4) rest)
+    (h.accused, reading_at (place + 1 + 1) r2) (h.round, reading_at (place + 1 + 1 + 8) r3)
+    (h.detail, reading_at (place + 1 + 1 + 8 + length detail) r4)
+    (claim_posts shape h.claim, reading_at (place + 1 + 1 + 8 + length detail + 4) rest)
     (claim_at-again size h.claim place (h.accused ∷ r2)) (accused_at-again shape size h.accused (place + 1) r2 is.accused)
-        (number_at-again_8 h.round (place + 1 + 1) r3 is.round) (detail_at-again h.claim h.detail size (place + 1 + 1 + 8) r4 is.detail)
-        (count_at-again (claim_posts shape h.claim) size (place + 1 + 1 + 8 + length detail) rest small)
+    (number_at-again_8 h.round (place + 1 + 1) r3 is.round) (detail_at-again h.claim h.detail size (place + 1 + 1 + 8) r4 is.detail)
+    (count_at-again (claim_posts shape h.claim) size (place + 1 + 1 + 8 + length detail) rest small)
     ∙ ap told ends

@@ -39,7 +39,7 @@ walked n k bytes front rest post last some lie front_is rest_is number post_is l
     let long : k ≡ first_length bytes = first_length-is front bytes k front_is first.enough number in
     let behind : last ≡ behind_first bytes = last_is ∙ ap (λ (j : ℕ). drop j rest) long ∙ ap (drop (first_length bytes)) rest_is in
     let one : post ≡ take (first_length bytes) (drop 4 bytes) = post_is ∙ ap (λ (j : ℕ). take j rest) long
-        ∙ ap (take (first_length bytes)) rest_is in
+    ∙ ap (take (first_length bytes)) rest_is in
     (subst (λ (x : List ℕ). PostsLie (n - 1) x) (sym behind) first.others_lie, rw (one, behind) first.posts_are)
 
 -- ---- what is read
@@ -67,7 +67,7 @@ lies_by k rest body post last long behind enough post_is last_is =
 -- how a reading was made of a post
 listed_at-lies : (size : ℕ) (r : Reading) (x : List ℕ × Reading) → listed_at size r ≡ Ok x
     → (4 ≤ length r.rest) × (first_length r.rest ≤ length (drop 4 r.rest)) × (take (first_length r.rest) (drop 4 r.rest) ≡ x.0)
-        × (behind_first r.rest ≡ x.1.rest)
+    × (behind_first r.rest ≡ x.1.rest)
 unfolding listed_at
 listed_at-lies size r x e =
     let n = bind_ok (or_cut size (number_at w32 r)) _ x e in

@@ -37,7 +37,7 @@ first_from-none f a zero h = refl
 first_from-none f a (suc n) h =
     let here : f a ≡ None = h a (omega arith) (omega arith) in
     rw (first_some-none (f a) (map f (range_with_len (a + 1) n)) here)
-        (first_from-none f (a + 1) n (λ k le lt. h k (omega arith) (omega arith)))
+    (first_from-none f (a + 1) n (λ k le lt. h k (omega arith) (omega arith)))
 
 first_from-some : {A : Type 0} (f : ℕ → Option A) (a n k : ℕ) (x : A) → a ≤ k → k < a + n → ((j : ℕ) → a ≤ j → j < k → f j ≡ None)
     → f k ≡ Some x → first_some (map f (range_with_len a n)) ≡ Some x
@@ -85,8 +85,11 @@ first_from-found f a (suc n) x e =
     ]
   where
     none_from : (j m : ℕ) → f a ≡ None → ((i : ℕ) → a + 1 ≤ i → i < m → f i ≡ None) → a ≤ j → j < m → f j ≡ None
-    none_from j m first others le lt = elim (cases_lt a j) [ inl later ↦ others j (omega arith) lt | inr now ↦ let same : j ≡ a = omega
-        arith in rw same first ]
+    none_from j m first others le lt = elim (cases_lt a j) [
+      | inl later ↦ others j (omega arith) lt
+      | inr now ↦ let same : j ≡ a = omega
+          arith in rw same first
+    ]
 
 -- ---- the first answer to the numbers below n
 

@@ -17,7 +17,7 @@ pub hashed-push : (tag : Tag) (pieces : List (List ℕ)) (b : List ℕ) → hash
 unfolding hashed
 hashed-push tag pieces b =
     ap (λ (x : List ℕ). magic ++ tag_number tag ∷ x) (flat_map-append prefixed pieces (b ∷ [])
-        ∙ ap (λ (x : List ℕ). flat_map prefixed pieces ++ x) (append-nil (prefixed b)))
+    ∙ ap (λ (x : List ℕ). flat_map prefixed pieces ++ x) (append-nil (prefixed b)))
 
 -- ---- what a hashed string determines
 
@@ -140,14 +140,16 @@ layer_seed_determines strings opening opening' round round' shuffle shuffle' sid
     long' small small' e =
     let pieces : ArePieces (layer_seed_pieces opening round shuffle side member layer) = fit opening round shuffle side member layer long in
     let pieces' : ArePieces (layer_seed_pieces opening' round' shuffle' side' member' layer') = fit opening' round' shuffle' side' member'
-        layer' long' in
+    layer' long' in
     let same = same_hash strings LayerSeed LayerSeed (layer_seed_pieces opening round shuffle side member layer)
-        (layer_seed_pieces opening' round' shuffle' side' member' layer') none there there' pieces pieces' e in
+    (layer_seed_pieces opening' round' shuffle' side' member' layer') none there there' pieces pieces' e in
     let parts = six_pieces opening opening' (to_be_bytes w64 round) (to_be_bytes w64 round') shuffle shuffle' side side' member member'
-        layer layer' same.1 in
+    layer layer' same.1 in
     (parts.0, be64-determines round round' small small' parts.1, parts.2, parts.3, parts.4, parts.5)
   where
     fit : (opening : List ℕ) (round shuffle side member layer : ℕ) → length opening ≡ 32
         → ArePieces (layer_seed_pieces opening round shuffle side member layer)
-    fit opening round shuffle side member layer long = (omega arith,
-        (omega arith, (omega arith, (omega arith, (omega arith, (omega arith, tt))))))
+    fit opening round shuffle side member layer long = (
+      omega arith,
+      (omega arith, (omega arith, (omega arith, (omega arith, (omega arith, tt))))),
+    )

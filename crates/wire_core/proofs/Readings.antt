@@ -51,7 +51,7 @@ bytes_at-takes n r x e =
       | inr read ↦
           let same : (take n r.rest, advanced n r) ≡ x = (let e : Ok (take n r.rest, advanced n r) ≡ Ok x = read.1 in cc) in
           subst (λ (x : List ℕ × Reading). Takes x.0 r x.1 × (length x.0 ≡ n)) same
-              (bytes_at-taken n r (ltb-false (length r.rest) n read.0))
+          (bytes_at-taken n r (ltb-false (length r.rest) n read.0))
     ]
 
 -- bytes that are spelled are read again, whatever follows
@@ -73,7 +73,7 @@ number_at-front w r x e =
     let same : (from_be_bytes w read.0.0, read.0.1) ≡ x = (let e : Ok (from_be_bytes w read.0.0, read.0.1) ≡ Ok x = read.2 in cc) in
     let takes = bytes_at-takes (byte_len w) r read.0 read.1 in
     subst (λ (x : ℕ × Reading). (front : List ℕ) × Takes front r x.1 × (length front ≡ byte_len w) × (x.0 ≡ from_be_bytes w front)) same
-        (read.0.0, takes.0, takes.1, refl)
+    (read.0.0, takes.0, takes.1, refl)
 
 one-byte : (front : List ℕ) (n : ℕ) → length front ≡ 1 → IsBytes front → n ≡ from_be_bytes w8 front → (n ∷ [] ≡ front) × (n < 2 ^ 8)
 one-byte [] n long bytes e = absurd (omega arith)
@@ -110,36 +110,38 @@ pub number_at-takes_8 : (r : Reading) (x : ℕ × Reading) → IsBytes r.rest �
 number_at-takes_8 r x bytes e =
     let read = number_at-front w64 r x e in
     let fits : IsBytes read.0 = (Takes-bytes read.0 r x.1 read.1 bytes).0 in
-    let spelled : to_be_bytes w64 x.0 ≡ read.0 = be_bytes_8 read.0 x.0 read.2 fits read.3 in
-    (subst (λ (t : List ℕ). Takes t r x.1) (sym spelled) read.1, omega
-        (arith, read.3, fits 0, fits 1, fits 2, fits 3, fits 4, fits 5, fits 6, fits 7))
+    let spelled : to_be_bytes w64 x.0 ≡ read.0 = be_bytes_8 read.0 x.0 read.2 fits read.3 in (
+      subst (λ (t : List ℕ). Takes t r x.1) (sym spelled) read.1,
+      omega
+          (arith, read.3, fits 0, fits 1, fits 2, fits 3, fits 4, fits 5, fits 6, fits 7),
+    )
 
 -- a number that is spelled is read again, whatever follows
 pub number_at-again_1 : (n place : ℕ) (rest : List ℕ) → number_at w8 (reading_at place (n ∷ rest)) ≡ Ok (n, reading_at (place + 1) rest)
 number_at-again_1 n place rest =
     ap (λ (r : Result (List ℕ × Reading) Short). r >>= λ front. Ok (from_be_bytes w8 front.0, front.1))
-        (bytes_at-again 1 (n ∷ []) rest place refl)
+    (bytes_at-again 1 (n ∷ []) rest place refl)
     ∙ ap (λ (m : ℕ). Ok (m, reading_at (place + 1) rest)) (let same : from_be_bytes w8 (n ∷ []) ≡ n = omega arith in same)
 
 pub number_at-again_2 : (n place : ℕ) (rest : List ℕ) → n < 2 ^ 16
     → number_at w16 (reading_at place (to_be_bytes w16 n ++ rest)) ≡ Ok (n, reading_at (place + 2) rest)
 number_at-again_2 n place rest small =
     ap (λ (r : Result (List ℕ × Reading) Short). r >>= λ front. Ok (from_be_bytes w16 front.0, front.1))
-        (bytes_at-again 2 (to_be_bytes w16 n) rest place refl)
+    (bytes_at-again 2 (to_be_bytes w16 n) rest place refl)
     ∙ ap (λ (m : ℕ). Ok (m, reading_at (place + 2) rest)) (from_be_bytes-to_be_bytes_2 n small)
 
 pub number_at-again_4 : (n place : ℕ) (rest : List ℕ) → n < 2 ^ 32
     → number_at w32 (reading_at place (to_be_bytes w32 n ++ rest)) ≡ Ok (n, reading_at (place + 4) rest)
 number_at-again_4 n place rest small =
     ap (λ (r : Result (List ℕ × Reading) Short). r >>= λ front. Ok (from_be_bytes w32 front.0, front.1))
-        (bytes_at-again 4 (to_be_bytes w32 n) rest place refl)
+    (bytes_at-again 4 (to_be_bytes w32 n) rest place refl)
     ∙ ap (λ (m : ℕ). Ok (m, reading_at (place + 4) rest)) (from_be_bytes-to_be_bytes_4 n small)
 
 pub number_at-again_8 : (n place : ℕ) (rest : List ℕ) → n < 2 ^ 64
     → number_at w64 (reading_at place (to_be_bytes w64 n ++ rest)) ≡ Ok (n, reading_at (place + 8) rest)
 number_at-again_8 n place rest small =
     ap (λ (r : Result (List ℕ × Reading) Short). r >>= λ front. Ok (from_be_bytes w64 front.0, front.1))
-        (bytes_at-again 8 (to_be_bytes w64 n) rest place refl)
+    (bytes_at-again 8 (to_be_bytes w64 n) rest place refl)
     ∙ ap (λ (m : ℕ). Ok (m, reading_at (place + 8) rest)) (from_be_bytes-to_be_bytes_8 n small)
 
 -- ---- several values, one after the other
@@ -215,7 +217,7 @@ unfolding repeated
 repeated-takes {A} spelling Good read each zero r x bytes e =
     let same : ([], r) ≡ x = (let e : Ok ([], r) ≡ Ok x = e in cc) in
     subst (λ (x : List A × Reading). Takes (flat_map spelling x.0) r x.1 × AllByRecursion Good x.0 × (length x.0 ≡ 0)) same
-        (Takes-none r, tt, refl)
+    (Takes-none r, tt, refl)
 repeated-takes {A} spelling Good read each (suc n) r x bytes e =
     let first = bind_ok (read r) (λ first. repeated n read first.1 >>= λ others. Ok (first.0 ∷ others.0, others.1)) x e in
     let others = bind_ok (repeated n read first.0.1) (λ others. Ok (first.0.0 ∷ others.0, others.1)) x first.2 in
@@ -223,9 +225,12 @@ repeated-takes {A} spelling Good read each (suc n) r x bytes e =
     let left : IsBytes first.0.1.rest = (Takes-bytes (spelling first.0.0) r first.0.1 one.0 bytes).1 in
     let more = repeated-takes spelling Good read each n first.0.1 others.0 left others.1 in
     let same : (first.0.0 ∷ others.0.0, others.0.1) ≡ x = (let e : Ok (first.0.0 ∷ others.0.0, others.0.1) ≡ Ok x = others.2 in cc) in
-    subst (λ (x : List A × Reading). Takes (flat_map spelling x.0) r x.1 × AllByRecursion Good x.0 × (length x.0 ≡ suc n)) same
-    (Takes-append (spelling first.0.0) (flat_map spelling others.0.0) r first.0.1 others.0.1 one.0 more.0, (one.1, more.1), omega
-        (arith, more.2))
+    subst (λ (x : List A × Reading). Takes (flat_map spelling x.0) r x.1 × AllByRecursion Good x.0 × (length x.0 ≡ suc n)) same (
+      Takes-append (spelling first.0.0) (flat_map spelling others.0.0) r first.0.1 others.0.1 one.0 more.0,
+      (one.1, more.1),
+      omega
+          (arith, more.2),
+    )
 
 -- values that are each read again where they are spelled are read again one after the other
 pub repeated-again : {A E : Type 0} (spelling : A → List ℕ) (Good : A → Type 0) (read : Reading → Result (A × Reading) E)
@@ -243,5 +248,5 @@ repeated-again {A} {E} spelling Good read each (x ∷ xs) place rest good =
     let first = each x place (flat_map spelling xs ++ rest) good.0 in
     let others = repeated-again spelling Good read each xs (place + length (spelling x)) rest good.1 in
     let ends : place + length (spelling x) + length (flat_map spelling xs) ≡ place + length (spelling x ++ flat_map spelling xs) = omega
-        (arith, length-append (spelling x) (flat_map spelling xs)) in
+    (arith, length-append (spelling x) (flat_map spelling xs)) in
     rw (grouped, first, others) (ap told ends)

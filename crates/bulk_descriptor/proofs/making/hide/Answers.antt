@@ -12,13 +12,13 @@ loop-seed-init c = record { hidden = refl; hashed = sym (append-nil c.args.hashe
 pub xor_into-requires : goal.xor_into-requires
 xor_into-requires c =
     let pad : c.deref.result.now ≡ pad_of (get_or c.args.seeds.now c.loop-seed.seed-index []) (length c.args.bytes.now) =
-        c.deref.ensures.value ∙ c.in_ok-pad.ensures in
+    c.deref.ensures.value ∙ c.in_ok-pad.ensures in
     rw pad (c.loop-seed.auto.bytes ∙ sym (length-pad_of (get_or c.args.seeds.now c.loop-seed.seed-index []) (length c.args.bytes.now)))
 
 pub hash_of_pad-requires : goal.hash_of_pad-requires
 hash_of_pad-requires c =
     let pad : c.deref-in-loop-seed.result.now ≡ pad_of (get_or c.args.seeds.now c.loop-seed.seed-index []) (length c.args.bytes.now) =
-        c.deref-in-loop-seed.ensures.value ∙ c.in_ok-pad.ensures in
+    c.deref-in-loop-seed.ensures.value ∙ c.in_ok-pad.ensures in
     rw pad (omega (arith, length-pad_of (get_or c.args.seeds.now c.loop-seed.seed-index []) (length c.args.bytes.now), c.requires))
 
 pub loop-seed-preserved : goal.loop-seed-preserved
@@ -28,7 +28,7 @@ loop-seed-preserved c =
     let k = c.loop-seed.seed-index in
     let first : c.deref.result.now ≡ pad_of (get_or seeds k []) count = c.deref.ensures.value ∙ c.in_ok-pad.ensures in
     let second : c.deref-in-loop-seed.result.now ≡ pad_of (get_or seeds k []) count = c.deref-in-loop-seed.ensures.value
-        ∙ c.in_ok-pad.ensures in
+    ∙ c.in_ok-pad.ensures in
     record {
       hidden = c.xor_into.ensures ∙ hidden_under-more c.args.bytes.now c.loop-seed.bytes c.deref.result.now seeds count k
           c.loop-seed-test.true c.loop-seed.invariant.hidden first;

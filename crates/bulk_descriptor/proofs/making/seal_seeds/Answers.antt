@@ -16,5 +16,5 @@ loop-k-preserved c =
     c.in_ok-push.ensures.items
     ∙ sealed_seeds-more keys seeds c.index.result.now c.index-in-loop-k.result.now c.seal_seed.result c.loop-k.capsules.items k below below'
     (get_or_read keys k c.index.result.now below c.index.ensures [])
-        (get_or_read seeds k c.index-in-loop-k.result.now below' c.index-in-loop-k.ensures [])
+    (get_or_read seeds k c.index-in-loop-k.result.now below' c.index-in-loop-k.ensures [])
     c.seal_seed.ensures c.loop-k.invariant

@@ -8,7 +8,7 @@ use Rattle.closing_vectors.proofs.judged.ended_log.Goals as goal
 pub said-requires-clause-complete : goal.said-requires-clause-complete
 said-requires-clause-complete c =
     reached-earlier c.args.log 1 c.in-Some.next (reached c.args.log c.in-Some.next (sym c.first_incomplete.ensures ∙ c.in-Some.is))
-        (omega (arith, c.if-next-shape.false))
+    (omega (arith, c.if-next-shape.false))
 
 pub returns-clause-complete : goal.returns-clause-complete
 returns-clause-complete c =

@@ -15,4 +15,4 @@ returns-clause-stand c =
 pub returns-clause-short : goal.returns-clause-short
 returns-clause-short c =
     short-put c.args.log.now c.put-put.new.self (record { stage = c.in-Ok.content.header.stage; sender = c.in-Ok.content.header.sender })
-        c.in_ok-post.post c.requires.short c.in_ok-post.ensures c.put-put.ensures.log
+    c.in_ok-post.post c.requires.short c.in_ok-post.ensures c.put-put.ensures.log

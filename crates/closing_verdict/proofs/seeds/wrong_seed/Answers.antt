@@ -24,11 +24,11 @@ wrong-here seeds keys place seed key right seed_is key_is decides other =
 pub returns-then-not-is_key_of : goal.returns-then-not-is_key_of
 returns-then-not-is_key_of c =
     sym (first_below-some (wrong_at c.args.seeds.now c.args.keys.now) (length c.args.seeds.now) c.loop-place.place (c.loop-place.place + 1)
-        (omega (arith, c.loop-place-test.true)) c.loop-place.invariant
+    (omega (arith, c.loop-place-test.true)) c.loop-place.invariant
     (wrong-here c.args.seeds.now c.args.keys.now c.loop-place.place _ _ c.is_key_of.result (search rules)
     (get_or_read c.args.keys.now c.loop-place.place c.index-keys-place.result
-        (let count = c.requires.count in omega (arith, c.loop-place-test.true)) c.index-keys-place.is []) c.is_key_of.ensures
-        (search rules)))
+    (let count = c.requires.count in omega (arith, c.loop-place-test.true)) c.index-keys-place.is []) c.is_key_of.ensures
+    (search rules)))
 
 pub returns : goal.returns
 returns c = sym (first_below-none (wrong_at c.args.seeds.now c.args.keys.now) (length c.args.seeds.now)

@@ -28,23 +28,36 @@ pub loop-place-init : goal.loop-place-init
 loop-place-init c =
     let roster : Roster = roster_of c.args.roster.now in
     embeds-none roster c.args.round c.args.content.now c.in_ok-log.log
-        (spans (shape_of_roster roster) c.args.content.now c.requires.grammar c.requires.closing)
+    (spans (shape_of_roster roster) c.args.content.now c.requires.grammar c.requires.closing)
     (c.in_ok-log.ensures ∙ ap empty_log c.shape-2.ensures)
 
 pub overflow_cast-place : goal.overflow_cast-place
 overflow_cast-place c =
     let roster : Roster = roster_of c.args.roster.now in
     let span = spans (shape_of_roster roster) c.args.content.now c.requires.grammar c.requires.closing in
-    omega (arith, span.within, span.posts_long, ap (λ (p : List (List ℕ)). length p) c.posts_embedded-posts.ensures, c.loop-place-test.true,
-        c.args.roster.now.form.most)
+    omega (
+      arith,
+      span.within,
+      span.posts_long,
+      ap (λ (p : List (List ℕ)). length p) c.posts_embedded-posts.ensures,
+      c.loop-place-test.true,
+      c.args.roster.now.form.most,
+    )
 
 pub overflow_add-first : goal.overflow_add-first
 overflow_add-first c =
     let roster : Roster = roster_of c.args.roster.now in
     let span = spans (shape_of_roster roster) c.args.content.now c.requires.grammar c.requires.closing in
     let first = c.first_embedded-first.ensures ∙ ap (λ (s : Shape). first_embedded s c.args.content.now) c.shape.ensures in
-    omega (arith, first, span.within, span.posts_long, ap (λ (p : List (List ℕ)). length p) c.posts_embedded-posts.ensures,
-        c.loop-place-test.true, c.args.roster.now.form.most)
+    omega (
+      arith,
+      first,
+      span.within,
+      span.posts_long,
+      ap (λ (p : List (List ℕ)). length p) c.posts_embedded-posts.ensures,
+      c.loop-place-test.true,
+      c.args.roster.now.form.most,
+    )
 
 pub returns-in-None-clause-exact : goal.returns-in-None-clause-exact
 returns-in-None-clause-exact c =
@@ -53,13 +66,13 @@ returns-in-None-clause-exact c =
     let span = spans (shape_of_roster roster) content c.requires.grammar c.requires.closing in
     let same : c.as_slice-bytes.result.now ≡ c.index-posts-place.result = c.as_slice-bytes.ensures.value ∙ c.items.ensures in
     let is = bytes_at (posts_embedded content.body) c.posts_embedded-posts.result.now c.loop-place.place c.index-posts-place.result
-        c.as_slice-bytes.result.now c.posts_embedded-posts.ensures same c.index-posts-place.is in
+    c.as_slice-bytes.result.now c.posts_embedded-posts.ensures same c.index-posts-place.is in
     let within : c.loop-place.place < length (posts_embedded content.body) = omega
-        (arith, ap (λ (p : List (List ℕ)). length p) c.posts_embedded-posts.ensures, c.loop-place-test.true) in
+    (arith, ap (λ (p : List (List ℕ)). length p) c.posts_embedded-posts.ensures, c.loop-place-test.true) in
     let next = next_of roster content c.loop-place.place c.as_slice-bytes.result.now span within is in
     let value = rw c.in-None.is at (c.in_ok-post_for.ensures.value next.slot
-        (asked_at roster content _ c.first_embedded-first.result c.loop-place.place c.as_slice-bytes.result.now next c.shape.ensures
-        c.first_embedded-first.ensures)) in
+    (asked_at roster content _ c.first_embedded-first.result c.loop-place.place c.as_slice-bytes.result.now next c.shape.ensures
+    c.first_embedded-first.ensures)) in
     embeds-bad roster c.args.round content c.loop-place.log c.loop-place.place c.as_slice-bytes.result.now next c.loop-place.invariant value
 
 pub loop-place-preserved : goal.loop-place-preserved
@@ -69,18 +82,18 @@ loop-place-preserved c =
     let span = spans (shape_of_roster roster) content c.requires.grammar c.requires.closing in
     let same : c.as_slice-bytes.result.now ≡ c.index-posts-place.result = c.as_slice-bytes.ensures.value ∙ c.items.ensures in
     let is = bytes_at (posts_embedded content.body) c.posts_embedded-posts.result.now c.loop-place.place c.index-posts-place.result
-        c.as_slice-bytes.result.now c.posts_embedded-posts.ensures same c.index-posts-place.is in
+    c.as_slice-bytes.result.now c.posts_embedded-posts.ensures same c.index-posts-place.is in
     let within : c.loop-place.place < length (posts_embedded content.body) = omega
-        (arith, ap (λ (p : List (List ℕ)). length p) c.posts_embedded-posts.ensures, c.loop-place-test.true) in
+    (arith, ap (λ (p : List (List ℕ)). length p) c.posts_embedded-posts.ensures, c.loop-place-test.true) in
     let next = next_of roster content c.loop-place.place c.as_slice-bytes.result.now span within is in
     let value = rw c.in-Some.is at (c.in_ok-post_for.ensures.value next.slot
-        (asked_at roster content _ c.first_embedded-first.result c.loop-place.place c.as_slice-bytes.result.now next c.shape.ensures
-        c.first_embedded-first.ensures)) in
+    (asked_at roster content _ c.first_embedded-first.result c.loop-place.place c.as_slice-bytes.result.now next c.shape.ensures
+    c.first_embedded-first.ensures)) in
     let number = rw c.in-Some.is at c.in_ok-post_for.ensures.numbered in
     let stands = rw c.in-Some.is at c.in_ok-post_for.ensures.stands in
     let first = c.first_embedded-first.ensures ∙ ap (λ (s : Shape). first_embedded s content) c.shape.ensures in
     embeds-next roster c.args.round content c.loop-place.log c.put-stored.new.self c.loop-place.place c.as_slice-bytes.result.now
-        c.in-Some.field-0.slot c.in-Some.field-0.post next span within c.loop-place.invariant value
+    c.in-Some.field-0.slot c.in-Some.field-0.post next span within c.loop-place.invariant value
     (number ∙ ap (λ (k : ℕ). k + c.loop-place.place) first) stands c.put-stored.ensures.log
 
 pub returns-clause-exact : goal.returns-clause-exact
@@ -89,9 +102,9 @@ returns-clause-exact c =
     let content : Content = c.args.content.now in
     let span = spans (shape_of_roster roster) content c.requires.grammar c.requires.closing in
     let end : c.loop-place.place ≡ length (posts_embedded content.body) = omega
-        (arith, ap (λ (p : List (List ℕ)). length p) c.posts_embedded-posts.ensures) in
+    (arith, ap (λ (p : List (List ℕ)). length p) c.posts_embedded-posts.ensures) in
     ap (fault_as (λ (bad : BadPost). bad.place)) (embeds-all roster c.args.round content c.loop-place.log c.loop-place.place span
-        c.loop-place.invariant end).1
+    c.loop-place.invariant end).1
 
 pub returns-clause-keeps : goal.returns-clause-keeps
 returns-clause-keeps c =
@@ -99,5 +112,5 @@ returns-clause-keeps c =
     let content : Content = c.args.content.now in
     let span = spans (shape_of_roster roster) content c.requires.grammar c.requires.closing in
     let end : c.loop-place.place ≡ length (posts_embedded content.body) = omega
-        (arith, ap (λ (p : List (List ℕ)). length p) c.posts_embedded-posts.ensures) in
+    (arith, ap (λ (p : List (List ℕ)). length p) c.posts_embedded-posts.ensures) in
     (embeds-all roster c.args.round content c.loop-place.log c.loop-place.place span c.loop-place.invariant end).0

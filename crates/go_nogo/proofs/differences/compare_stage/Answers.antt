@@ -12,15 +12,15 @@ returns-then-are_different c =
     let members = ap (λ (shape : Shape). shape.members) c.shape-shape.ensures.shape in
     let slot : Slot = record { stage = c.args.stage; sender = c.loop-place.place + 1 } in
     sym (first_below-some (λ place. differing c.args.a.now c.args.b.now (record { stage = c.args.stage; sender = place + 1 }))
-        c.args.a.now.shape.members c.loop-place.place slot (omega (arith, members)) c.loop-place.invariant
+    c.args.a.now.shape.members c.loop-place.place slot (omega (arith, members)) c.loop-place.invariant
     (differing-some c.args.a.now c.args.b.now slot c.kept-post.result c.kept-other.result c.are_different.result c.kept-post.ensures.post
-        c.kept-other.ensures.post c.are_different.ensures c.if-are_different.true))
+    c.kept-other.ensures.post c.are_different.ensures c.if-are_different.true))
 
 pub returns : goal.returns
 returns c =
     let members = ap (λ (shape : Shape). shape.members) c.shape-shape.ensures.shape in
     sym (first_below-none (λ place. differing c.args.a.now c.args.b.now (record { stage = c.args.stage; sender = place + 1 }))
-        c.args.a.now.shape.members (λ k lt. c.loop-place.invariant k (omega (arith, members))))
+    c.args.a.now.shape.members (λ k lt. c.loop-place.invariant k (omega (arith, members))))
 
 pub loop-place-preserved : goal.loop-place-preserved
 loop-place-preserved c = λ earlier lt.
@@ -31,5 +31,5 @@ loop-place-preserved c = λ earlier lt.
           let slot : Slot = record { stage = c.args.stage; sender = c.loop-place.place + 1 } in
           subst (λ (k : ℕ). differing c.args.a.now c.args.b.now (record { stage = c.args.stage; sender = k + 1 }) ≡ None) same
           (differing-none c.args.a.now c.args.b.now slot c.kept-post.result c.kept-other.result c.are_different.result
-              c.kept-post.ensures.post c.kept-other.ensures.post c.are_different.ensures c.if-are_different.false)
+          c.kept-post.ensures.post c.kept-other.ensures.post c.are_different.ensures c.if-are_different.false)
     ]

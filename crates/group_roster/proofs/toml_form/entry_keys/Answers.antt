@@ -24,7 +24,7 @@ loop-k-preserved c =
     let next = entry-next vs c.deref-entry-items.result.now k v c.deref-entry-items.ensures.value c.loop-k-test.true c.entry-item.is in
     let keys = c.loop-k.keys.items in
     let more = keys-some keys (k + 1) (view v) (map view (drop (k + 1) vs)) c.in-Some.key (keys_from 1 (map view vs))
-        (sym c.entry_key.ensures ∙ c.in-Some.is)
+    (sym c.entry_key.ensures ∙ c.in-Some.is)
     (ap (λ (xs : List Data). with_keys keys (keys_from (k + 1) xs)) (sym next) ∙ c.loop-k.invariant.0) in
     rw c.in_ok-push-in-Some.ensures.items (more, length-more keys c.in-Some.key k c.loop-k.invariant.1)
 
@@ -36,5 +36,5 @@ returns-clause-keys c =
     ap (keys_from 1) (list_of-items (map view vs))
     ∙ keys-done keys (k + 1) (keys_from 1 (map view vs))
     (ap (λ (xs : List Data). with_keys keys (keys_from (k + 1) xs))
-        (sym (entries-end vs c.deref-entry-items.result.now k c.deref-entry-items.ensures.value c.loop-k-test.false))
-        ∙ c.loop-k.invariant.0)
+    (sym (entries-end vs c.deref-entry-items.result.now k c.deref-entry-items.ensures.value c.loop-k-test.false))
+    ∙ c.loop-k.invariant.0)

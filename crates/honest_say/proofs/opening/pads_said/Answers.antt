@@ -24,9 +24,9 @@ pads_in-pads-requires c =
     let log = c.args.log.now in
     let members = ap (λ (shape : Shape). shape.members) c.shape-members.ensures.shape in
     let body = c.in_ok-body.ensures.value ∙ ap (λ (n : ℕ). said_in log.shape (past_of log c.args.stage) (n + 4) c.loop-sender.sender)
-        members in
+    members in
     let said = pads-stand log c.args.stage c.loop-sender.sender c.shape-members.ensures.form c.requires.complete c.requires.later
-        c.requires.stand (omega arith) (omega (arith, members)) in
+    c.requires.stand (omega arith) (omega (arith, members)) in
     subst IsPads (sym (body ∙ said.1)) (tt {0})
 
 pub loop-sender-preserved : goal.loop-sender-preserved
@@ -34,11 +34,11 @@ loop-sender-preserved c =
     let log = c.args.log.now in
     let members = ap (λ (shape : Shape). shape.members) c.shape-members.ensures.shape in
     let body = c.in_ok-body.ensures.value ∙ ap (λ (n : ℕ). said_in log.shape (past_of log c.args.stage) (n + 4) c.loop-sender.sender)
-        members in
+    members in
     let said = pads-stand log c.args.stage c.loop-sender.sender c.shape-members.ensures.form c.requires.complete c.requires.later
-        c.requires.stand (omega arith) (omega (arith, members)) in
+    c.requires.stand (omega arith) (omega (arith, members)) in
     let row : c.pads_in-pads.result ≡ pads_by log.shape (past_of log c.args.stage) (pad_stage log.shape) c.loop-sender.sender =
-        c.pads_in-pads.ensures ∙ ap pads_in body in
+    c.pads_in-pads.ensures ∙ ap pads_in body in
     let count = ap (λ (t : List (List ℕ)). length t) (row ∙ ap pads_in said.1) ∙ said.2 in
     let pushed = c.in_ok-push.ensures.items in (
       pushed ∙ member-next (pads_by log.shape (past_of log c.args.stage) (pad_stage log.shape)) c.loop-sender.sender

@@ -13,10 +13,10 @@ recover-requires c =
     let members = ap (λ (s : Shape). s.members) c.shape.ensures.shape in
     let opened = c.args.opened.now in
     let table_count = ap (λ (t : List (List (List ℕ))). length t) c.in_ok-pads.ensures.value
-        ∙ pads-count log.shape (past_of log c.args.stage) in
+    ∙ pads-count log.shape (past_of log c.args.stage) in
     let opened_count : length opened.items ≡ log.shape.members = omega (arith, opened.ok.0, c.requires.count) in
     are-slots c.shape.result.members log.shape.members (map (option_map description_of) c.in_ok-descriptors.descriptors.items) opened.items
-        c.in_ok-pads.pads.members members
+    c.in_ok-pads.pads.members members
     c.in_ok-descriptors.ensures.value opened_count table_count c.in_ok-pads.ensures.counts c.in_ok-descriptors.ensures.hashes
 
 pub returns : goal.returns
@@ -27,7 +27,7 @@ returns c =
     let opened = c.args.opened.now in
     let found : List (Option Description) = map (option_map description_of) c.in_ok-descriptors.descriptors.items in
     let are_found = descriptors-are log.shape past c.shape.result.members found opened.items members c.in_ok-descriptors.ensures.value
-        c.requires.opened in
+    c.requires.opened in
     let table_count = ap (λ (t : List (List (List ℕ))). length t) c.in_ok-pads.ensures.value ∙ pads-count log.shape past in
     let opened_count : length opened.items ≡ log.shape.members = omega (arith, opened.ok.0, c.requires.count) in
     let fit = are-slots c.shape.result.members log.shape.members found opened.items c.in_ok-pads.pads.members members

@@ -20,7 +20,7 @@ loop-sender-preserved c =
           c.loop-sender.list.items c.in_ok-bytes.bytes (omega arith) c.loop-sender.invariant.0 bytes,
       subst (λ (list : List (List ℕ)). All (λ entry. length entry < 2 ^ 32) list) (sym pushed)
           (All-push (λ entry. length entry < 2 ^ 32) c.loop-sender.list.items c.in_ok-bytes.bytes c.loop-sender.invariant.1
-              c.in_ok-bytes.ensures.short),
+          c.in_ok-bytes.ensures.short),
     )
 
 pub submission_said-requires-clause-slot : goal.submission_said-requires-clause-slot
@@ -30,7 +30,7 @@ submission_said-requires-clause-slot c =
     let stage : submit_stage log.shape c.args.shuffle ≡ c.submit_stage-submit.result
     = ap (λ (s : Shape). submit_stage s c.args.shuffle) (sym c.shape-shape.ensures.shape) ∙ sym c.submit_stage-submit.ensures.value in
     rw (← stage) (submit-slot log.shape c.args.shuffle c.loop-sender.sender c.requires.first c.requires.last (omega arith)
-        (omega (arith, members)))
+    (omega (arith, members)))
 
 pub submission_said-requires-clause-earlier : goal.submission_said-requires-clause-earlier
 submission_said-requires-clause-earlier c =

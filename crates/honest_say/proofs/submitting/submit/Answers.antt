@@ -11,7 +11,7 @@ submission-requires-clause-inner_seeds c =
     let keys = c.items-inner_keys.result.now in
     let made = ap (λ (t : List (List ℕ)). length t) c.in_ok-inner_seeds.ensures in
     let count = length-map-range_with_len (layer_seed c.args.secrets.now.inner_opening seat.round c.args.shuffle 1 seat.number) 1
-        seat.shape.members in
+    seat.shape.members in
     let said = ap (λ (t : List (List ℕ)). length t) c.items-inner_keys.ensures in
     omega (arith, seeds.ok.0, keys.ok.0, made, count, said, c.requires.inner)
 
@@ -22,7 +22,7 @@ submission-requires-clause-outer_seeds c =
     let keys = c.items-inner_keys.result.now in
     let made = ap (λ (t : List (List ℕ)). length t) c.in_ok-outer_seeds.ensures in
     let count = length-map-range_with_len (layer_seed c.args.secrets.now.outer_opening seat.round c.args.shuffle 2 seat.number) 1
-        seat.shape.members in
+    seat.shape.members in
     let said = ap (λ (t : List (List ℕ)). length t) c.items-inner_keys.ensures in
     omega (arith, seeds.ok.0, keys.ok.0, made, count, said, c.requires.inner)
 

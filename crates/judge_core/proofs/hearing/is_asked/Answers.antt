@@ -23,7 +23,7 @@ pad-asked case first number slot posts header is posts_are other slot_is =
     let unlike : (number == last) ≡ false = false_from_ne_true (number == last) (λ e. other (eqb-true number last e ∙ sym posts_are)) in
     ap (λ (s : ℕ). s == number - 1) slot_is
     ∙ sym (cond-false (number == last) (header.sender == case.accused && is_pad_stage (kind_of_stage shape header.stage))
-        (slot_number shape header.stage header.sender == number - 1) unlike)
+    (slot_number shape header.stage header.sender == number - 1) unlike)
     ∙ ap (λ (c : Claim). is_slot_asked c case (kind_of_stage shape header.stage) first number header) (sym is)
 
 pub returns-else-number-posts : goal.returns-else-number-posts

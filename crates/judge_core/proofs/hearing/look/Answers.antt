@@ -46,4 +46,4 @@ returns c =
     let read = passed shape _ c.args.bytes.now c.first_offence.result c.shape.ensures c.first_offence.ensures c.in_default.is in
     let kind = (kind-byte shape c.args.bytes.now read.0 fits read.1).1 in
     look-passes (case_of c.args.case) c.args.first c.args.number c.args.bytes.now read.0 read.1
-        (sym (c.is_kind_asked.ensures read.0.body kind) ∙ c.if-not-is_kind_asked.false)
+    (sym (c.is_kind_asked.ensures read.0.body kind) ∙ c.if-not-is_kind_asked.false)

@@ -28,7 +28,7 @@ returns-in_default c =
 pub loop-sender-preserved : goal.loop-sender-preserved
 loop-sender-preserved c =
     revealed-next (shape_of c.args.shape) (contents_said c.args.log.now) c.loop-sender.sender c.loop-sender.seeds.items
-        c.push.new.self.items
+    c.push.new.self.items
     c.in_ok-body.body c.in-Some.seed (omega arith) c.loop-sender.invariant c.in_ok-body.ensures.value (rw c.in-Some.is at c.seed_in.ensures)
     c.in_ok-push.ensures.items
 

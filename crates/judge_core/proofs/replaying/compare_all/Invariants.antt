@@ -10,4 +10,4 @@ use Rattle.judge_core.proofs.replaying.compare_all.Given as goal
 abbrev pub invariant-loop-place : goal.invariant-loop-place
 invariant-loop-place l = (said : Said) → IsShown (case_of l.fn.case) said l.fn.first
     → ComparesTo (case_of l.fn.case) (past_in (case_of l.fn.case) said) (kind_of_stage (shape_in (case_of l.fn.case)) said.header.stage)
-        said (map said_of l.fn.others) l.place l.difference l.told.items
+    said (map said_of l.fn.others) l.place l.difference l.told.items

@@ -20,7 +20,7 @@ compared shape kind first last key seed made shuffle place k r ended at seed_is 
     ap (λ (m : List ℕ). bytes_eq m key) (made_is ∙ ap key_of_seed seed_is)
     ∙ ap (λ (b : List ℕ). bytes_eq (key_of_seed r.seed) b) (k.is ∙ ap (λ (p : ℕ). slice_index_or k.keys p []) at)
     ∙ sym (seed-right kind (content_read shape first) (content_read shape last) (record { header = k.header; body = Keys k.keys })
-        (record { header = r.header; body = Reveal r.votes r.seed })
+    (record { header = r.header; body = Reveal r.votes r.seed })
     shuffle k.keys r.votes r.seed (ended-is kind shuffle ended) k.reads r.reads refl refl)
 
 pub returns : goal.returns
@@ -29,7 +29,7 @@ returns c =
     let ended : shuffle_ended (kind_of_stage shape c.args.last.header.stage) ≡ Some c.in-Some.shuffle =
     ap shuffle_ended (sym c.stage_kind.ensures.kind) ∙ sym c.shuffle_ended.ensures ∙ c.in-Some.is in
     c.eq.ensures ∙ compared shape (kind_of_stage shape c.args.last.header.stage) c.args.keys.content.now c.args.last.content.now
-        c.key_in-key.result.now c.seed_in.result c.as_slice.result.now
+    c.key_in-key.result.now c.seed_in.result c.as_slice.result.now
     c.in-Some.shuffle c.inner_place.result (c.key_in-key.ensures shape c.requires.keys) c.requires.last ended c.inner_place.ensures.value
-        (c.seed_in.ensures shape c.requires.last)
+    (c.seed_in.ensures shape c.requires.last)
     (c.as_slice.ensures ∙ c.bytes.ensures.value ∙ c.public_of.ensures)

@@ -9,7 +9,7 @@ pub returns-then-taken-eq0-clause-read : goal.returns-then-taken-eq0-clause-read
 returns-then-taken-eq0-clause-read g c =
     front_ended _ _ c.loop-size.size c.in-Read.taken c.loop-size.image c.read_more.new.image c.loop-size.invariant.kept
     c.loop-size.invariant.read c.if-taken-eq0.true c.loop-size.invariant.within c.in-Read.ensures.read
-        (c.in-Read.ensures.ended (ap Read c.if-taken-eq0.true))
+    (c.in-Read.ensures.ended (ap Read c.if-taken-eq0.true))
 
 pub loop-size-preserved : goal.loop-size-preserved
 loop-size-preserved g c = record {

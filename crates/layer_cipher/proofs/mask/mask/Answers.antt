@@ -18,7 +18,7 @@ returns c =
     let stream : now ≡ stream_of c.mask_key.result (length body) = c.deref_mut.ensures.value ∙ c.in_ok-masked.ensures in
     let long : length now ≡ length body = ap (λ (x : List ℕ). length x) stream ∙ length-bytes_from c.mask_key.result 0 (length body) in
     let size : length into ≡ c.in_ok-masked.masked.len = ap (λ (x : List ℕ). length x) c.xor_into.ensures
-        ∙ length-exclusive_or now body long ∙ c.deref_mut.ensures.len in
+    ∙ length-exclusive_or now body long ∙ c.deref_mut.ensures.len in
     take_at into (drop (length into) c.in_ok-masked.masked.items) c.in_ok-masked.masked.len size
     ∙ c.xor_into.ensures
     ∙ ap (λ (x : List ℕ). exclusive_or x body) (stream ∙ ap (λ (key : List ℕ). stream_of key (length body)) c.mask_key.ensures)

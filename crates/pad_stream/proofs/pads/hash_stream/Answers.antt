@@ -16,7 +16,7 @@ loop-i-preserved c = λ m h.
     let drawn : c.draw.new.out ≡ bytes_from c.args.key.now (4 * (64 * i)) size = rw part at c.draw.ensures in
     let so_far = c.loop-i.invariant m h in
     let joined : (m ++ stream_of c.args.key.now (min (256 * i) c.args.length)) ++ c.draw.new.out ≡ m
-        ++ stream_of c.args.key.now (min (256 * (i + 1)) c.args.length)
+    ++ stream_of c.args.key.now (min (256 * (i + 1)) c.args.length)
     = stream_of-more c.args.key.now m c.draw.new.out (64 * i) (min (256 * i) c.args.length) size (min (256 * (i + 1)) c.args.length)
-        (omega arith) (omega arith) drawn in
+    (omega arith) (omega arith) drawn in
     rw joined at (c.update.ensures (m ++ stream_of c.args.key.now (min (256 * i) c.args.length)) so_far)

@@ -7,7 +7,7 @@ pub returns-in_err-_bytes : goal.returns-in_err-_bytes
 returns-in_err-_bytes c =
     let p = err_from_is_err_and c.from_residual.result c.from_residual.ensures.1 in
     rw (p.1, p.2) (passing-ends c.args.count c.loop.counter (item_at c.args.form) c.loop.cursor _ _ c.loop-test.true c.in_err-_bytes.ensures
-        c.loop.invariant)
+    c.loop.invariant)
 
 pub loop-preserved : goal.loop-preserved
 loop-preserved c = passing-goes_on c.args.count c.loop.counter (item_at c.args.form) c.loop.cursor c.item_bytes.new.cursor _ _

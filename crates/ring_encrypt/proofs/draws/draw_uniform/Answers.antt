@@ -9,7 +9,7 @@ pub loop-place-preserved : goal.loop-place-preserved
 loop-place-preserved c =
     let place = c.loop-place.place in
     let word : get_or c.draw_words-words.result place 0 ≡ word_of c.args.key.now place = rw zero-add at
-        (c.draw_words-words.ensures.words place (omega (arith, c.draw_words-words.ensures.length))) in
+    (c.draw_words-words.ensures.words place (omega (arith, c.draw_words-words.ensures.length))) in
     record {
       long = search rules;
       drawn = fill_more (λ k. word_of c.args.key.now k % 12289) c.loop-place.coefficients place

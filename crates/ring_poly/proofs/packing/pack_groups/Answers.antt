@@ -9,4 +9,4 @@ loop-group-preserved c =
     let places : 7 * g + 7 ≤ length c.loop-group.bytes = omega arith in
     let part : length c.pack_group.new.bytes ≡ 7 = search rules in
     pack_next g c.args.coefficients.now c.loop-group.bytes c.pack_group.new.bytes room places part c.loop-group.invariant
-        c.pack_group.ensures
+    c.pack_group.ensures

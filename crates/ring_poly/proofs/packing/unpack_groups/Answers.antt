@@ -9,4 +9,4 @@ loop-group-preserved c =
     let places : 7 * g + 7 ≤ length c.args.bytes.now = omega arith in
     let part : length c.unpack_group.new.coefficients ≡ 4 = search rules in
     unpack_next g c.args.bytes.now c.loop-group.coefficients c.unpack_group.new.coefficients places room part c.loop-group.invariant
-        c.unpack_group.ensures
+    c.unpack_group.ensures

@@ -8,4 +8,4 @@ returns-clause-found c =
     let opening = opening_of c.in_ok-opening.opening in
     found_of c.read_further.result (further_of opening c.read_opening.new.lines)
     (λ script e. further_is opening c.read_opening.new.lines script
-        (opening_is _ (opening, c.read_opening.new.lines) c.in_ok-opening.ensures) e) c.read_further.ensures
+    (opening_is _ (opening, c.read_opening.new.lines) c.in_ok-opening.ensures) e) c.read_further.ensures

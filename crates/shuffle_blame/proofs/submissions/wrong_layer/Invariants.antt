@@ -8,7 +8,7 @@ use Rattle.shuffle_blame.proofs.submissions.wrong_layer.Given as goal
 abbrev pub invariant-loop-layer : goal.invariant-loop-layer
 invariant-loop-layer l =
     (inside (inquiry_at l.fn.log l.fn.ended l.fn.parts) (submission (inquiry_at l.fn.log l.fn.ended l.fn.parts) l.fn.member) (l.layer - 1) ≡
-        Some (unwrap_or l.inside l.bytes))
+    Some (unwrap_or l.inside l.bytes))
     × (length (unwrap_or l.inside l.bytes) < 2 ^ 32)
     × ((earlier : ℕ) → 1 ≤ earlier → earlier < l.layer → has_layer (inquiry_at l.fn.log l.fn.ended l.fn.parts) l.fn.ended.shuffle
-        l.fn.member earlier ≡ true)
+    l.fn.member earlier ≡ true)

@@ -7,4 +7,4 @@ use Rattle.transcript_form.proofs.listed.pass_posts.Given as goal
 abbrev pub invariant-loop : goal.invariant-loop
 invariant-loop l =
     (front : List (List ℕ)) × (with_front front (repeated (l.count - l.counter) (listed_at l.size) l.cursor) ≡ repeated l.fn.count
-        (listed_at l.fn.size) l.fn.cursor)
+    (listed_at l.fn.size) l.fn.cursor)

@@ -13,5 +13,5 @@ loop-sender-preserved c =
           (omega arith) c.loop-sender.invariant.0 c.in_ok-post.ensures.value,
       subst (λ (list : List (List ℕ)). All (λ entry. length entry < 2 ^ 32) list) (sym pushed)
           (All-push (λ entry. length entry < 2 ^ 32) c.loop-sender.posts.items c.in_ok-post.post c.loop-sender.invariant.1
-              c.in_ok-post.ensures.short),
+          c.in_ok-post.ensures.short),
     )

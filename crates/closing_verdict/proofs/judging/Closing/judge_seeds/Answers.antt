@@ -39,7 +39,7 @@ pub seeds_revealed-requires : goal.seeds_revealed-requires
 seeds_revealed-requires c =
     subst (λ (t : List Told). All TellsSeed t) (sym c.deref.ensures.value)
     (all-seeds (completed_of c.args.self) c.args.told.now.items c.args.shuffle c.requires.closing.complete c.requires.told c.requires.at
-        c.requires.agree)
+    c.requires.agree)
 
 pub convict_seed-requires-clause-verdict : goal.convict_seed-requires-clause-verdict
 convict_seed-requires-clause-verdict c =
@@ -50,7 +50,7 @@ convict_seed-requires-clause-verdict c =
     seed-convicts (stage_closed x) (verdict_in x) c.args.shuffle c.in-Some.member c.wrong_seed.result
     (final-verdict x told c.args.shuffle is c.requires.told c.requires.agree c.requires.at)
     (wrong-found x told c.deref-2.result.now c.in_ok-seeds.seeds.items c.inner_keys.result.now c.args.shuffle c.wrong_seed.result is
-        c.requires.told c.deref-2.ensures.value seeds_are c.inner_keys.ensures.keys
+    c.requires.told c.deref-2.ensures.value seeds_are c.inner_keys.ensures.keys
     c.wrong_seed.ensures) c.in-Some.is
 
 pub overflow_add-self : goal.overflow_add-self
@@ -77,7 +77,7 @@ returns-then-shuffle-eq1 c =
       verdict = first-goes (stage_closed x) (verdict_in x) c.args.shuffle c.wrong_seed.result
           (final-verdict x told c.args.shuffle is c.requires.told c.requires.agree c.requires.at)
           (wrong-found x told c.deref-2.result.now c.in_ok-seeds.seeds.items c.inner_keys.result.now c.args.shuffle c.wrong_seed.result is
-              c.requires.told c.deref-2.ensures.value seeds_are c.inner_keys.ensures.keys
+          c.requires.told c.deref-2.ensures.value seeds_are c.inner_keys.ensures.keys
           c.wrong_seed.ensures) c.in_default.is c.if-shuffle-eq1.true;
       opened = record {
         are = c.in_ok-items.ensures.value ∙ ap (λ (stage : ℕ). items_opened log.shape (past_of log (stage + 1)) 1) ends;
@@ -91,7 +91,7 @@ returns-then-shuffle-eq1 c =
 pub judge_accusations-requires-clause-at : goal.judge_accusations-requires-clause-at
 judge_accusations-requires-clause-at c =
     c.requires.at ∙ ap (λ (s : ℕ). some_final s) (end-second c.args.self.log.now.shape c.args.self.stage c.args.shuffle c.requires.at
-        c.if-shuffle-eq1.false).0
+    c.if-shuffle-eq1.false).0
   where
     some_final : ℕ → Option StageKind
     some_final s = Some (AtFinal s)
@@ -111,5 +111,5 @@ judge_accusations-requires-clause-agree c =
     second-comes (stage_closed x) (verdict_in x) c.args.shuffle c.wrong_seed.result
     (final-verdict x told c.args.shuffle is c.requires.told c.requires.agree c.requires.at)
     (wrong-found x told c.deref-2.result.now c.in_ok-seeds.seeds.items c.inner_keys.result.now c.args.shuffle c.wrong_seed.result is
-        c.requires.told c.deref-2.ensures.value seeds_are c.inner_keys.ensures.keys
+    c.requires.told c.deref-2.ensures.value seeds_are c.inner_keys.ensures.keys
     c.wrong_seed.ensures) c.in_default.is c.if-shuffle-eq1.false

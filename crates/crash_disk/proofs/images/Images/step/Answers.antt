@@ -5,4 +5,4 @@ pub returns-in-Wrote : goal.returns-in-Wrote
 returns-in-Wrote c =
     wrote_is c.args.self.now _ _ c.args.step.now c.in-Wrote.at c.in-Wrote.size c.in-Wrote.bytes c.in-Wrote.is
     (write_small c.args.self.now.file c.args.step.now c.in-Wrote.at c.in-Wrote.size c.in-Wrote.bytes c.in-Wrote.is c.requires.fits)
-        c.write.ensures c.write-in-Wrote.ensures
+    c.write.ensures c.write-in-Wrote.ensures

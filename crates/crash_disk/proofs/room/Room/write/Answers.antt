@@ -13,5 +13,5 @@ returns c =
     written_within c.self.inside.buffer.items c.overwrite.new.all _ c.args.bytes.now c.args.at c.self.inside.size c.max-self-inside.result
     c.self.inside.buffer.len (c.overwrite.ensures ∙ ap (λ (l : List ℕ). overwritten l c.args.at c.args.bytes.now) value) whole
     (omega (arith, size, c.requires.place, length-take c.self.inside.size c.self.inside.buffer.items))
-        (omega (arith, c.requires.room, c.self.invariant)) c.max-self-inside.ensures
+    (omega (arith, c.requires.room, c.self.invariant)) c.max-self-inside.ensures
     ∙ ap (λ (l : List ℕ). overwritten l c.args.at c.args.bytes.now) was

@@ -7,6 +7,6 @@ pub returns : goal.returns
 returns c =
     let bytes = c.index.result.now in
     let listed : bytes ≡ get_or c.args.self.now.keys (c.args.sender - 1) bytes = subst
-        (λ (keys : List (List ℕ)). bytes ≡ get_or keys (c.args.sender - 1) bytes) c.items-keys.ensures c.index.ensures in
+    (λ (keys : List (List ℕ)). bytes ≡ get_or keys (c.args.sender - 1) bytes) c.items-keys.ensures c.index.ensures in
     key_of-is (roster_of c.args.self.now) c.args.sender bytes c.in-Ok.key c.requires.least c.requires.most listed
-        (sym c.read.ensures.value ∙ c.in-Ok.is)
+    (sym c.read.ensures.value ∙ c.in-Ok.is)

@@ -70,4 +70,4 @@ returns-clause-stands g c =
     subst (λ (b : Actor). StandsFor (g.C.Conduct.replies c.ask.new.conduct) start c' b (holdings_of c.ask.new.self))
     (ap (actor_behind_question start c' a) copied ∙ sym (ap (actor_behind_repeat start c' a) (sym s.at.mood ∙ c.in-PutOff.is)))
     (stands start c' a (stands-again (g.C.Conduct.replies c.args.conduct.now) start c' a (holdings_of c.args.self.now) bytes c.in-PutOff.is
-        s))) c.ask.ensures.stands
+    s))) c.ask.ensures.stands

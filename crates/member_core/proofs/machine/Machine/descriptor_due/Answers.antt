@@ -54,17 +54,17 @@ returns-clause-long g c =
     let m = c.args.self.now in
     let past : List (List ℕ) = past_of m.log m.stage in
     let keys = keys-here m.log m.stage c.in-Some.keys (carried-keys m.log m.stage m.keys c.in-Some.keys c.in-Some.is c.requires.ready.keys)
-        c.requires.behind c.requires.ready.past in
+    c.requires.behind c.requires.ready.past in
     let own : length c.in_ok-made.made.descriptor.pad_hashes ≡ m.log.shape.members = own-hashes m
-        (description_of c.in_ok-made.made.descriptor) c.requires.formed (λ config is.
+    (description_of c.in_ok-made.made.descriptor) c.requires.formed (λ config is.
     c.in_ok-made.ensures.descriptor config past is.seat (held-is m.secrets.bulk c.in-Some-bulk.bulk (AreBulkSecrets config)
-        c.in-Some-bulk.is is.secrets.bulk)
+    c.in-Some-bulk.is is.secrets.bulk)
     (c.deref.ensures.value ∙ c.items-message.ensures ∙ is.message)
     (c.items.ensures ∙ keys.bulk ∙ ap (λ (s : Shape). keys_said s past bulk_place) (shape-is config m c.requires.formed is.seat))) in
     let many : length c.in_ok-descriptor.descriptor.pad_hashes ≡ m.log.shape.members = c.in_ok-descriptor.ensures.members ∙ own in
     ap (λ (t : List ℕ). length t) (c.of.ensures ∙ c.in_ok-bytes.ensures.value)
     ∙ text-long (length c.in_ok-descriptor.descriptor.pad_hashes) (description_of c.in_ok-descriptor.descriptor)
-        c.in_ok-bytes.ensures.grammar
+    c.in_ok-bytes.ensures.grammar
     ∙ ap (λ (n : ℕ). 36 + 2272 * n) many
 
 pub returns-clause-told : goal.returns-clause-told
@@ -72,10 +72,10 @@ returns-clause-told g c = λ config seat secrets message.
     let m = c.args.self.now in
     let past : List (List ℕ) = past_of m.log m.stage in
     let keys = keys-here m.log m.stage c.in-Some.keys (carried-keys m.log m.stage m.keys c.in-Some.keys c.in-Some.is c.requires.ready.keys)
-        c.requires.behind c.requires.ready.past in
+    c.requires.behind c.requires.ready.past in
     let own : description_of c.in_ok-made.made.descriptor ≡ own_description config past
     = c.in_ok-made.ensures.descriptor config past seat (held-is m.secrets.bulk c.in-Some-bulk.bulk (AreBulkSecrets config) c.in-Some-bulk.is
-        secrets.bulk)
+    secrets.bulk)
     (c.deref.ensures.value ∙ c.items-message.ensures ∙ message)
     (c.items.ensures ∙ keys.bulk ∙ ap (λ (s : Shape). keys_said s past bulk_place) (shape-is config m c.requires.formed seat)) in
     c.of.ensures ∙ c.in_ok-bytes.ensures.value
@@ -92,10 +92,10 @@ returns-clause-then g c = λ config seat secrets message.
     let m = c.args.self.now in
     let past : List (List ℕ) = past_of m.log m.stage in
     let keys = keys-here m.log m.stage c.in-Some.keys (carried-keys m.log m.stage m.keys c.in-Some.keys c.in-Some.is c.requires.ready.keys)
-        c.requires.behind c.requires.ready.past in
+    c.requires.behind c.requires.ready.past in
     let own : description_of c.in_ok-made.made.descriptor ≡ own_description config past
     = c.in_ok-made.ensures.descriptor config past seat (held-is m.secrets.bulk c.in-Some-bulk.bulk (AreBulkSecrets config) c.in-Some-bulk.is
-        secrets.bulk)
+    secrets.bulk)
     (c.deref.ensures.value ∙ c.items-message.ensures ∙ message)
     (c.items.ensures ∙ keys.bulk ∙ ap (λ (s : Shape). keys_said s past bulk_place) (shape-is config m c.requires.formed seat)) in
     c.in_ok-descriptor.ensures.then ∙ ap (g.C.Conduct.replies c.args.conduct.now).speech_after own

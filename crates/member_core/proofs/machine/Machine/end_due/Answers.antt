@@ -25,7 +25,7 @@ unreachable-requires c =
     let within = placed.kind_in in
     let at = placed.at in
     not-missing (shuffle_secrets m.secrets c.args.shuffle) (holds-shuffle m c.args.shuffle c.requires.needed c.requires.asked within.0
-        within.1 (omega (arith, at)))
+    within.1 (omega (arith, at)))
     (sym c.take_shuffle.ensures.taken ∙ c.in_default.is)
 
 pub unreachable-unreachable : goal.unreachable-unreachable
@@ -43,7 +43,7 @@ pub final_body-requires-clause-complete : goal.final_body-requires-clause-comple
 final_body-requires-clause-complete c =
     let m = c.args.self.now in
     subst (λ (s : ℕ). IsSome (before m.log s)) (kind-place m.log.shape m.stage (Final c.args.shuffle) c.requires.kind).at
-        c.requires.ready.past
+    c.requires.ready.past
 
 pub final_body-requires-clause-stand : goal.final_body-requires-clause-stand
 final_body-requires-clause-stand c = c.requires.formed.stand (final_stage c.args.self.now.log.shape c.args.shuffle - 1)
@@ -85,9 +85,9 @@ returns-clause-due c = IfOk-weaker c.final_body.result _ _ (λ body said now.
     let within = placed.kind_in in
     final-due now m c.args.shuffle body c.in-Some.secrets c.requires.formed c.requires.ready c.requires.asked c.requires.kind
     (λ config secrets. secrets-for config m.secrets c.args.shuffle c.in-Some.secrets secrets within.0 within.1
-        (sym c.take_shuffle.ensures.taken ∙ c.in-Some.is))
+    (sym c.take_shuffle.ensures.taken ∙ c.in-Some.is))
     (subst (λ (s : ℕ). body ≡ final_row m.log.shape (posts_before m.log s) s c.in-Some.secrets.inner c.in-Some.secrets.outer
-        c.in-Some.secrets.outer_opening) (sym placed.at) said)) c.final_body.ensures
+    c.in-Some.secrets.outer_opening) (sym placed.at) said)) c.final_body.ensures
 
 pub returns-clause-stands : goal.returns-clause-stands
 returns-clause-stands c = IfOk-weaker c.final_body.result _ _ (λ body said now start config a stands.
@@ -100,4 +100,4 @@ returns-clause-stands c = IfOk-weaker c.final_body.result _ _ (λ body said now 
     subst (λ (s : Secrets). StandsAsked now start config a (holdings_of (record m { secrets = s }))) (sym c.take_shuffle.ensures.left)
     (asked-with now now start config a m left m.own stands (secrets-shuffle config m.secrets c.args.shuffle stands.entered.secrets)
     (goes-on_as now start config a m c.requires.asked stands not_first)
-        (own-asked now start config a m left c.requires.asked stands not_first apart.1))) c.final_body.ensures
+    (own-asked now start config a m left c.requires.asked stands not_first apart.1))) c.final_body.ensures

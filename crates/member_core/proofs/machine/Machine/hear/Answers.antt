@@ -51,7 +51,7 @@ blame-requires-clause-short g c = c.requires.sound.formed.short
 pub blame-requires-clause-other : goal.blame-requires-clause-other
 blame-requires-clause-other g c = λ other.
     let first = found-other (shape_of c.args.self.now.seat.shape) (kept_in c.args.self.now.log (slot_named c.args.header))
-        c.args.parts.content.now
+    c.args.parts.content.now
     (sym c.find-found.ensures ∙ other) in
     some_is (kept_in c.args.self.now.log (slot_named c.args.header)) first.0 first.1
 
@@ -141,9 +141,9 @@ returns-in-New-clause-ending g c = if-ok _ _ c.store.result (λ taken told.
 pub returns-in-New-clause-takes : goal.returns-in-New-clause-takes
 returns-in-New-clause-takes g c = if-three _ _ _ _ c.store.result (λ taken runs told goes start c' delivered s.
     takes-new (g.C.Conduct.replies c.args.conduct.now) (g.C.Conduct.replies c.store.new.conduct) start c' delivered c.args.self.now
-        c.args.bytes.now c.args.header (record { content = c.args.parts.content.now; signature = c.args.parts.signature.now })
+    c.args.bytes.now c.args.header (record { content = c.args.parts.content.now; signature = c.args.parts.signature.now })
     (holdings_of c.store.new.self) taken c.requires.sound.formed c.requires.going c.requires.post (sym c.find-found.ensures ∙ c.in-New.is) s
-        runs told
+    runs told
     (λ a stands. goes start c' a stands)) c.store.ensures.runs c.store.ensures.answer c.store.ensures.stands
 
 pub returns-in-New-clause-idle : goal.returns-in-New-clause-idle

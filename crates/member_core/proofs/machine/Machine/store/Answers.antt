@@ -29,7 +29,7 @@ pub ask_again-requires-clause-sound : goal.ask_again-requires-clause-sound
 ask_again-requires-clause-sound g c =
     let post : Post = record { content = c.args.parts.content.now; signature = c.args.parts.signature.now } in
     subst IsSound (sym c.in_ok-keep.ensures.kept) (sound-stays c.args.self.now (slot_named c.args.header) post c.requires.post
-        c.requires.sound)
+    c.requires.sound)
 
 pub ask_again-requires-clause-going : goal.ask_again-requires-clause-going
 ask_again-requires-clause-going g c = subst (λ (m : Machine). IsOpen m.ending) (sym c.in_ok-keep.ensures.kept) c.requires.going
@@ -113,10 +113,10 @@ returns-in-Blamed-clause-stands g c = λ start c' a s.
     let post : Post = record { content = c.args.parts.content.now; signature = c.args.parts.signature.now } in
     let b : Actor = record a { log = filled a.log slot post } in
     let kept = stands-stays (g.C.Conduct.replies c.args.conduct.now) start c' a (holdings_of c.args.self.now) slot post
-        c.requires.post.others c.requires.going s in
+    c.requires.post.others c.requires.going s in
     c.in_ok-advance.ensures.stands start c' _ (c.in_ok-ask_again.ensures.stands start c' b
     (subst (λ (m : Machine). StandsFor (g.C.Conduct.replies c.args.conduct.now) start c' b (holdings_of m)) (sym c.in_ok-keep.ensures.kept)
-        kept))
+    kept))
 
 pub returns-in_default : goal.returns-in_default
 returns-in_default g c = record {
@@ -130,8 +130,8 @@ returns-in_default g c = record {
       let post : Post = record { content = c.args.parts.content.now; signature = c.args.parts.signature.now } in
       let b : Actor = record a { log = filled a.log slot post } in
       let kept = stands-stays (g.C.Conduct.replies c.args.conduct.now) start c' a (holdings_of c.args.self.now) slot post
-          c.requires.post.others c.requires.going s in
+      c.requires.post.others c.requires.going s in
       c.in_ok-advance.ensures.stands start c' _ (c.in_ok-ask_again.ensures.stands start c' b
       (subst (λ (m : Machine). StandsFor (g.C.Conduct.replies c.args.conduct.now) start c' b (holdings_of m))
-          (sym c.in_ok-keep.ensures.kept) kept));
+      (sym c.in_ok-keep.ensures.kept) kept));
 }
