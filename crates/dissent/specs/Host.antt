@@ -2,7 +2,6 @@
 use Rattle.std.specs.Prelude.{ℕ, nat_lt, if◌then◌else◌, List, length, Option, Some, None}
 use Rattle.dissent.specs.declared.host.HostFiles.{HostFiles}
 use Rattle.dissent.specs.declared.host.WriterSink.{WriterSink}
-use Rattle.dissent.specs.declared.host_disk.HostDisk.{HostDisk}
 
 -- the faults that the files of the system have counted
 abbrev pub file_faults : {R : Type 0} → HostFiles R → ℕ
@@ -18,7 +17,3 @@ sink_faults sink = sink.faults
 
 abbrev pub sink_writer : {W : Type 0} → WriterSink W → W
 sink_writer sink = sink.writer
-
--- the faults that a disk over a file of the system has counted
-abbrev pub disk_faults : {R Opened Listed : Type 0} → HostDisk R Opened Listed → ℕ
-disk_faults disk = disk.faults

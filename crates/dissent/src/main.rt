@@ -7,7 +7,6 @@ mod delivery;
 #[cfg(test)]
 mod evidence;
 mod host;
-mod host_disk;
 mod interfaces;
 mod memory;
 mod offline;
@@ -21,7 +20,7 @@ mod words;
 pub use commands::{POST_FILE_LIMIT, ROSTER_LIMIT, TOML_LIMIT, TRANSCRIPT_LIMIT};
 use delivery::print;
 pub use host::{HostFiles, WriterSink};
-pub use host_disk::{HostDisk, Lock};
+use host_disk::{HostDisk, Lock};
 pub use interfaces::{FileRead, FileWrite, Files, Sink, SinkAnswer};
 pub use memory::{MemoryFiles, MemorySink};
 pub use offline::run_offline;

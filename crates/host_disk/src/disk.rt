@@ -1,12 +1,12 @@
 //! A file of the system as the disk of a key file. It tells nothing of the file's bytes, of
 //! which a crash may leave any as far as its contract says, and counts its faults.
-ghost use Rattle.std.specs.Prelude.{◌≤◌, IfOk, None, length};
-ghost use Rattle.std.specs.Io.KnownBytes.{Keeps, ReadConsumes};
-ghost use Rattle.std.specs.Io.Seek.{MovesTo};
+ghost use Rattle.std.specs.Prelude.{None};
 
+use crate::system_file::SystemFile;
+use crate::transfer::{read_from, sync_all, write_from};
 use crash_disk::{Disk, DiskAnswer, DiskRead, nothing_is_torn};
 use std::fs::{File, OpenFile, OpenOptions};
-use std::io::{ErrorKind, Read, Seek, SeekFrom, Write};
+use std::io::ErrorKind;
 use std::os::unix::fs::OpenOptionsExt;
 use std::path::Path;
 use std::{io, rt};
@@ -32,13 +32,13 @@ impl Lock for File {
 #[derive(Drop)]
 pub struct HostDisk<'a, R: rt::Files> {
     rt: &'a R,
-    file: Option<R::File>,
+    file: Option<SystemFile<R::File>>,
     faults: u64,
 }
 
 impl<'a, R: rt::Files> HostDisk<'a, R> {
     ghost use Rattle.std.specs.Prelude.{◌≡◌};
-    ghost use Rattle.dissent.specs.Host.{disk_faults};
+    ghost use Rattle.host_disk.specs.Faults.{disk_faults};
 
     /// Over the system of `rt`, with no file yet.
     pub fn new(rt: &'a R) -> Self
@@ -56,7 +56,7 @@ impl<'a, R: rt::Files> Disk for HostDisk<'a, R>
 where
     R::File: Lock,
 {
-    ghost use Rattle.dissent.specs.Host.{disk_faults};
+    ghost use Rattle.host_disk.specs.Faults.{disk_faults};
 
     ghost faults = { λ disk. disk_faults disk };
 
@@ -82,7 +82,7 @@ where
         self.file = None;
         match held_file(self.rt, name, fresh) {
             Ok(file) => {
-                self.file = Some(file);
+                self.file = Some(SystemFile::new(file));
                 DiskAnswer::Done
             }
             Err(_) => {
@@ -115,7 +115,7 @@ where
     }
 
     fn sync(&mut self) -> DiskAnswer {
-        match sync_all(&self.file) {
+        match sync_all(&mut self.file) {
             Ok(()) => DiskAnswer::Done,
             Err(_) => {
                 self.faults = self.faults.saturating_add(1);
@@ -161,72 +161,3 @@ fn open_file<R: rt::Files>(rt: &R, name: &String, fresh: bool) -> io::Result<R::
     }
     Err(io::Error::from(ErrorKind::Interrupted))
 }
-
-// What is answered where no file is chosen.
-fn not_chosen() -> io::Error {
-    io::Error::from(ErrorKind::NotFound)
-}
-
-// Goes to a place.
-fn go_to<F: Seek>(file: &mut F, at: u32) -> io::Result<()>
-    ensures moves { MovesTo (F.stream_position file.old) (F.stream_position file.new) at result }
-    ensures bytes { Keeps (F.stream_bytes file.old) (F.stream_bytes file.new) }
-{
-    file.seek(SeekFrom::Start(u64::from(at)))?;
-    Ok(())
-}
-
-// Reads once from a place on.
-fn read_from<F: Read + Seek>(file: &mut Option<F>, at: u32, into: &mut [u8]) -> io::Result<u32>
-    ensures { IfOk result (λ taken. taken ≤ length into.old) }
-{
-    let Some(file) = file else {
-        return Err(not_chosen());
-    };
-    go_to(file, at)?;
-    let taken = read_once(file, into)?;
-    match u32::try_from(taken) {
-        Ok(taken) => Ok(taken),
-        Err(_) => Err(io::Error::from(ErrorKind::FileTooLarge)),
-    }
-}
-
-// One read, and again where it was interrupted.
-fn read_once<F: Read>(file: &mut F, into: &mut [u8]) -> io::Result<usize>
-    ensures bounded { IfOk result (λ taken. taken ≤ length into.old) }
-    ensures bytes { ReadConsumes (F.remaining file.old) (F.remaining file.new) result into.new }
-{
-    for _ in 0..u64::MAX {
-        match file.read(into) {
-            Err(error) if error.kind() == ErrorKind::Interrupted => {}
-            answer => return answer,
-        }
-    }
-    Err(io::Error::from(ErrorKind::Interrupted))
-}
-
-// Writes all bytes from a place on.
-fn write_from<F: Write + Seek>(file: &mut Option<F>, at: u32, bytes: &[u8]) -> io::Result<()> {
-    let Some(file) = file else {
-        return Err(not_chosen());
-    };
-    go_to(file, at)?;
-    file.write_all(bytes)
-}
-
-// Brings what was written onto the disk.
-fn sync_all<F: OpenFile>(file: &Option<F>) -> io::Result<()> {
-    let Some(file) = file else {
-        return Err(not_chosen());
-    };
-    for _ in 0..u64::MAX {
-        match file.sync_all() {
-            Err(error) if error.kind() == ErrorKind::Interrupted => {}
-            answer => return answer,
-        }
-    }
-    Err(io::Error::from(ErrorKind::Interrupted))
-}
-
-#[cfg(test)]
-mod tests;

@@ -1,5 +1,5 @@
 use Rattle.std.proofs.Common.{length}
-use Rattle.dissent.proofs.host_disk.HostDiskDisk.write_at.Goals as goal
+use Rattle.host_disk.proofs.disk.HostDiskDisk.write_at.Goals as goal
 
 pub returns-in-Ok-clause-images : goal.returns-in-Ok-clause-images
 returns-in-Ok-clause-images g c = λ image left. (image, tt, c.nothing_is_torn.ensures image c.args.at (length c.args.bytes.now))
