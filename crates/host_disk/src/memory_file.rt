@@ -1,8 +1,10 @@
 //! A file in memory, of which calls are interrupted by a plan. It tells what it holds.
-ghost use Rattle.std.specs.Prelude.{◌≡◌, ◌⊎◌, ◌+◌, ◌-◌, ◌++◌, ◌≤◌, ◌<◌, ◌↔◌, Some, IsTrue, IsErr, IfOk, IfErr, OnOk, OnErr, length, option_map, replicate};
+ghost use Rattle.std.specs.Prelude.{◌≡◌, ◌⊎◌, ◌+◌, ◌-◌, ◌++◌, ◌≤◌, ◌<◌, ◌↔◌, Some, IsTrue, IsErr, IsErrAnd, IfOk, IfErr, OnOk, OnErr, length, option_map, replicate};
+ghost use Rattle.std.specs.IoError.{error_kind};
 ghost use Rattle.crash_disk.specs.Disk.{IsFilled};
 ghost use Rattle.outside.specs.Plans.{after_call, fails_next, plan_of};
 ghost use Rattle.host_disk.specs.Placed.{moved_to, ReadsSome, synced, WritesSome, written_over};
+ghost use Rattle.host_disk.specs.Room.{IsWantOfRoom};
 
 use crate::placed_file::PlacedFile;
 use crash_disk::overwrite;
@@ -67,6 +69,7 @@ impl PlacedFile for MemoryFile {
         ensures kept { OnErr result (Some (state_of self.new) ≡ Some (state_of self.old)) }
 
         ensures planned { IsErr result ↔ IsTrue (fails_next (plan_in self.old)) }
+        ensures interrupted { IfErr result (λ error. error_kind error ≡ ErrorKind.Interrupted) }
         ensures counted { plan_in self.new ≡ after_call (plan_in self.old) }
     {
         next_call(&mut self.plan)?;
@@ -79,6 +82,7 @@ impl PlacedFile for MemoryFile {
         ensures read { ReadsSome (Some (state_of self.old)) (Some (state_of self.new)) into.old into.new result }
 
         ensures planned { IsErr result ↔ IsTrue (fails_next (plan_in self.old)) }
+        ensures interrupted { IfErr result (λ error. error_kind error ≡ ErrorKind.Interrupted) }
         ensures counted { plan_in self.new ≡ after_call (plan_in self.old) }
     {
         next_call(&mut self.plan)?;
@@ -91,7 +95,10 @@ impl PlacedFile for MemoryFile {
         ensures bounded { IfOk result (λ count. count ≤ length bytes.now) }
         ensures written { WritesSome (Some (state_of self.old)) (Some (state_of self.new)) bytes.now result }
 
-        ensures planned { IsTrue (fails_next (plan_in self.old)) → IsErr result }
+        ensures planned { IsTrue (fails_next (plan_in self.old))
+            → IsErrAnd result (λ error. error_kind error ≡ ErrorKind.Interrupted) }
+        ensures some { IfOk result (λ count. count ≡ 0 → length bytes.now ≡ 0) }
+        ensures unplanned { IfErr result (λ error. IsTrue (fails_next (plan_in self.old)) ⊎ IsWantOfRoom (error_kind error)) }
         ensures counted { plan_in self.new ≡ after_call (plan_in self.old) }
     {
         next_call(&mut self.plan)?;
@@ -105,6 +112,7 @@ impl PlacedFile for MemoryFile {
         ensures kept { OnErr result (Some (state_of self.new) ≡ Some (state_of self.old)) }
 
         ensures planned { IsErr result ↔ IsTrue (fails_next (plan_in self.old)) }
+        ensures interrupted { IfErr result (λ error. error_kind error ≡ ErrorKind.Interrupted) }
         ensures counted { plan_in self.new ≡ after_call (plan_in self.old) }
     {
         next_call(&mut self.plan)?;
@@ -116,6 +124,7 @@ impl PlacedFile for MemoryFile {
 // Counts a call, and interrupts it where the plan says so.
 fn next_call(plan: &mut FaultPlan) -> io::Result<()>
     ensures planned { IsErr result ↔ IsTrue (fails_next plan.old) }
+    ensures interrupted { IfErr result (λ error. error_kind error ≡ ErrorKind.Interrupted) }
     ensures counted { plan.new ≡ after_call plan.old }
 {
     if plan.fails() {
@@ -145,6 +154,7 @@ fn write_at(file: &mut Vec<u8>, at: usize, bytes: &[u8]) -> io::Result<usize>
     ensures written { OnOk result (file.new.items ≡ written_over file.old.items at bytes.now) }
     ensures place { IfOk result (λ place. place ≡ at + length bytes.now) }
     ensures kept { OnErr result (file.new.items ≡ file.old.items) }
+    ensures room { IfErr result (λ error. IsWantOfRoom (error_kind error)) }
 {
     if bytes.is_empty() {
         return Ok(at);
