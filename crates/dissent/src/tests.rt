@@ -1,9 +1,17 @@
 //! Commands over files and sinks in memory, and the adapters over real files.
 
-use super::*;
+use crate::draw;
 use crate::evidence::first_other_line;
 use crash_disk::{Disk, MemoryDisk};
-use std::alloc::Global;
+use host_disk::{HostDisk, Lock};
+use offline_commands::{
+    FileRead, FileWrite, Files, HostFiles, MemoryFiles, MemorySink, Sink, SinkAnswer, WriterSink,
+    run_offline,
+};
+use std::alloc::{AllocError, Global};
+use std::io;
+use std::random::RandomSource;
+use std::rt::Runtime;
 use std::test::Fail;
 use std::thread::Threads;
 
