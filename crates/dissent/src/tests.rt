@@ -461,13 +461,16 @@ fn the_standard_output_is_written(rt: HostRuntime) -> Result<(), Fail> {
     Ok(())
 }
 
-// A source of ones.
-struct Ones;
+// A source of one byte, again and again.
+#[derive(Drop)]
+struct Always {
+    byte: u8,
+}
 
-impl RandomSource for Ones {
+impl RandomSource for Always {
     fn fill_bytes(&self, bytes: &mut [u8]) -> io::Result<()> {
         for byte in bytes {
-            *byte = 1;
+            *byte = self.byte;
         }
         Ok(())
     }
@@ -475,7 +478,18 @@ impl RandomSource for Ones {
 
 #[test]
 fn all_fresh_bytes_are_drawn(rt: HostRuntime) {
-    let mut fresh = [0; 32];
-    assert!(rt; draw(&Ones, &mut fresh).is_ok());
-    assert!(rt; fresh == [1; 32]);
+    for byte in [1, 7, 255] {
+        let mut fresh = [0; 32];
+        assert!(rt; draw(&Always { byte }, &mut fresh).is_ok());
+        assert!(rt; fresh == [byte; 32]);
+    }
+}
+
+#[test]
+fn two_draws_of_the_system_differ(rt: HostRuntime) {
+    let mut first = [0; 32];
+    let mut second = [0; 32];
+    assert!(rt; draw(&rt, &mut first).is_ok());
+    assert!(rt; draw(&rt, &mut second).is_ok());
+    assert!(rt; first != second);
 }
