@@ -1,0 +1,18 @@
+//! A member of a group in a round: it takes deliveries in any order, says what its conduct makes of what the rules give it
+//! to say, and comes to the result of the round.
+#![tactic(auto)]
+
+mod config;
+mod ending;
+mod machine;
+mod member;
+mod own;
+mod rows;
+mod secrets;
+mod speaking;
+mod taking;
+mod turning;
+
+pub use config::Config;
+pub use member::Member;
+pub use member_spec::{Conduct, Honest, Speech, State, Taken};

@@ -1,0 +1,144 @@
+//! What a member holds, beside its conduct.
+
+use crate::ending::Ending;
+use crate::own::Own;
+use crate::secrets::Secrets;
+use bulk_descriptor::SlotState;
+use group_roster::Roster;
+use honest_say::{GroupKeys, Seat, Slots};
+use lms_tree::LeafRun;
+use member_spec::{Mood, State};
+use phase_message::Slot;
+use stage_log::{Post, Seen, StageLog};
+use wire_core::List;
+
+// What a member holds, beside its conduct.
+pub(crate) struct Machine {
+    pub(crate) roster: Roster,
+    pub(crate) seat: Seat,
+    pub(crate) message: List<u8>,
+    pub(crate) leaves: LeafRun,
+    pub(crate) log: StageLog,
+    // What was seen of the stages before the one that is being filled.
+    pub(crate) seen: Seen,
+    // The stage that is being filled.
+    pub(crate) stage: u8,
+    pub(crate) mood: Mood,
+    // The post that it made and does not keep.
+    pub(crate) stray: Option<Post>,
+    // How many of its posts were handed out.
+    pub(crate) handed: usize,
+    pub(crate) secrets: Secrets,
+    pub(crate) own: Own,
+    // Carried forward, so that nothing is read twice: the keys that all members said, what the last list of shuffle A
+    // opened to, and what its slots come to.
+    pub(crate) keys: Option<GroupKeys>,
+    pub(crate) opened: Option<Vec<Option<List<u8>>>>,
+    pub(crate) slots: Option<Slots>,
+    pub(crate) ending: Ending,
+}
+
+impl Machine {
+    // Whether its round goes on.
+    pub(crate) fn is_open(&self) -> bool {
+        matches!(&self.ending, Ending::Open)
+    }
+
+    // The slot in which it speaks at the stage that is being filled, if it speaks there.
+    pub(crate) fn own_slot(&self) -> Slot {
+        Slot {
+            stage: self.stage,
+            sender: self.seat.number,
+        }
+    }
+
+    // How many stages the round has.
+    pub(crate) fn stage_count(&self) -> u8 {
+        2 * self.seat.shape.members + 10
+    }
+
+    // Ends the round, for which no secret is needed any more.
+    pub(crate) fn end(&mut self, ending: Ending) {
+        self.secrets.end();
+        self.ending = ending;
+    }
+
+    // A call ran out of memory.
+    pub(crate) fn stop(&mut self) {
+        self.end(Ending::Stopped);
+    }
+
+    // One of the posts that it made, by its place among them, from 0.
+    pub(crate) fn post_made(&self, place: usize) -> Option<&Post> {
+        let mut left = place;
+        for stage in 0..self.stage_count() {
+            let slot = Slot {
+                stage,
+                sender: self.seat.number,
+            };
+            if let Some(post) = self.log.kept(slot) {
+                if left == 0 {
+                    return Some(post);
+                }
+                left -= 1;
+            }
+        }
+        if left == 0 { self.stray.as_ref() } else { None }
+    }
+
+    // How the round stands.
+    pub(crate) fn state(&self) -> State {
+        match &self.ending {
+            Ending::Open => State::Waiting {
+                stage: self.stage,
+                missing: self.log.missing(self.stage),
+            },
+            Ending::Done(_) => State::Done,
+            Ending::Blamed(conviction) => State::Blamed {
+                accused: conviction.accused,
+                claim: conviction.claim,
+            },
+            Ending::Stopped => State::Stopped,
+        }
+    }
+
+    // The slots of the list, where the round is done.
+    pub(crate) fn slots(&self) -> Option<&Vec<SlotState>> {
+        match &self.ending {
+            Ending::Done(slots) => Some(slots.items()),
+            _ => None,
+        }
+    }
+
+    // The transcript, where it blames somebody.
+    pub(crate) fn evidence(&self) -> Option<&Vec<u8>> {
+        match &self.ending {
+            Ending::Blamed(conviction) => Some(conviction.transcript.items()),
+            _ => None,
+        }
+    }
+
+    // Gives up what is left of the secrets and the leaves.
+    pub(crate) fn close(self) {
+        let Machine {
+            roster: _,
+            seat: _,
+            message: _,
+            leaves,
+            log: _,
+            seen: _,
+            stage: _,
+            mood: _,
+            stray: _,
+            handed: _,
+            secrets,
+            own: _,
+            keys: _,
+            opened: _,
+            slots: _,
+            ending: _,
+        } = self;
+        leaves.retire();
+        secrets.destroy();
+    }
+}
