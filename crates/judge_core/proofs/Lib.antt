@@ -1,8 +1,5 @@
 pub mod Hearings
 pub mod BodyKinds
-pub mod EmbeddedLogs
-pub mod EmbeddedPosts
-pub mod Justified
 pub mod Blaming
 pub mod Comparisons
 pub mod Objections

@@ -45,7 +45,7 @@ use Rattle.judge_core.specs.Closing.{contents_embedded, contents_found, is_justi
 use Rattle.judge_core.specs.Replay.{culprit_failure, inquiry_in, parts_shown, replay_failure, shown_of, unjustified_from, unlike_from, unlike_log, unlike_place}
 use Rattle.judge_core.specs.Showing.{IsObjection}
 use Rattle.judge_core.proofs.Blaming.{replay-decides}
-use Rattle.judge_core.proofs.EmbeddedLogs.{spans}
+use Rattle.embedded_log.proofs.EmbeddedLogs.{spans}
 use Rattle.judge_core.proofs.Hearings.{list_is}
 use Rattle.judge_core.proofs.Listed.{TakenPost, asked-again, asked-found, both-true, closing-is, file-taken, says-bytes, taken-found}
 use Rattle.judge_core.proofs.Objections.{heard, objection}

@@ -31,10 +31,10 @@ use Rattle.round_spec.specs.Embedded.{is_content_justified, posts_in_content}
 use Rattle.round_spec.specs.Verdict.{is_dissent, shown_in}
 use Rattle.judge_core.specs.Case.{Case, Said, read_of, shape_in}
 use Rattle.judge_core.specs.Closing.{IsClosingPost, contents_embedded, contents_found, is_read_justified, shown_by}
-use Rattle.judge_core.specs.Embedding.{KeepsEmbedded, places_of}
+use Rattle.embedded_log.specs.Embedding.{KeepsEmbedded, places_of}
 use Rattle.judge_core.specs.Replay.{parts_shown, shown_of}
 use Rattle.judge_core.specs.Showing.{Dissents, IsObjection, IsShown, KeepsPast}
-use Rattle.judge_core.proofs.EmbeddedLogs.{Spans, closing_kind, spans}
+use Rattle.embedded_log.proofs.EmbeddedLogs.{Spans, closing_kind, spans}
 
 -- a body that dissents does not assent
 pub dissent-objects : (body : Body) → is_dissent body ≡ true → is_assent body ≡ false

@@ -19,7 +19,7 @@ use Rattle.stage_log.specs.Log.{contents_of}
 use Rattle.stage_log.specs.Table.{Log, kept_in}
 use Rattle.go_nogo.specs.Differences.{Differ, HaveNoDifference, IsFirstDifference}
 use Rattle.go_nogo.proofs.LeastDifference.{kept-slot}
-use Rattle.judge_core.specs.Embedding.{places_of}
+use Rattle.embedded_log.specs.Embedding.{places_of}
 use Rattle.judge_core.specs.Replay.{unlike_place}
 use Rattle.judge_core.specs.Showing.{KeepsPast}
 

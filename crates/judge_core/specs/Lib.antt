@@ -1,7 +1,6 @@
 pub mod Case
 pub mod Checks
 pub mod Closing
-pub mod Embedding
 pub mod Failures
 pub mod Pad
 pub mod PadLog

@@ -18,7 +18,7 @@ use Rattle.judge_core.specs.declared.replaying.Shows.{Shows}
 use Rattle.judge_core.specs.Case.{Case, Said, read_of, said_of, shape_in}
 use Rattle.judge_core.specs.Checks.{failed_of}
 use Rattle.judge_core.specs.Closing.{IsClosingPost, is_justified_in, past_in}
-use Rattle.judge_core.specs.Embedding.{places_of}
+use Rattle.embedded_log.specs.Embedding.{places_of}
 use Rattle.judge_core.specs.Replay.{parts_shown, unjustified_from, unlike_from}
 
 -- ---- posts that dissent

@@ -7,10 +7,10 @@ ghost use Rattle.judge_core.specs.Case.{case_of, said_of};
 ghost use Rattle.judge_core.specs.Checks.{WantsMemory, conviction_of, failed_of};
 ghost use Rattle.judge_core.specs.Closing.{IsClosingPost, is_justified_in};
 
-use crate::embedding::justifying_log;
 use crate::failed_check::{FailedCheck, Unjudged};
 use crate::hearing::{Case, Said, take};
 use crate::reading::read_content;
+use embedded_log::justifying_log;
 use std::alloc::Global;
 use transcript_form::{Claim, ListedPosts};
 use wire_core::Mem;

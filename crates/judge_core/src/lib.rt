@@ -2,7 +2,6 @@
 #![tactic(auto)]
 
 mod bad_log;
-mod embedding;
 #[cfg(test)]
 mod evidence;
 mod failed_check;
@@ -21,7 +20,6 @@ mod replaying;
 mod stored_evidence;
 mod wrong_seed;
 
-pub use embedding::{EmbeddedRefusal, embedded};
 pub use failed_check::FailedCheck;
 pub use judging::{Accepted, judge};
 pub use laws::checks_are_exact;

@@ -11,10 +11,10 @@ ghost use Rattle.judge_core.specs.Closing.{shown_by};
 ghost use Rattle.judge_core.specs.Replay.{culprit_failure, replay_answer, unlike_place};
 ghost use Rattle.judge_core.specs.Showing.{AreObjections, AreOfOneStage, Compares, IsObjection, IsShown, KeepsPast, ShowsPost};
 
-use crate::embedding::justifying_log;
 use crate::failed_check::{FailedCheck, Unjudged};
 use crate::hearing::{Case, Said, take_all};
 use crate::reading::read_content;
+use embedded_log::justifying_log;
 use go_nogo::compare_logs;
 use phase_message::{Body, slot_number};
 use shuffle_blame::{Fault, Shown, replay};

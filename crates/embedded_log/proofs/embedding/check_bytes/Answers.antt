@@ -6,8 +6,8 @@ use Rattle.phase_message.specs.Offence.{content_read, first_offence}
 use Rattle.phase_message.specs.Shape.{Shape}
 use Rattle.group_roster.specs.Roster.{Roster, shape_of_roster}
 use Rattle.signed_post.proofs.Frames.{framed-fits}
-use Rattle.judge_core.proofs.EmbeddedPosts.{admitted, checked-found, checked-offends, checked-refused, checked-unframed, framed_content, header-same, read_by, stands-there}
-use Rattle.judge_core.proofs.embedding.check_bytes.Goals as goal
+use Rattle.embedded_log.proofs.EmbeddedPosts.{admitted, checked-found, checked-offends, checked-refused, checked-unframed, framed_content, header-same, read_by, stands-there}
+use Rattle.embedded_log.proofs.embedding.check_bytes.Goals as goal
 
 pub returns-in_default-clause-value : goal.returns-in_default-clause-value
 returns-in_default-clause-value c = checked-unframed (roster_of c.args.roster.now) c.args.round c.args.bytes.now c.in_default.field-0 c.in_default.ensures

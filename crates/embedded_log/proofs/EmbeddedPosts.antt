@@ -29,7 +29,7 @@ use Rattle.signed_post.proofs.Frames.{framed-bytes, framed-fits, framed-found}
 use Rattle.go_nogo.specs.Stands.{StandsIn}
 use Rattle.go_nogo.proofs.Standing.{stand-read}
 use Rattle.round_spec.specs.Embedded.{Misplaced, Refused, checked_post, names_slot, post_for_slot, slot_named}
-use Rattle.judge_core.specs.Embedding.{StandsThere}
+use Rattle.embedded_log.specs.Embedding.{StandsThere}
 
 -- ---- what a call answered
 

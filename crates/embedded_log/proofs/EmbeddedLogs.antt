@@ -35,7 +35,7 @@ use Rattle.std.proofs.lemmas.Option.{slice_get_read}
 use Rattle.std.proofs.Math.ListN.{drop_of_length-le}
 use Rattle.go_nogo.specs.Closing.{IsClosing, embedded_of, is_assent, posts_embedded, slots_embedded}
 use Rattle.round_spec.specs.Embedded.{BadPost, WhyNot, embedded_log, embedded_pairs, log_of, post_for_slot, posts_for}
-use Rattle.judge_core.specs.Embedding.{KeepsEmbedded, StandsThere, first_embedded, places_of}
+use Rattle.embedded_log.specs.Embedding.{KeepsEmbedded, StandsThere, first_embedded, places_of}
 
 -- ---- the places of a log
 

@@ -11,10 +11,10 @@ use Rattle.stage_log.specs.Table.{IsKept, Log}
 use Rattle.go_nogo.specs.Closing.{is_assent, posts_embedded}
 use Rattle.go_nogo.specs.Stands.{StandsIn}
 use Rattle.round_spec.specs.Embedded.{WhyNot, posts_in_content}
-use Rattle.judge_core.specs.declared.embedding.Checked.{Checked}
-use Rattle.judge_core.specs.declared.embedding.EmbeddedRefusal.{EmbeddedRefusal}
-use Rattle.judge_core.specs.declared.embedding.EmbeddedRefusal.TheVariants.{Bad, Memory}
-use Rattle.judge_core.specs.declared.embedding.Placed.{Placed}
+use Rattle.embedded_log.specs.declared.embedding.Checked.{Checked}
+use Rattle.embedded_log.specs.declared.embedding.EmbeddedRefusal.{EmbeddedRefusal}
+use Rattle.embedded_log.specs.declared.embedding.EmbeddedRefusal.TheVariants.{Bad, Memory}
+use Rattle.embedded_log.specs.declared.embedding.Placed.{Placed}
 
 -- the number of the first slot that a closing content embeds
 abbrev pub first_embedded : Shape → Content → ℕ

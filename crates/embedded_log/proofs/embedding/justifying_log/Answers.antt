@@ -1,9 +1,9 @@
 use Rattle.group_roster.specs.Given.{roster_of}
 use Rattle.std.proofs.Common.{sym, ◌∙◌}
 use Rattle.group_roster.specs.Roster.{shape_of_roster}
-use Rattle.judge_core.proofs.EmbeddedLogs.{spans}
-use Rattle.judge_core.proofs.Justified.{holds_embedded, justified_by, unjustified_by}
-use Rattle.judge_core.proofs.embedding.justifying_log.Goals as goal
+use Rattle.embedded_log.proofs.EmbeddedLogs.{spans}
+use Rattle.embedded_log.proofs.Justified.{holds_embedded, justified_by, unjustified_by}
+use Rattle.embedded_log.proofs.embedding.justifying_log.Goals as goal
 
 pub returns-in-Err-Bad-clause-justified : goal.returns-in-Err-Bad-clause-justified
 returns-in-Err-Bad-clause-justified c = sym (unjustified_by (roster_of c.args.roster.now) c.args.round c.args.content.now _ (rw c.in-Err-Bad.field-0-is at c.in-Err-Bad.ensures.exact))

@@ -11,7 +11,7 @@ ghost use Rattle.group_roster.specs.Roster.{shape_of_roster};
 ghost use Rattle.go_nogo.specs.Closing.{IsClosing, is_assent, posts_embedded};
 ghost use Rattle.go_nogo.specs.Stands.{StandAll};
 ghost use Rattle.round_spec.specs.Embedded.{checked_post, embedded_log, is_content_justified, post_for_slot};
-ghost use Rattle.judge_core.specs.Embedding.{IsChecked, KeepsEmbedded, IsPlacedPost, StandsThere, first_embedded, place_of_bad};
+ghost use Rattle.embedded_log.specs.Embedding.{IsChecked, KeepsEmbedded, IsPlacedPost, StandsThere, first_embedded, place_of_bad};
 
 use go_nogo::justified;
 use group_roster::Roster;
@@ -31,7 +31,7 @@ pub enum EmbeddedRefusal {
 }
 
 impl From<AllocError> for EmbeddedRefusal {
-    ghost use Rattle.judge_core.specs.declared.embedding.EmbeddedRefusal.TheVariants.{Memory};
+    ghost use Rattle.embedded_log.specs.declared.embedding.EmbeddedRefusal.TheVariants.{Memory};
 
     ghost from_gives = { λ _ e. e ≡ Memory };
 
@@ -92,7 +92,7 @@ pub fn embedded(
 }
 
 /// The same log where it justifies the content, and `None` exactly where the content is not justified.
-pub(crate) fn justifying_log(
+pub fn justifying_log(
     alloc: Global,
     roster: &Roster,
     round: u64,

@@ -4,9 +4,9 @@ use Rattle.phase_message.specs.declared.post.Post.{Post}
 use Rattle.phase_message.specs.Shape.{Shape}
 use Rattle.phase_message.specs.Slots.{slot_number}
 use Rattle.round_spec.specs.Embedded.{WhyNot}
-use Rattle.judge_core.specs.Embedding.{post_checked}
-use Rattle.judge_core.proofs.EmbeddedPosts.{placed-elsewhere, placed-there, placed-unchecked}
-use Rattle.judge_core.proofs.embedding.post_for.Goals as goal
+use Rattle.embedded_log.specs.Embedding.{post_checked}
+use Rattle.embedded_log.proofs.EmbeddedPosts.{placed-elsewhere, placed-there, placed-unchecked}
+use Rattle.embedded_log.proofs.embedding.post_for.Goals as goal
 
 pub returns-in_default-clause-value : goal.returns-in_default-clause-value
 returns-in_default-clause-value c = λ slot at. placed-unchecked (roster_of c.args.roster.now) c.args.round slot c.args.bytes.now c.in_default.ensures.value

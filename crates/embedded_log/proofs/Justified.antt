@@ -17,8 +17,8 @@ use Rattle.stage_log.specs.Log.{all_some, before, contents_in}
 use Rattle.stage_log.proofs.Pasts.{all_some-map, contents_in-map}
 use Rattle.go_nogo.specs.Closing.{HoldsEmbedded, HoldsFor, embedded_of, is_assent, is_justified, posts_embedded}
 use Rattle.round_spec.specs.Embedded.{BadPost, embedded_log, embedded_pairs, is_content_justified, is_justified_by, log_of, posts_for}
-use Rattle.judge_core.specs.Embedding.{KeepsEmbedded, first_embedded, places_of}
-use Rattle.judge_core.proofs.EmbeddedLogs.{Spans, length_replicate}
+use Rattle.embedded_log.specs.Embedding.{KeepsEmbedded, first_embedded, places_of}
+use Rattle.embedded_log.proofs.EmbeddedLogs.{Spans, length_replicate}
 
 abbrev none_post : Option Post
 none_post = None

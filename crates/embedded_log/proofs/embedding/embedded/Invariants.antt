@@ -1,6 +1,6 @@
 use Rattle.group_roster.specs.Given.{roster_of}
-use Rattle.judge_core.proofs.EmbeddedLogs.{Embeds}
-use Rattle.judge_core.proofs.embedding.embedded.Given as goal
+use Rattle.embedded_log.proofs.EmbeddedLogs.{Embeds}
+use Rattle.embedded_log.proofs.embedding.embedded.Given as goal
 
 -- the posts before this place are found, and the log keeps them
 abbrev pub invariant-loop-place : goal.invariant-loop-place

@@ -8,9 +8,9 @@ use Rattle.group_roster.specs.Roster.{Roster, shape_of_roster}
 use Rattle.stage_log.specs.Table.{empty_log}
 use Rattle.go_nogo.specs.Closing.{posts_embedded}
 use Rattle.round_spec.specs.Embedded.{BadPost}
-use Rattle.judge_core.specs.Embedding.{first_embedded}
-use Rattle.judge_core.proofs.EmbeddedLogs.{Next, embeds-all, embeds-bad, embeds-next, embeds-none, next_of, spans}
-use Rattle.judge_core.proofs.embedding.embedded.Goals as goal
+use Rattle.embedded_log.specs.Embedding.{first_embedded}
+use Rattle.embedded_log.proofs.EmbeddedLogs.{Next, embeds-all, embeds-bad, embeds-next, embeds-none, next_of, spans}
+use Rattle.embedded_log.proofs.embedding.embedded.Goals as goal
 
 -- what stands at a place
 bytes_at : (posts given : List (List ℕ)) (place : ℕ) (x bytes : List ℕ) → given ≡ posts → bytes ≡ x → x ≡ get_or given place x → bytes ≡ get_or posts place bytes

@@ -1,0 +1,5 @@
+pub mod Carried
+pub mod Closed
+pub mod Convicting
+pub mod Judgement
+pub mod Shorts

@@ -1,0 +1,3 @@
+pub mod EmbeddedLogs
+pub mod EmbeddedPosts
+pub mod Justified
