@@ -1,1 +1,2 @@
 pub mod OwnPosts
+pub mod StageKinds

@@ -77,25 +77,20 @@ impl Machine {
             unreachable!()
         };
         let secrets = self.secrets_of(shuffle);
-        let keys = if shuffle == 1 {
-            &keys.first
+        if shuffle == 1 {
+            submit(alloc, &self.seat, secrets, &keys.first, shuffle, item)
         } else {
-            &keys.second
-        };
-        submit(alloc, &self.seat, secrets, keys, shuffle, item)
+            submit(alloc, &self.seat, secrets, &keys.second, shuffle, item)
+        }
     }
 
     // The secrets of a shuffle.
     fn secrets_of(&self, shuffle: u8) -> &ShuffleSecrets {
-        let secrets = if shuffle == 1 {
-            &self.secrets.first
+        if shuffle == 1 {
+            held(&self.secrets.first)
         } else {
-            &self.secrets.second
-        };
-        let Some(secrets) = secrets else {
-            unreachable!()
-        };
-        secrets
+            held(&self.secrets.second)
+        }
     }
 
     // The submission to shuffle B, behind which the secrets of the messages are not needed any more.
@@ -168,4 +163,12 @@ impl Machine {
     pub(crate) fn confirm_due(&self, alloc: Global) -> Mem<Body> {
         confirm_body(alloc, &self.log)
     }
+}
+
+// Secrets that are held.
+fn held(secrets: &Option<ShuffleSecrets>) -> &ShuffleSecrets {
+    let Some(secrets) = secrets else {
+        unreachable!()
+    };
+    secrets
 }
