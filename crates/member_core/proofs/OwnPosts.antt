@@ -113,7 +113,7 @@ one-more log number at post is speaks none =
     ∙ ap (λ (o : Option Post). front ++ cons_option o back) (own-here log number at post is speaks)
     ∙ ap (λ (posts : List Post). front ++ post ∷ posts)
     (filter-none f (at + 1) (n - at - 1) (λ x from small. own-elsewhere log number at x post speaks (λ e. omega arith) ∙ none x (omega arith)))
-    ∙ sym (ap (λ (posts : List Post). posts ++ post ∷ []) (front-only g at n (omega arith) none))
+    ∙ sym (ap (λ (posts : List Post). posts ++ post ∷ []) (front-only g at n (omega (arith, lt)) none))
   where
     n : ℕ
     n = stage_count log.shape
@@ -144,9 +144,9 @@ counts : (f : ℕ → Option Post) (p : ℕ → Bool) (a n : ℕ) → ((x : ℕ)
 counts f p a zero same = refl
 counts f p a (suc n) same =
     let one = length-cons (f a) (filter_map f (range_with_len (a + 1) n)) in
-    let here = ap (λ (b : Bool). cond b 1 0) (same a (omega arith) (omega arith)) in
+    let here = ap {B = ℕ} (λ (b : Bool). cond b 1 0) (same a (omega arith) (omega arith)) in
     let rest = counts f p (a + 1) n (λ x from small. same x (omega arith) (omega arith)) in
-    let more = sum_by-cons (λ x. cond (p x) 1 0) a (range_with_len (a + 1) n) in
+    let more = sum_by-cons (λ (x : ℕ). cond (p x) 1 0) a (range_with_len (a + 1) n) in
     omega (arith, one, here, rest, more)
 
 -- where all stages before a stage are complete, a member has spoken before it as often as the round asks
