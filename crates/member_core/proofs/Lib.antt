@@ -1,2 +1,3 @@
 pub mod OwnPosts
 pub mod StageKinds
+mod Comings
