@@ -1,1 +1,6 @@
+pub mod Shorts
+pub mod Membership
+pub mod Needs
+pub mod Sound
+pub mod Stands
 pub mod Found
