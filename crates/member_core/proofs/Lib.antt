@@ -1,3 +1,4 @@
 pub mod OwnPosts
 pub mod StageKinds
 mod Comings
+pub mod Saying
