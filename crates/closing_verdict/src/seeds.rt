@@ -81,7 +81,8 @@ fn seed_revealed(told: Told) -> [u8; 32] {
 // The least member whose seed is not that of its key.
 fn wrong_seed(seeds: &[[u8; 32]], keys: &[PublicKey]) -> Option<u8> {
     for place in 0..seeds.len() {
-        if public_of(&seeds[place]) != keys[place] {
+        let key = public_of(&seeds[place]);
+        if key.bytes().as_slice() != keys[place].bytes().as_slice() {
             return Some(place as u8 + 1);
         }
     }
