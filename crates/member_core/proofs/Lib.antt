@@ -2,3 +2,4 @@ pub mod OwnPosts
 pub mod StageKinds
 mod Comings
 pub mod Saying
+pub mod RowForms

@@ -4,3 +4,4 @@ pub mod Needs
 pub mod Sound
 pub mod Stands
 pub mod Found
+pub mod Limits
