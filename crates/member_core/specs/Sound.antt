@@ -60,8 +60,9 @@ abbrev pub IsEmptyFrom : Log → ℕ → ℕ → Type 0
 IsEmptyFrom log number stage =
     (later : ℕ) → stage ≤ later → kept_in log (record { stage = later; sender = number }) ≡ None
 
--- bytes that were put off name the own slot, and are not too long
+-- bytes that were put off name the own slot, where the member speaks, and are not too long
 pub record IsPutOff (m : Machine) (bytes : List ℕ) : Type 0 where
+  pub speaks : IsTrue (is_slot m.log.shape m.stage m.seat.number)
   pub slot : HasSlot (slot_here m) bytes
   pub short : length bytes ≤ own_limit (kind_of_stage m.log.shape m.stage)
 

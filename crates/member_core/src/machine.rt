@@ -39,13 +39,26 @@ pub(crate) struct Machine {
 }
 
 impl Machine {
+    ghost use Rattle.std.specs.Prelude.{◌≡◌, ◌<◌, ◌^◌, IfSome, length, slice_get};
+    ghost use Rattle.std.specs.Option.{option_copied, option_map};
+    ghost use Rattle.phase_message.specs.Slots.{stage_count};
+    ghost use Rattle.phase_message.specs.Stages.{shape_of};
+    ghost use Rattle.member_core.specs.Concluding.{machine_ended};
+    ghost use Rattle.member_core.specs.Membership.{evidence_held, holdings_of, posts_made, slots_held, state_by};
+    ghost use Rattle.member_core.specs.Needs.{is_going};
+    ghost use Rattle.member_core.specs.Sound.{IsFormed, slot_here};
+
     // Whether its round goes on.
-    pub(crate) fn is_open(&self) -> bool {
+    pub(crate) fn is_open(&self) -> bool
+        ensures { result ≡ is_going self.now.ending }
+    {
         matches!(&self.ending, Ending::Open)
     }
 
-    // The slot in which it speaks at the stage that is being filled, if it speaks there.
-    pub(crate) fn own_slot(&self) -> Slot {
+    // The slot in which it speaks at the stage that is being filled, if it does.
+    pub(crate) fn own_slot(&self) -> Slot
+        ensures { result ≡ slot_here self.now }
+    {
         Slot {
             stage: self.stage,
             sender: self.seat.number,
@@ -53,23 +66,33 @@ impl Machine {
     }
 
     // How many stages the round has.
-    pub(crate) fn stage_count(&self) -> u8 {
+    pub(crate) fn stage_count(&self) -> u8
+        ensures { result ≡ stage_count (shape_of self.now.seat.shape) }
+    {
         2 * self.seat.shape.members + 10
     }
 
     // Ends the round, for which no secret is needed any more.
-    pub(crate) fn end(&mut self, ending: Ending) {
+    pub(crate) fn end(&mut self, ending: Ending)
+        ensures { self.new ≡ machine_ended self.old ending }
+    {
         self.secrets.end();
         self.ending = ending;
     }
 
     // A call ran out of memory.
-    pub(crate) fn stop(&mut self) {
+    pub(crate) fn stop(&mut self)
+        ensures { self.new ≡ machine_ended self.old Ending.Stopped }
+    {
         self.end(Ending::Stopped);
     }
 
     // One of the posts that it made, by its place among them, from 0.
-    pub(crate) fn post_made(&self, place: usize) -> Option<&Post> {
+    pub(crate) fn post_made(&self, place: usize) -> Option<&Post>
+        requires { IsFormed self.now }
+        ensures post { option_copied result ≡ slice_get (posts_made (holdings_of self.now)) place }
+        ensures short { IfSome result (λ post. length post.now.content < 2 ^ 32) }
+    {
         let mut left = place;
         for stage in 0..self.stage_count() {
             let slot = Slot {
@@ -87,7 +110,9 @@ impl Machine {
     }
 
     // How the round stands.
-    pub(crate) fn state(&self) -> State {
+    pub(crate) fn state(&self) -> State
+        ensures { result ≡ state_by (holdings_of self.now) self.now.ending }
+    {
         match &self.ending {
             Ending::Open => State::Waiting {
                 stage: self.stage,
@@ -103,7 +128,9 @@ impl Machine {
     }
 
     // The slots of the list, where the round is done.
-    pub(crate) fn slots(&self) -> Option<&Vec<SlotState>> {
+    pub(crate) fn slots(&self) -> Option<&Vec<SlotState>>
+        ensures { option_map (λ slots. slots.now.items) result ≡ slots_held self.now.ending }
+    {
         match &self.ending {
             Ending::Done(slots) => Some(slots.items()),
             _ => None,
@@ -111,7 +138,9 @@ impl Machine {
     }
 
     // The transcript, where it blames somebody.
-    pub(crate) fn evidence(&self) -> Option<&Vec<u8>> {
+    pub(crate) fn evidence(&self) -> Option<&Vec<u8>>
+        ensures { option_map (λ bytes. bytes.now.items) result ≡ evidence_held self.now.ending }
+    {
         match &self.ending {
             Ending::Blamed(conviction) => Some(conviction.transcript.items()),
             _ => None,

@@ -8,6 +8,7 @@ use lms_tree::LeafRun;
 use member_spec::{Conduct, State};
 use signed_post::write;
 use std::alloc::{AllocError, Global};
+use std::marker::Model;
 use wire_core::Mem;
 
 /// A member of a group in a round, with its conduct. It can be neither copied nor dropped: it is closed.
@@ -16,10 +17,42 @@ pub struct Member<C: Conduct> {
     pub(crate) conduct: C,
 }
 
+impl<C: Conduct> Model for Member<C> {
+    ghost use Rattle.member_core.specs.Membership.{Membership, holdings_of};
+    ghost use Rattle.member_core.specs.Sound.{IsSound};
+
+    ghost Value = { Membership C };
+
+    ghost view = { λ m. record { holds = holdings_of m.machine; conduct = m.conduct } };
+
+    ghost invariant = { λ m. IsSound m.machine };
+}
+
 impl<C: Conduct> Member<C> {
+    ghost use Rattle.std.specs.Prelude.{◌≡◌, ◌≤◌, ◌↔◌, ℕ, List, [], IfOk, IsErr, None, Some, length, option_map, slice_get};
+    ghost use Rattle.bulk_descriptor.specs.declared.making.TheConstants.{MESSAGE_LIMIT};
+    ghost use Rattle.phase_message.specs.Post.{post_spelling};
+    ghost use Rattle.round_spec.specs.Result.{posts_of, result_of};
+    ghost use Rattle.round_spec.specs.Say.{Configuration};
+    ghost use Rattle.member_spec.specs.Actor.{actor_after};
+    ghost use Rattle.member_spec.specs.Outcomes.{evidence_shown, outcome_of, slots_shown, state_of};
+    ghost use Rattle.member_spec.specs.Replies.{IsPlain, Replies};
+    ghost use Rattle.member_core.specs.Membership.{IsOutOfMemory, IsRunning, evidence_held, handed_next, posts_made, slots_held, state_by};
+    ghost use Rattle.member_core.specs.Needs.{HoldsNeeded};
+    ghost use Rattle.member_core.specs.Stands.{Stands, configuration_of};
+
     /// Enters a round, with twelve leaves or more, and says what can be said before anything was delivered. Out of memory
     /// the leaves are retired.
-    pub fn start(alloc: Global, config: Config, leaves: LeafRun, conduct: C) -> Mem<Member<C>> {
+    pub fn start(alloc: Global, config: Config, leaves: LeafRun, conduct: C) -> Mem<Member<C>>
+        requires first { 1 ≤ config.number }
+        requires last { config.number ≤ length config.roster.keys }
+        requires short { length config.message ≤ MESSAGE_LIMIT }
+        requires leaves { 12 ≤ leaves.left }
+        ensures stands { IfOk result (Stands C.replies (C.replies conduct) (configuration_of config leaves) []) }
+        ensures handed { IfOk result (λ member. member.holds.handed ≡ 0) }
+        ensures secrets { IfOk result (λ member. HoldsNeeded member.holds) }
+        ensures runs { IfOk result (λ member. IsRunning member.holds.ending) }
+    {
         let mut conduct = conduct;
         let mut machine = Machine::enter(alloc, config, leaves)?;
         match machine.advance(alloc, &mut conduct) {
@@ -33,7 +66,22 @@ impl<C: Conduct> Member<C> {
 
     /// The next of the member's posts, by stage, that was not handed out yet; `None` exactly where all were. After it ran
     /// out of memory the member is stopped.
-    pub fn next_post(&mut self, alloc: Global) -> Mem<Option<Vec<u8>>> {
+    pub fn next_post(&mut self, alloc: Global) -> Mem<Option<Vec<u8>>>
+        ensures post { IfOk result (λ post. option_map (λ bytes. bytes.items) post
+            ≡ option_map post_spelling (slice_get (posts_made self.old.holds) self.old.holds.handed)) }
+        ensures plain { IfOk result (λ post. (start : Replies) (c : Configuration) (delivered : List (List ℕ)) →
+            Stands C.replies start c delivered self.old → IsPlain start →
+            option_map (λ bytes. bytes.items) post ≡ option_map post_spelling (slice_get (posts_of c delivered) self.old.holds.handed)) }
+        ensures stands { IfOk result (λ post. (start : Replies) (c : Configuration) (delivered : List (List ℕ)) →
+            Stands C.replies start c delivered self.old → Stands C.replies start c delivered self.new) }
+        ensures handed { IfOk result (λ post. self.new ≡ handed_next self.old post) }
+        ensures room { self.old.holds.handed ≤ length (posts_made self.old.holds) }
+        ensures none { slice_get (posts_made self.old.holds) self.old.holds.handed ≡ None → IsErr result → IsOutOfMemory self.old.holds.ending }
+        ensures secrets { HoldsNeeded self.new.holds }
+        ensures runs { IfOk result (λ _. IsRunning self.new.holds.ending) }
+        ensures stopped { IsErr result → IsOutOfMemory self.new.holds.ending }
+        ensures stays { IsOutOfMemory self.old.holds.ending → IsErr result }
+    {
         if let Ending::Stopped = &self.machine.ending {
             return Err(AllocError);
         }
@@ -53,17 +101,36 @@ impl<C: Conduct> Member<C> {
     }
 
     /// How the round stands. A plain conduct shows the result of the deliveries.
-    pub fn state(&self) -> State {
+    pub fn state(&self) -> State
+        ensures exact { result ≡ state_by self.now.holds self.now.holds.ending }
+        ensures stands { (start : Replies) (c : Configuration) (delivered : List (List ℕ)) → Stands C.replies start c delivered self.now →
+            result ≡ state_of (outcome_of c (actor_after start c delivered)) }
+        ensures plain { (start : Replies) (c : Configuration) (delivered : List (List ℕ)) → Stands C.replies start c delivered self.now →
+            IsPlain start → result ≡ state_of (result_of c delivered) }
+        ensures stopped { (result ≡ State.Stopped) ↔ IsOutOfMemory self.now.holds.ending }
+    {
         self.machine.state()
     }
 
     /// The slots of the list, exactly where the round is done.
-    pub fn slots(&self) -> Option<&Vec<SlotState>> {
+    pub fn slots(&self) -> Option<&Vec<SlotState>>
+        ensures exact { option_map (λ slots. slots.now.items) result ≡ slots_held self.now.holds.ending }
+        ensures stands { (start : Replies) (c : Configuration) (delivered : List (List ℕ)) → Stands C.replies start c delivered self.now →
+            option_map (λ slots. slots.now.items) result ≡ slots_shown (outcome_of c (actor_after start c delivered)) }
+        ensures plain { (start : Replies) (c : Configuration) (delivered : List (List ℕ)) → Stands C.replies start c delivered self.now →
+            IsPlain start → option_map (λ slots. slots.now.items) result ≡ slots_shown (result_of c delivered) }
+    {
         self.machine.slots()
     }
 
     /// The transcript, as it is written, exactly where the member blames somebody.
-    pub fn evidence(&self) -> Option<&Vec<u8>> {
+    pub fn evidence(&self) -> Option<&Vec<u8>>
+        ensures exact { option_map (λ bytes. bytes.now.items) result ≡ evidence_held self.now.holds.ending }
+        ensures stands { (start : Replies) (c : Configuration) (delivered : List (List ℕ)) → Stands C.replies start c delivered self.now →
+            option_map (λ bytes. bytes.now.items) result ≡ evidence_shown (outcome_of c (actor_after start c delivered)) }
+        ensures plain { (start : Replies) (c : Configuration) (delivered : List (List ℕ)) → Stands C.replies start c delivered self.now →
+            IsPlain start → option_map (λ bytes. bytes.now.items) result ≡ evidence_shown (result_of c delivered) }
+    {
         self.machine.evidence()
     }
 
