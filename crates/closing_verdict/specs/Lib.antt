@@ -3,3 +3,4 @@ pub mod Closed
 pub mod Convicting
 pub mod Judgement
 pub mod Shorts
+pub mod Telling

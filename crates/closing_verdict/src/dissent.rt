@@ -1,6 +1,7 @@
 //! Where all dissent: whom the replay blames.
 
-ghost use Rattle.std.specs.Prelude.{◌≡◌, ◌≤◌, ◌<◌, IfOk, IfSome};
+ghost use Rattle.std.specs.Prelude.{◌≡◌, All, IfOk, false, map};
+ghost use Rattle.closing_verdict.specs.Telling.{TellsPart, part_told};
 
 use crate::convicting::Charge;
 use crate::judging::{Closing, Judged};
@@ -12,13 +13,18 @@ use transcript_form::Claim;
 use wire_core::Mem;
 
 impl<'a> Closing<'a> {
+    ghost use Rattle.std.specs.List.{list_all};
+    ghost use Rattle.phase_message.specs.Stages.{kind_of_stage};
+    ghost use Rattle.round_spec.specs.Verdict.{shown_at};
     ghost use Rattle.closing_verdict.specs.Closed.{AreTold};
-    ghost use Rattle.closing_verdict.specs.Judgement.{IsToBeJudged, TellsVerdict, completed_of};
+    ghost use Rattle.closing_verdict.specs.Telling.{tells_assent};
+    ghost use Rattle.closing_verdict.specs.Judgement.{IsToBeJudged, TellsVerdict, completed_of, stage_closed};
 
     // What it comes to where all dissent: the replay of the stages before blames a member.
     pub(crate) fn judge_dissent(self, alloc: Global, told: &Vec<Told>) -> Mem<Judged>
         requires closing { IsToBeJudged self }
         requires told { AreTold (completed_of self) told.now.items }
+        requires differ { list_all tells_assent told.now.items ≡ false }
         ensures { IfOk result (TellsVerdict (completed_of self.entry)) }
     {
         let shown = self.outer_shown(alloc, told)?;
@@ -32,7 +38,13 @@ impl<'a> Closing<'a> {
     }
 
     // What the members show of the outer layers at the end of a shuffle, and nothing elsewhere.
-    fn outer_shown(self, alloc: Global, told: &[Told]) -> Mem<Vec<Shown>> {
+    fn outer_shown(self, alloc: Global, told: &[Told]) -> Mem<Vec<Shown>>
+        requires closing { IsToBeJudged self }
+        requires told { AreTold (completed_of self) told.now }
+        requires differ { list_all tells_assent told.now ≡ false }
+        ensures { IfOk result (λ shown. shown.items
+            ≡ shown_at (stage_closed (completed_of self.entry)) (kind_of_stage self.entry.log.now.shape self.entry.stage)) }
+    {
         match stage_kind(self.roster.shape(), self.stage) {
             Some(StageKind::Final { .. }) => parts_shown(alloc, told),
             _ => Ok(Vec::new(alloc)),
@@ -41,7 +53,10 @@ impl<'a> Closing<'a> {
 }
 
 // The parts that all members show.
-fn parts_shown(alloc: Global, told: &[Told]) -> Mem<Vec<Shown>> {
+fn parts_shown(alloc: Global, told: &[Told]) -> Mem<Vec<Shown>>
+    requires { All TellsPart told.now }
+    ensures { IfOk result (λ shown. shown.items ≡ map part_told told.now) }
+{
     let mut shown = Vec::with_capacity(alloc, told.len())?;
     for one in told {
         shown.push(part_shown(*one))?;
@@ -49,7 +64,10 @@ fn parts_shown(alloc: Global, told: &[Told]) -> Mem<Vec<Shown>> {
     Ok(shown)
 }
 
-fn part_shown(told: Told) -> Shown {
+fn part_shown(told: Told) -> Shown
+    requires { TellsPart told }
+    ensures { result ≡ part_told told }
+{
     match told {
         Told::Disputes(shown) => shown,
         _ => unreachable!(),

@@ -42,8 +42,12 @@ pub enum Judged {
 }
 
 impl<'a> Closing<'a> {
+    ghost use Rattle.std.specs.List.{list_all};
+    ghost use Rattle.phase_message.specs.Stages.{kind_of_stage};
+    ghost use Rattle.round_spec.specs.Verdict.{agreed_at};
     ghost use Rattle.closing_verdict.specs.Closed.{AreTold};
-    ghost use Rattle.closing_verdict.specs.Judgement.{IsToBeJudged, TellsVerdict, completed_of};
+    ghost use Rattle.closing_verdict.specs.Judgement.{IsToBeJudged, TellsVerdict, completed_of, stage_closed, verdict_in};
+    ghost use Rattle.closing_verdict.specs.Telling.{tells_assent};
 
     /// What the stage comes to. All posts of the stages before it and of its own are there, and what is carried is what
     /// was found of them. It is never `Goes`.
@@ -74,9 +78,10 @@ impl<'a> Closing<'a> {
     fn judge_agreed(self, alloc: Global, told: &Vec<Told>) -> Mem<Judged>
         requires closing { IsToBeJudged self }
         requires told { AreTold (completed_of self) told.now.items }
+        requires agree { IsTrue (list_all tells_assent told.now.items) }
         ensures { IfOk result (TellsVerdict (completed_of self.entry)) }
     {
-        match closing_shuffle(stage_kind(self.roster.shape(), self.stage)) {
+        match shuffle_ended(stage_kind(self.roster.shape(), self.stage)) {
             Some(shuffle) => self.judge_seeds(alloc, shuffle, told),
             None => self.judge_slots(alloc),
         }
@@ -85,6 +90,8 @@ impl<'a> Closing<'a> {
     // What it comes to behind the checks, where all agree: what the slots hold.
     fn judge_slots(self, alloc: Global) -> Mem<Judged>
         requires closing { IsToBeJudged self }
+        requires at { kind_of_stage self.log.now.shape self.stage ≡ Some StageKind.Confirm }
+        requires agree { verdict_in (completed_of self) ≡ agreed_at (stage_closed (completed_of self)) (Some StageKind.Confirm) }
         ensures { IfOk result (TellsVerdict (completed_of self.entry)) }
     {
         let Some(opened) = self.opened else {
@@ -95,17 +102,23 @@ impl<'a> Closing<'a> {
     }
 }
 
-// Whether all say that the votes are unanimous.
-fn all_assent(told: &[Told]) -> bool {
-    told.iter().all(is_assent)
+// Whether all tell that the votes are unanimous.
+fn all_assent(told: &[Told]) -> bool
+    ensures { result ≡ list_all tells_assent told.now }
+{
+    told.iter().all(|one| is_assent(*one))
 }
 
-fn is_assent(told: &Told) -> bool {
+fn is_assent(told: Told) -> bool
+    ensures { result ≡ tells_assent told }
+{
     matches!(told, Told::Reveals { .. } | Told::Confirms)
 }
 
 // Which shuffle a stage ends.
-fn closing_shuffle(kind: Option<StageKind>) -> Option<u8> {
+fn shuffle_ended(kind: Option<StageKind>) -> Option<u8>
+    ensures { result ≡ shuffle_ended kind }
+{
     match kind {
         Some(StageKind::Final { shuffle }) => Some(shuffle),
         _ => None,
