@@ -1,5 +1,7 @@
 //! What a complete closing stage comes to.
 
+ghost use Rattle.std.specs.List.{list_all};
+ghost use Rattle.closing_verdict.specs.Telling.{shuffle_ended, tells_assent};
 ghost use Rattle.std.specs.Prelude.{◌≡◌, IfOk, IsTrue};
 
 use crate::convicting::Conviction;
@@ -42,12 +44,10 @@ pub enum Judged {
 }
 
 impl<'a> Closing<'a> {
-    ghost use Rattle.std.specs.List.{list_all};
     ghost use Rattle.phase_message.specs.Stages.{kind_of_stage};
     ghost use Rattle.round_spec.specs.Verdict.{agreed_at};
     ghost use Rattle.closing_verdict.specs.Closed.{AreTold};
     ghost use Rattle.closing_verdict.specs.Judgement.{IsToBeJudged, TellsVerdict, completed_of, stage_closed, verdict_in};
-    ghost use Rattle.closing_verdict.specs.Telling.{tells_assent};
 
     /// What the stage comes to. All posts of the stages before it and of its own are there, and what is carried is what
     /// was found of them. It is never `Goes`.
