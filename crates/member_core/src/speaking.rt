@@ -1,5 +1,24 @@
 //! Asking the conduct, and posting what it says.
 
+ghost use Rattle.std.specs.Prelude.{◌≡◌, ◌≤◌, IfOk, IsOk, IsTrue, Some, length};
+ghost use Rattle.phase_message.specs.declared.stage.StageKind.{StageKind as Kind};
+ghost use Rattle.phase_message.specs.Grammar.{IsBody, content_text};
+ghost use Rattle.phase_message.specs.Stages.{is_slot, kind_of_stage};
+ghost use Rattle.stage_log.specs.Log.{view_of};
+ghost use Rattle.shuffle_blame.specs.Asked.{past_of};
+ghost use Rattle.round_spec.specs.Say.{Configuration};
+ghost use Rattle.honest_say.specs.Seats.{header_at};
+ghost use Rattle.member_spec.specs.declared.conduct.Speech.TheVariants.{Say as Says};
+ghost use Rattle.member_spec.specs.declared.mood.Mood.TheVariants.{Mute, Spoken};
+ghost use Rattle.member_spec.specs.Actor.{Actor, actor_behind_answer, actor_behind_question, content_to_say};
+ghost use Rattle.member_spec.specs.Replies.{KeepsSlot, Replies};
+ghost use Rattle.member_core.specs.Asking.{IsDue, IsPlainKind, IsSpeakable, IsToBeAsked, StandsAsked, asked_at, content_here};
+ghost use Rattle.member_core.specs.Membership.{IsOpen, holdings_of};
+ghost use Rattle.member_core.specs.Needs.{HoldsNeeded, no_secrets};
+ghost use Rattle.member_core.specs.Shorts.{own_limit};
+ghost use Rattle.member_core.specs.Sound.{IsFormed, IsPutOff, IsReady, IsSound, slot_here};
+ghost use Rattle.member_core.specs.Stands.{StandsFor};
+
 use crate::machine::Machine;
 use member_spec::{Conduct, Mood, Speech};
 use phase_message::{Body, Content, Header, Post, StageKind, encode, first_offence, stage_kind};
@@ -8,7 +27,21 @@ use wire_core::{List, Mem};
 
 impl Machine {
     // Posts bytes: signs them with the next leaf, and keeps the post if they are a content of the grammar.
-    fn say(&mut self, alloc: Global, bytes: List<u8>) -> Mem<()> {
+    #[tactic(none)]
+    fn say(&mut self, alloc: Global, bytes: List<u8>) -> Mem<()>
+        requires formed { IsFormed self.old }
+        requires ready { IsReady self.old }
+        requires speakable { IsSpeakable self.old }
+        requires slot { KeepsSlot self.old.log.shape (slot_here self.old) bytes }
+        requires short { length bytes ≤ own_limit (kind_of_stage self.old.log.shape self.old.stage) }
+        ensures formed { IsFormed self.new }
+        ensures sound { IfOk result (λ _. IsSound self.new) }
+        ensures open { IfOk result (λ _. IsOpen self.new.ending) }
+        ensures handed { IfOk result (λ _. self.new.handed ≡ self.old.handed) }
+        ensures stands { IfOk result (λ _. (now start : Replies) (c : Configuration) (a : Actor) →
+            StandsAsked now start c a (holdings_of self.old) →
+            StandsFor now start c (actor_behind_answer c a (Says bytes)) (holdings_of self.new)) }
+    {
         let signature = self.leaves.sign(alloc, bytes.items())?;
         let is_content = first_offence(self.seat.shape, bytes.items()).is_none();
         let post = Post {
@@ -27,18 +60,33 @@ impl Machine {
     }
 
     // Says nothing more.
-    fn fall_mute(&mut self) {
+    fn fall_mute(&mut self)
+        ensures { self.new ≡ record self.old { secrets = no_secrets; mood = Mute } }
+    {
         self.secrets.end();
         self.mood = Mood::Mute;
     }
 
     // Asks the conduct about the bytes of a content, and does what it answers.
+    #[tactic(none)]
     pub(crate) fn ask<C: Conduct>(
         &mut self,
         alloc: Global,
         conduct: &mut C,
         bytes: Vec<u8>,
-    ) -> Mem<()> {
+    ) -> Mem<()>
+        requires formed { IsFormed self.old }
+        requires ready { IsReady self.old }
+        requires speakable { IsSpeakable self.old }
+        requires question { IsPutOff self.old bytes.items }
+        ensures formed { IsFormed self.new }
+        ensures sound { IfOk result (λ _. IsSound self.new) }
+        ensures open { IfOk result (λ _. IsOpen self.new.ending) }
+        ensures handed { IfOk result (λ _. self.new.handed ≡ self.old.handed) }
+        ensures stands { IfOk result (λ _. (start : Replies) (c : Configuration) (a : Actor) →
+            StandsAsked (C.replies conduct.old) start c a (holdings_of self.old) →
+            StandsFor (C.replies conduct.new) start c (actor_behind_question start c a bytes.items) (holdings_of self.new)) }
+    {
         match conduct.content(alloc, self.stage, bytes, &self.log)? {
             Speech::Say(bytes) => self.say(alloc, bytes),
             Speech::Wait(bytes) => {
@@ -53,19 +101,36 @@ impl Machine {
     }
 
     // The header of what it says at the stage that is being filled.
-    fn header_here(&self) -> Header {
+    fn header_here(&self) -> Header
+        requires { IsReady self.now }
+        ensures { result ≡ header_at self.now.seat self.now.stage (view_of self.now.log.shape (past_of self.now.log self.now.stage) self.now.stage) }
+    {
         let view = self.seen.view();
         self.seat.header(self.stage, &view)
     }
 
     // The bytes of a body under that header.
-    fn content_of(&self, alloc: Global, body: Body) -> Mem<Vec<u8>> {
+    fn content_of(&self, alloc: Global, body: Body) -> Mem<Vec<u8>>
+        requires formed { IsFormed self.now }
+        requires ready { IsReady self.now }
+        requires speaks { IsTrue (is_slot self.now.log.shape self.now.stage self.now.seat.number) }
+        requires fits { IsBody self.now.log.shape self.now.stage body }
+        ensures { IfOk result (λ bytes. bytes.items ≡ content_text (content_here self.now body)) }
+    {
         let header = self.header_here();
         encode(alloc, self.seat.shape, &Content { header, body })
     }
 
     // The body that the rules give it to say at a stage of a kind that changes nothing else.
-    fn row_due(&self, alloc: Global, kind: StageKind) -> Mem<Body> {
+    fn row_due(&self, alloc: Global, kind: StageKind) -> Mem<Body>
+        requires formed { IsFormed self.now }
+        requires ready { IsReady self.now }
+        requires needed { HoldsNeeded (holdings_of self.now) }
+        requires asked { IsToBeAsked self.now }
+        requires kind { kind_of_stage self.now.log.shape self.now.stage ≡ Some kind }
+        requires plain { IsPlainKind kind }
+        ensures { IfOk result (λ body. (now : Replies) → IsDue now self.now kind body) }
+    {
         match kind {
             StageKind::Keys => Ok(self.keys_due()),
             StageKind::Shuffle { shuffle, .. } => self.turn_due(alloc, shuffle),
@@ -78,7 +143,21 @@ impl Machine {
     }
 
     // The body that the rules give it to say at the stage that is being filled.
-    fn body_due<C: Conduct>(&mut self, alloc: Global, conduct: &mut C) -> Mem<Body> {
+    #[tactic(none)]
+    fn body_due<C: Conduct>(&mut self, alloc: Global, conduct: &mut C) -> Mem<Body>
+        requires formed { IsFormed self.old }
+        requires ready { IsReady self.old }
+        requires needed { HoldsNeeded (holdings_of self.old) }
+        requires asked { IsToBeAsked self.old }
+        ensures formed { IsFormed self.new }
+        ensures same { IfOk result (λ _. self.new ≡ record self.old { secrets = self.new.secrets; own = self.new.own }) }
+        ensures needed { IfOk result (λ _. HoldsNeeded (asked_at (holdings_of self.new) Spoken)) }
+        ensures due { IfOk result (λ body. (kind : Kind) → kind_of_stage self.old.log.shape self.old.stage ≡ Some kind →
+            IsDue (C.replies conduct.old) self.old kind body) }
+        ensures stands { IfOk result (λ _. (start : Replies) (c : Configuration) (a : Actor) →
+            StandsFor (C.replies conduct.old) start c a (holdings_of self.old) →
+            StandsAsked (C.replies conduct.new) start c a (holdings_of self.new)) }
+    {
         match stage_kind(self.seat.shape, self.stage) {
             Some(StageKind::Submit { shuffle: 1 }) => self.first_submission_due(alloc, conduct),
             Some(StageKind::Submit { .. }) => self.second_submission_due(alloc),
@@ -89,7 +168,20 @@ impl Machine {
     }
 
     // Speaks at the stage that is being filled.
-    pub(crate) fn speak<C: Conduct>(&mut self, alloc: Global, conduct: &mut C) -> Mem<()> {
+    #[tactic(none)]
+    pub(crate) fn speak<C: Conduct>(&mut self, alloc: Global, conduct: &mut C) -> Mem<()>
+        requires formed { IsFormed self.old }
+        requires ready { IsReady self.old }
+        requires needed { HoldsNeeded (holdings_of self.old) }
+        requires asked { IsToBeAsked self.old }
+        ensures formed { IsFormed self.new }
+        ensures sound { IfOk result (λ _. IsSound self.new) }
+        ensures open { IfOk result (λ _. IsOpen self.new.ending) }
+        ensures handed { IfOk result (λ _. self.new.handed ≡ self.old.handed) }
+        ensures stands { IfOk result (λ _. (start : Replies) (c : Configuration) (a : Actor) →
+            StandsFor (C.replies conduct.old) start c a (holdings_of self.old) →
+            StandsFor (C.replies conduct.new) start c (actor_behind_question start c a (content_to_say start c a.stand)) (holdings_of self.new)) }
+    {
         let body = self.body_due(alloc, conduct)?;
         let bytes = self.content_of(alloc, body)?;
         self.ask(alloc, conduct, bytes)
