@@ -29,7 +29,7 @@ asked_at h mood = record h { mood = mood }
 
 -- a member is to be asked: its round is open, it speaks at its stage, and it was not asked there yet
 pub record IsToBeAsked (m : Machine) : Type 0 where
-  pub open : IsOpen m.ending
+  pub going : IsOpen m.ending
   pub speaks : IsTrue (is_slot m.log.shape m.stage m.seat.number)
   pub unasked : m.mood ≡ Unasked
 

@@ -36,7 +36,7 @@ impl Machine {
         requires short { length bytes ≤ own_limit (kind_of_stage self.old.log.shape self.old.stage) }
         ensures formed { IsFormed self.new }
         ensures sound { IfOk result (λ _. IsSound self.new) }
-        ensures open { IfOk result (λ _. IsOpen self.new.ending) }
+        ensures going { IfOk result (λ _. IsOpen self.new.ending) }
         ensures handed { IfOk result (λ _. self.new.handed ≡ self.old.handed) }
         ensures stands { IfOk result (λ _. (now start : Replies) (c : Configuration) (a : Actor) →
             StandsAsked now start c a (holdings_of self.old) →
@@ -81,7 +81,7 @@ impl Machine {
         requires question { IsPutOff self.old bytes.items }
         ensures formed { IsFormed self.new }
         ensures sound { IfOk result (λ _. IsSound self.new) }
-        ensures open { IfOk result (λ _. IsOpen self.new.ending) }
+        ensures going { IfOk result (λ _. IsOpen self.new.ending) }
         ensures handed { IfOk result (λ _. self.new.handed ≡ self.old.handed) }
         ensures stands { IfOk result (λ _. (start : Replies) (c : Configuration) (a : Actor) →
             StandsAsked (C.replies conduct.old) start c a (holdings_of self.old) →
@@ -176,7 +176,7 @@ impl Machine {
         requires asked { IsToBeAsked self.old }
         ensures formed { IsFormed self.new }
         ensures sound { IfOk result (λ _. IsSound self.new) }
-        ensures open { IfOk result (λ _. IsOpen self.new.ending) }
+        ensures going { IfOk result (λ _. IsOpen self.new.ending) }
         ensures handed { IfOk result (λ _. self.new.handed ≡ self.old.handed) }
         ensures stands { IfOk result (λ _. (start : Replies) (c : Configuration) (a : Actor) →
             StandsFor (C.replies conduct.old) start c a (holdings_of self.old) →
