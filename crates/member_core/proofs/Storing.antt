@@ -1,0 +1,375 @@
+-- A post of another member that is kept: what is true of a member stays true.
+use Rattle.std.proofs.Common.{◌≡◌, ◌⊎◌, ℕ, zero, suc, ◌+◌, ◌*◌, ◌<◌, ◌≤◌, Bool, true, false, List, [], ◌∷◌, length, Option, Some, None, ap, sym, ◌∙◌, refl, subst, arith, inl, inr}
+use Rattle.std.specs.Prelude.{◌++◌, IsSome, IsTrue, ◌==◌, filter_map, unwrap_or, if◌then◌else◌}
+use Rattle.std.specs.List.{range_with_len, slice_get, slice_set}
+use Rattle.std.specs.Option.{option_flatten, option_map, option_to_list}
+use Rattle.std.proofs.lemmas.Bool.{cases_Bool, cond-false, cond-true, ltb-true}
+use Rattle.std.proofs.lemmas.Option.{none-some}
+use Rattle.phase_message.specs.declared.post.Post.{Post}
+use Rattle.phase_message.specs.declared.post.TheConstants.{POST_LIMIT}
+use Rattle.phase_message.specs.declared.stage.Slot.{Slot}
+use Rattle.phase_message.specs.declared.stage.StageKind.{StageKind}
+use Rattle.phase_message.specs.declared.stage.StageKind.TheVariants.{Keys, Submit, Shuffle, Go, Final, Pad, Check, Confirm}
+use Rattle.phase_message.specs.Post.{post_spelling}
+use Rattle.phase_message.specs.Shape.{Shape}
+use Rattle.phase_message.specs.Slots.{slot_at, slot_number, stage_count}
+use Rattle.phase_message.specs.Stages.{is_slot, kind_of_stage}
+use Rattle.phase_message.proofs.SlotLists.{slot_at-number}
+use Rattle.stage_log.specs.Log.{before, contents_of}
+use Rattle.stage_log.specs.Seen.{HasSeen}
+use Rattle.stage_log.specs.Table.{IsKept, IsLog, Log, filled, kept_in}
+use Rattle.stage_log.proofs.Entries.{filled-is_log}
+use Rattle.stage_log.proofs.Fronts.{before-front, before-put, some_is}
+use Rattle.stage_log.proofs.Pasts.{some_of}
+use Rattle.go_nogo.specs.Stands.{StandsIn}
+use Rattle.shuffle_blame.specs.Asked.{past_of}
+use Rattle.honest_say.specs.declared.group_keys.GroupKeys.{GroupKeys}
+use Rattle.honest_say.specs.declared.opening.Slots.{Slots}
+use Rattle.honest_say.specs.Opened.{AreSlotsSaid}
+use Rattle.honest_say.specs.Own.{AreGroupKeys}
+use Rattle.honest_say.specs.Pasts.{posts_before}
+use Rattle.round_spec.specs.Say.{Configuration, own_submission}
+use Rattle.round_spec.specs.Slots.{items_opened, submit_stage}
+use Rattle.round_spec.specs.Verdict.{Convicts, Done as DoneVerdict, Goes, Verdict}
+use Rattle.round_spec.specs.Course.{is_open}
+use Rattle.round_spec.specs.Result.{Waiting, outcome_ended}
+use Rattle.closing_verdict.specs.Carried.{AreKeysOf, AreItemsOf, CarriesOpened, CarriesSlots, stage_found, stage_opened}
+use Rattle.member_spec.specs.declared.mood.Mood.{Mood}
+use Rattle.member_spec.specs.declared.mood.Mood.TheVariants.{Unasked, PutOff, Spoken, Mute}
+use Rattle.member_spec.specs.Actor.{Actor, descriptor_made}
+use Rattle.member_spec.specs.Outcomes.{members_missing, outcome_of}
+use Rattle.member_spec.specs.Replies.{Replies}
+use Rattle.member_spec.proofs.Moves.{filter-in}
+use Rattle.member_core.specs.declared.ending.Ending.{Ending}
+use Rattle.member_core.specs.declared.ending.Ending.TheVariants.{Blamed, Done, Open, Stopped}
+use Rattle.member_core.specs.declared.machine.Machine.{Machine}
+use Rattle.member_core.specs.Membership.{Holdings, IsOpen, holdings_of, own_posts_kept, posts_made}
+use Rattle.member_core.specs.Needs.{HoldsNeeded, stages_behind, was_asked}
+use Rattle.member_core.specs.Shorts.{IsShortLog, most_in, own_limit}
+use Rattle.member_core.specs.Sound.{CarriesKeys, IsFormed, IsMachineOf, IsMoodOf, IsReady}
+use Rattle.member_core.specs.Stands.{AnswersBy, GoesOn, HasEntered, IsAt, IsOwnOf, KeepsOwn, ShowsOutcome, StandsFor}
+use Rattle.member_core.proofs.Saying.{filled-stands, put-fills}
+
+-- ---- places
+
+get-other : {A : Type 0} (xs : List A) (k i : ℕ) (y : A) → (i ≡ k → ⊥) → slice_get (slice_set xs k y) i ≡ slice_get xs i
+get-other [] k i y apart = refl
+get-other (z ∷ xs) zero zero y apart = absurd (apart refl)
+get-other (z ∷ xs) zero (suc i) y apart = refl
+get-other (z ∷ xs) (suc k) zero y apart = refl
+get-other (z ∷ xs) (suc k) (suc i) y apart = get-other xs k i y (λ e. apart (ap (λ (n : ℕ). suc n) e))
+
+get-set : {A : Type 0} (xs : List A) (k i : ℕ) (y x : A) → slice_get (slice_set xs k y) i ≡ Some x → (slice_get xs i ≡ Some x) ⊎ (x ≡ y)
+get-set [] k i y x e = absurd cc
+get-set (z ∷ xs) zero zero y x e = inr cc
+get-set (z ∷ xs) zero (suc i) y x e = inl e
+get-set (z ∷ xs) (suc k) zero y x e = inl e
+get-set (z ∷ xs) (suc k) (suc i) y x e = get-set xs k i y x e
+
+flatten-some : {A : Type 0} (o : Option (Option A)) (x : A) → option_flatten o ≡ Some x → o ≡ Some (Some x)
+flatten-some (Some (Some y)) x e = ap (λ (o : Option _). Some o) e
+flatten-some (Some None) x e = absurd cc
+flatten-some None x e = absurd cc
+
+-- slots of two senders have two numbers
+numbers-apart : (shape : Shape) (slot other : Slot) → is_slot shape slot.stage slot.sender ≡ true → is_slot shape other.stage other.sender ≡ true
+    → (slot.sender ≡ other.sender → ⊥) → slot_number shape other.stage other.sender ≡ slot_number shape slot.stage slot.sender → ⊥
+numbers-apart shape slot other speaks there apart same =
+    let at : Some other ≡ Some slot = sym (slot_at-number shape other.stage other.sender there) ∙ ap (slot_at shape) same
+        ∙ slot_at-number shape slot.stage slot.sender speaks in
+    let one : other ≡ slot = cc in
+    apart (sym (ap (λ (s : Slot). s.sender) one))
+
+-- ---- one slot of another is filled
+
+-- an empty slot of another than this member
+pub record IsOthers (log : Log) (number : ℕ) (slot : Slot) : Type 0 where
+  pub speaks : is_slot log.shape slot.stage slot.sender ≡ true
+  pub other : slot.sender ≡ number → ⊥
+  pub empty : kept_in log slot ≡ None
+
+-- the slots of the member stay as they were
+pub own-stays : (log : Log) (number : ℕ) (slot : Slot) (post : Post) (stage : ℕ) → IsOthers log number slot
+    → kept_in (filled log slot post) (record { stage = stage; sender = number }) ≡ kept_in log (record { stage = stage; sender = number })
+own-stays log number slot post stage is = elim (cases_Bool (is_slot log.shape stage number)) [
+  | inl there ↦ ap (λ (o : Option (Option Post)). if is_slot log.shape stage number then option_flatten o else None)
+      (get-other log.posts (slot_number log.shape slot.stage slot.sender) (slot_number log.shape stage number) (Some post)
+      (numbers-apart log.shape slot (record { stage = stage; sender = number }) is.speaks there is.other))
+  | inr silent ↦ cond-false (is_slot log.shape stage number) _ None silent ∙ sym (cond-false (is_slot log.shape stage number) _ None silent)
+]
+
+-- so its posts do
+pub made-stays : (log : Log) (number : ℕ) (slot : Slot) (post : Post) → IsOthers log number slot
+    → own_posts_kept (filled log slot post) number ≡ own_posts_kept log number
+unfolding own_posts_kept
+made-stays log number slot post is = filter-in (λ stage. kept_in (filled log slot post) (record { stage = stage; sender = number }))
+    (λ stage. kept_in log (record { stage = stage; sender = number })) 0 (stage_count log.shape) (λ x le lt. own-stays log number slot post x is)
+
+-- a post that is kept was kept before, or fills the slot
+kept-filled : (log : Log) (slot other : Slot) (post kept : Post) → kept_in (filled log slot post) other ≡ Some kept
+    → (kept_in log other ≡ Some kept) ⊎ (kept ≡ post)
+kept-filled log slot other post kept e = elim (cases_Bool (is_slot log.shape other.stage other.sender)) [
+  | inr silent ↦ absurd (none-some kept (sym (cond-false (is_slot log.shape other.stage other.sender) _ None silent) ∙ e))
+  | inl speaks ↦
+      let number : ℕ = slot_number log.shape other.stage other.sender in
+      let k : ℕ = slot_number log.shape slot.stage slot.sender in
+      let entry = sym (cond-true (is_slot log.shape other.stage other.sender) (option_flatten (slice_get (slice_set log.posts k (Some post)) number)) None speaks) ∙ e in
+      elim (get-set log.posts k number (Some post) (Some kept) (flatten-some (slice_get (slice_set log.posts k (Some post)) number) kept entry)) [
+        | inl old ↦ inl (cond-true (is_slot log.shape other.stage other.sender) (option_flatten (slice_get log.posts number)) None speaks ∙ ap option_flatten old)
+        | inr new ↦ inr (told_same kept post new)
+      ]
+]
+  where
+    told_same : (x y : Post) → (let told : Post → Option Post = λ z. Some z in told x ≡ told y) → x ≡ y
+    told_same x y e = cc
+
+-- what was said before a stage stays
+pub before-stays : (log : Log) (number : ℕ) (slot : Slot) (post : Post) (stage : ℕ) (posts : List Post) → IsOthers log number slot
+    → before log stage ≡ Some posts → before (filled log slot post) stage ≡ Some posts
+before-stays log number slot post stage posts is e =
+    subst (λ (l : Log). before l stage ≡ Some posts) (put-fills log slot post is.empty) (before-put log slot post stage posts is.speaks e)
+
+stays-before : (log : Log) (number : ℕ) (slot : Slot) (post : Post) (stage later : ℕ) → IsOthers log number slot → IsSome (before log later)
+    → stage ≤ later → before (filled log slot post) stage ≡ before log stage
+stays-before log number slot post stage later is complete le =
+    let past = some_of (before log later) complete in
+    let front = before-front log stage later past.0 le past.1 in
+    before-stays log number slot post stage _ is front ∙ sym front
+
+pub past-stays : (log : Log) (number : ℕ) (slot : Slot) (post : Post) (stage later : ℕ) → IsOthers log number slot → IsSome (before log later)
+    → stage ≤ later → past_of (filled log slot post) stage ≡ past_of log stage
+past-stays log number slot post stage later is complete le =
+    ap (λ (o : Option (List Post)). contents_of (unwrap_or o [])) (stays-before log number slot post stage later is complete le)
+
+pub posts-stay : (log : Log) (number : ℕ) (slot : Slot) (post : Post) (stage later : ℕ) → IsOthers log number slot → IsSome (before log later)
+    → stage ≤ later → posts_before (filled log slot post) stage ≡ posts_before log stage
+posts-stay log number slot post stage later is complete le =
+    ap (λ (o : Option (List Post)). unwrap_or o []) (stays-before log number slot post stage later is complete le)
+
+-- ---- how long posts are
+
+own-least : (kind : Option StageKind) → POST_LIMIT ≤ own_limit kind
+own-least None = omega arith
+own-least (Some Keys) = omega arith
+own-least (Some (Submit shuffle)) = omega arith
+own-least (Some (Shuffle shuffle k)) = omega arith
+own-least (Some (Go shuffle)) = omega arith
+own-least (Some (Final shuffle)) = elim (cases_Bool (shuffle == 1)) [
+  | inl first ↦ (let told = cond-true (shuffle == 1) (33 * POST_LIMIT) (209 * POST_LIMIT) first in omega (arith, told))
+  | inr second ↦ (let told = cond-false (shuffle == 1) (33 * POST_LIMIT) (209 * POST_LIMIT) second in omega (arith, told))
+]
+own-least (Some Pad) = omega arith
+own-least (Some Check) = omega arith
+own-least (Some Confirm) = omega arith
+
+most-least : (shape : Shape) (number stage sender : ℕ) → POST_LIMIT ≤ most_in shape number stage sender
+most-least shape number stage sender = elim (cases_Bool (sender == number)) [
+  | inl own ↦ (let told = cond-true (sender == number) _ POST_LIMIT own in let least = own-least (kind_of_stage shape stage) in omega (arith, told, least))
+  | inr other ↦ (let told = cond-false (sender == number) _ POST_LIMIT other in omega (arith, told))
+]
+
+short-stays : (log : Log) (number : ℕ) (slot : Slot) (post : Post) → length (post_spelling post) ≤ POST_LIMIT → IsShortLog number log
+    → IsShortLog number (filled log slot post)
+short-stays log number slot post small short stage sender kept e = elim (kept-filled log slot (record { stage = stage; sender = sender }) post kept e) [
+  | inl old ↦ short stage sender kept old
+  | inr new ↦
+      let least = most-least log.shape number stage sender in
+      let same = ap (λ (p : Post). length (post_spelling p)) new in
+      omega (arith, least, same, small)
+]
+
+-- ---- the code
+
+-- the member with a post in a slot
+abbrev pub with_post : Machine → Slot → Post → Machine
+with_post m slot post = record m { log = filled m.log slot post }
+
+-- a post that can be kept in an empty slot of another
+pub record IsStorable (m : Machine) (slot : Slot) (post : Post) : Type 0 where
+  pub others : IsOthers m.log m.seat.number slot
+  pub kept : IsKept post.content
+  pub stands : StandsIn m.log.shape slot post.content
+  pub short : length (post_spelling post) ≤ POST_LIMIT
+
+-- the posts that it made
+posts-made : (h : Holdings) (slot : Slot) (post : Post) → IsOthers h.log h.number slot → posts_made (record h { log = filled h.log slot post }) ≡ posts_made h
+posts-made h slot post is = ap (λ (posts : List Post). posts ++ option_to_list h.stray) (made-stays h.log h.number slot post is)
+
+pub formed-stays : (m : Machine) (slot : Slot) (post : Post) → IsStorable m slot post → IsFormed m → IsFormed (with_post m slot post)
+formed-stays m slot post s f =
+    let e : IsMachineOf f.entered.0 m = f.entered.1 in
+    let made = ap length (posts-made (holdings_of m) slot post s.others) in
+    record {
+      entered = (f.entered.0, record { roster = e.roster; seat = e.seat; message = e.message; secrets = e.secrets; hidden = e.hidden; hidden_short = e.hidden_short; pad = e.pad });
+      message = f.message;
+      log = filled-is_log m.log slot post f.log s.kept;
+      shape = f.shape;
+      stand = filled-stands m.log slot post s.others.speaks s.others.empty s.stands f.stand;
+      short = short-stays m.log m.seat.number slot post s.short f.short;
+      leaves = (let was = f.leaves in omega (arith, made, was));
+      handed = (let was = f.handed in omega (arith, made, was));
+    }
+
+keys-stay : (log : Log) (slot : Slot) (post : Post) (stage : ℕ) (o : Option GroupKeys) → (IsSome o → past_of (filled log slot post) 1 ≡ past_of log 1)
+    → CarriesKeys log stage o → CarriesKeys (filled log slot post) stage o
+keys-stay log slot post stage None same e = e
+keys-stay log slot post stage (Some keys) same e = record {
+  said = subst (λ (past : List (List ℕ)). AreGroupKeys log.shape past keys) (sym (same refl)) e.said;
+  counts = e.counts;
+}
+
+opened-stay : (log : Log) (slot : Slot) (post : Post) (stage : ℕ) (o : Option (List (Option (List ℕ))))
+    → (IsSome o → past_of (filled log slot post) (stage_opened log) ≡ past_of log (stage_opened log))
+    → CarriesOpened log stage o → CarriesOpened (filled log slot post) stage o
+opened-stay log slot post stage None same e = e
+opened-stay log slot post stage (Some items) same e = record {
+  are = e.are ∙ ap (λ (past : List (List ℕ)). items_opened log.shape past 1) (sym (same refl));
+  count = e.count;
+}
+
+slots-stay : (log : Log) (slot : Slot) (post : Post) (stage : ℕ) (o : Option Slots)
+    → (IsSome o → past_of (filled log slot post) (stage_found log) ≡ past_of log (stage_found log))
+    → CarriesSlots log stage o → CarriesSlots (filled log slot post) stage o
+slots-stay log slot post stage None same e = e
+slots-stay log slot post stage (Some slots) same e = subst (λ (past : List (List ℕ)). AreSlotsSaid log.shape past slots) (sym (same refl)) e
+
+some-mapped : {A B : Type 0} (f : A → B) (o : Option A) → IsSome (option_map f o) → IsSome o
+some-mapped f (Some x) is = refl
+some-mapped f None is = absurd cc
+
+mood-stays : (m : Machine) (slot : Slot) (post : Post) (mood : Mood) → IsOthers m.log m.seat.number slot → IsMoodOf m mood → IsMoodOf (with_post m slot post) mood
+mood-stays m slot post Unasked is e = (λ later le. own-stays m.log m.seat.number slot post later is ∙ e.0 later le, e.1)
+mood-stays m slot post (PutOff bytes) is e =
+    (λ later le. own-stays m.log m.seat.number slot post later is ∙ e.0 later le, e.1, record { slot = e.2.slot; short = e.2.short })
+mood-stays m slot post Spoken is e =
+    (λ later le. own-stays m.log m.seat.number slot post later is ∙ e.0 later le, e.1, subst IsSome (sym (own-stays m.log m.seat.number slot post m.stage is)) e.2)
+mood-stays m slot post Mute is e = (λ later le. own-stays m.log m.seat.number slot post later is ∙ e.0 later le, e.1)
+
+pub ready-stays : (m : Machine) (slot : Slot) (post : Post) → IsStorable m slot post → IsReady m → IsReady (with_post m slot post)
+ready-stays m slot post s r =
+    let past = some_of (before m.log m.stage) r.past in
+    record {
+      stage = r.stage;
+      past = some_is (before (filled m.log slot post) m.stage) past.0 (before-stays m.log m.seat.number slot post m.stage past.0 s.others past.1);
+      seen = subst (λ (said : List (List ℕ)). HasSeen m.log.shape said m.stage m.seen)
+          (sym (past-stays m.log m.seat.number slot post m.stage m.stage s.others r.past (omega arith))) r.seen;
+      keys = keys-stay m.log slot post m.stage m.keys
+          (λ there. past-stays m.log m.seat.number slot post 1 m.stage s.others r.past (r.keys_behind there)) r.keys;
+      opened = opened-stay m.log slot post m.stage (option_map (λ items. items.items) m.opened)
+          (λ there. past-stays m.log m.seat.number slot post (stage_opened m.log) m.stage s.others r.past (r.opened_behind (some-mapped (λ items. items.items) m.opened there))) r.opened;
+      slots = slots-stay m.log slot post m.stage m.slots
+          (λ there. past-stays m.log m.seat.number slot post (stage_found m.log) m.stage s.others r.past (r.slots_behind there)) r.slots;
+      keys_behind = r.keys_behind;
+      opened_behind = r.opened_behind;
+      slots_behind = r.slots_behind;
+      mood = mood-stays m slot post m.mood s.others r.mood;
+    }
+
+pub needed-stays : (h : Holdings) (slot : Slot) (post : Post) → HoldsNeeded h → HoldsNeeded (record h { log = filled h.log slot post })
+needed-stays h slot post n = record { first = n.first; bulk = n.bulk; second = n.second }
+
+-- ---- the pure machine
+
+-- a member that shows an open round stands for one that is open
+pub open-shown : (c : Configuration) (a : Actor) → ShowsOutcome Open (outcome_of c a) → is_open a.ending ≡ true
+open-shown c a shows = by_verdict a.ending shows
+  where
+    by_verdict : (v : Verdict) → ShowsOutcome Open (if is_open v then Waiting a.stand.at (members_missing c a) else outcome_ended c a.stand v) → is_open v ≡ true
+    by_verdict Goes shows = refl
+    by_verdict DoneVerdict shows = absurd shows
+    by_verdict (Convicts t) shows = absurd shows
+
+pub shown-open : (c : Configuration) (a : Actor) → is_open a.ending ≡ true → ShowsOutcome Open (outcome_of c a)
+shown-open c a still = by_verdict a.ending still
+  where
+    by_verdict : (v : Verdict) → is_open v ≡ true → ShowsOutcome Open (if is_open v then Waiting a.stand.at (members_missing c a) else outcome_ended c a.stand v)
+    by_verdict Goes still = tt
+    by_verdict DoneVerdict still = absurd cc
+    by_verdict (Convicts t) still = absurd cc
+
+-- where the round is open, another log shows the same
+shows-stays : (c : Configuration) (a : Actor) (log : Log) (ending : Ending) → IsOpen ending → ShowsOutcome ending (outcome_of c a)
+    → ShowsOutcome ending (outcome_of c (record a { log = log }))
+shows-stays c a log Open still shows = shown-open c (record a { log = log }) (open-shown c a shows)
+shows-stays c a log (Done slots) still shows = absurd still
+shows-stays c a log (Blamed conviction) still shows = absurd still
+shows-stays c a log Stopped still shows = absurd still
+
+behind-most : (stage : ℕ) (mood : Mood) → stages_behind stage mood ≤ stage + 1
+behind-most stage Unasked = omega arith
+behind-most stage (PutOff bytes) = omega arith
+behind-most stage Spoken = omega arith
+behind-most stage Mute = omega arith
+
+-- a stage where it was asked is not behind where it stands
+pub asked-within : (stage : ℕ) (mood : Mood) (other : ℕ) → was_asked stage mood other ≡ true → other ≤ stage
+asked-within stage mood other e = (let lt = ltb-true other (stages_behind stage mood) e in let most = behind-most stage mood in omega (arith, lt, most))
+
+answers-stay : (now start : Replies) (c : Configuration) (past other : List (List ℕ)) (b : Bool) → (b ≡ true → other ≡ past) → AnswersBy now start c past b
+    → AnswersBy now start c other b
+answers-stay now start c past other true same e = subst (λ (said : List (List ℕ)). AnswersBy now start c said true) (sym (same refl)) e
+answers-stay now start c past other false same e = e
+
+pub stands-stays : (now start : Replies) (c : Configuration) (a : Actor) (h : Holdings) (slot : Slot) (post : Post) → IsOthers h.log h.number slot
+    → IsOpen h.ending → StandsFor now start c a h
+    → StandsFor now start c (record a { log = filled a.log slot post }) (record h { log = filled h.log slot post })
+stands-stays now start c a h slot post is still s = record {
+  can_enter = s.can_enter;
+  entered = record {
+    roster = s.entered.roster;
+    number = s.entered.number;
+    round = s.entered.round;
+    message = s.entered.message;
+    key = s.entered.key;
+    next = s.entered.next ∙ ap (λ (posts : List Post). c.first + length posts) (sym made);
+    secrets = s.entered.secrets;
+  };
+  at = record {
+    log = ap (λ (log : Log). filled log slot post) s.at.log;
+    stage = s.at.stage;
+    past = before-stays h.log h.number slot post h.stage a.stand.past is s.at.past;
+    mood = s.at.mood;
+    made = made ∙ s.at.made;
+    ending = shows-stays c a (filled a.log slot post) h.ending still s.at.ending;
+  };
+  conduct = conduct_stays h.mood s.conduct;
+  own = own_stay h.mood s.own;
+}
+  where
+    after : Holdings
+    after = record h { log = filled h.log slot post }
+
+    complete : IsSome (before h.log h.stage)
+    complete = some_is (before h.log h.stage) a.stand.past s.at.past
+
+    made : posts_made after ≡ posts_made h
+    made = posts-made h slot post is
+
+    past_same : (other : ℕ) → was_asked h.stage h.mood other ≡ true → past_of (filled h.log slot post) other ≡ past_of h.log other
+    past_same other asked = past-stays h.log h.number slot post other h.stage is complete (asked-within h.stage h.mood other asked)
+
+    answers : AnswersBy now start c (past_of h.log 1) (was_asked h.stage h.mood 1) → AnswersBy now start c (past_of (filled h.log slot post) 1) (was_asked h.stage h.mood 1)
+    answers e = answers-stay now start c (past_of h.log 1) (past_of (filled h.log slot post) 1) (was_asked h.stage h.mood 1) (past_same 1) e
+
+    conduct_stays : (mood : Mood) → GoesOn now start c h mood → GoesOn now start c after mood
+    conduct_stays Unasked e = answers e
+    conduct_stays (PutOff bytes) e = answers e
+    conduct_stays Spoken e = answers e
+    conduct_stays Mute e = tt
+
+    own_is : IsOwnOf start c h → IsOwnOf start c after
+    own_is o = record {
+      descriptor = λ asked. o.descriptor asked
+          ∙ ap (descriptor_made start c) (sym (posts-stay h.log h.number slot post 1 h.stage is complete (asked-within h.stage h.mood 1 asked)));
+      pad = o.pad;
+      first = λ asked not_yet. o.first asked not_yet
+          ∙ ap (λ (past : List (List ℕ)). (own_submission c h.own.descriptor past 1).inner_ciphertext) (sym (past_same 1 asked));
+      second = λ asked. o.second asked
+          ∙ ap (λ (past : List (List ℕ)). (own_submission c h.own.descriptor past 2).inner_ciphertext) (sym (past_same (submit_stage h.log.shape 2) asked));
+    }
+
+    own_stay : (mood : Mood) → KeepsOwn start c h mood → KeepsOwn start c after mood
+    own_stay Unasked o = own_is o
+    own_stay (PutOff bytes) o = own_is o
+    own_stay Spoken o = own_is o
+    own_stay Mute o = tt
