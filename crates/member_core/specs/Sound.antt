@@ -15,7 +15,7 @@ use Rattle.bulk_descriptor.specs.Descriptor.{own_pad}
 use Rattle.round_spec.specs.Say.{Configuration, own_pad_seeds}
 use Rattle.honest_say.specs.declared.group_keys.GroupKeys.{GroupKeys}
 use Rattle.honest_say.specs.Seats.{IsSeatOf}
-use Rattle.closing_verdict.specs.Carried.{AreKeysOf, CarriesOpened, CarriesSlots}
+use Rattle.closing_verdict.specs.Carried.{AreKeysOf, CarriesOpened, CarriesSlots, stage_found, stage_opened}
 use Rattle.member_spec.specs.declared.mood.Mood.{Mood}
 use Rattle.member_spec.specs.declared.mood.Mood.TheVariants.{Unasked, PutOff, Spoken, Mute}
 use Rattle.member_spec.specs.Replies.{HasSlot}
@@ -79,7 +79,8 @@ abbrev pub CarriesKeys : Log → ℕ → Option GroupKeys → Type 0
 CarriesKeys log stage None = stage ≡ 0
 CarriesKeys log stage (Some keys) = AreKeysOf log keys
 
--- all stages before the one that is being filled are complete, they were seen, and what was found of them is carried
+-- all stages before the one that is being filled are complete, they were seen, and what was found of them is carried from
+-- then on
 pub record IsReady (m : Machine) : Type 0 where
   pub stage : m.stage ≤ stage_count m.log.shape
   pub past : IsSome (before m.log m.stage)
@@ -87,6 +88,9 @@ pub record IsReady (m : Machine) : Type 0 where
   pub keys : CarriesKeys m.log m.stage m.keys
   pub opened : CarriesOpened m.log m.stage (option_map (λ items. items.items) m.opened)
   pub slots : CarriesSlots m.log m.stage m.slots
+  pub keys_behind : IsSome m.keys → 1 ≤ m.stage
+  pub opened_behind : IsSome m.opened → stage_opened m.log ≤ m.stage
+  pub slots_behind : IsSome m.slots → stage_found m.log ≤ m.stage
   pub mood : IsMoodOf m m.mood
 
 -- ---- both
