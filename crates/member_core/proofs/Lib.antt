@@ -3,3 +3,4 @@ pub mod StageKinds
 mod Comings
 pub mod Saying
 pub mod RowForms
+pub mod RowLengths
