@@ -29,18 +29,12 @@ use Rattle.member_spec.proofs.Hearing.{contradiction-empty, contradiction-full, 
 use Rattle.member_spec.proofs.Idle.{ended-delivery, nothing-delivered, open-delivery}
 use Rattle.member_core.specs.declared.taking.Found.{Found}
 use Rattle.member_core.specs.declared.taking.Found.TheVariants.{New, Same as Kept, Other, Malformed}
-use Rattle.member_core.specs.Found.{found_beside, found_of}
+use Rattle.member_core.specs.Found.{IsOfAnother, found_beside, found_of}
 
 -- a delivery leads a member to another, and is answered so
 pub record ComesTo (replies : Replies) (c : Configuration) (a : Actor) (bytes : List ℕ) (b : Actor) (taken : Taken) : Type 0 where
   pub behind : actor_behind_delivery replies c a bytes ≡ b
   pub answer : answer_to replies c a bytes ≡ taken
-
--- bytes are a post of another member that passes the checks before its body
-pub record IsOfAnother (c : Configuration) (bytes : List ℕ) (header : Header) (post : Post) : Type 0 where
-  pub framed : frame_of bytes ≡ Ok post
-  pub admitted : framed_admission_of c.roster c.round post ≡ Ok header
-  pub other : (header.sender == c.number) ≡ false
 
 -- what is heard of it
 abbrev pub heard_so : Configuration → Header → Post → Heard
@@ -113,7 +107,7 @@ own-comes replies c a bytes post header still spelled e own = record {
 
 -- ---- posts of others
 
-heard-so : (c : Configuration) (bytes : List ℕ) (header : Header) (post : Post) → IsOfAnother c bytes header post
+heard-so : (c : Configuration) (bytes : List ℕ) (header : Header) (post : Post) → IsOfAnother c.roster c.round c.number bytes header post
     → heard_of c bytes ≡ Some (heard_so c header post)
 heard-so c bytes header post is = hears c bytes post header is.framed is.admitted ∙ cond-false (header.sender == c.number) None _ is.other
 
@@ -125,7 +119,7 @@ new-idle c a header post other apart = cond-false (header.sender == c.number) (S
 
 -- where a fault is shown, it ends the round
 fault-comes : (replies : Replies) (c : Configuration) (a : Actor) (bytes : List ℕ) (header : Header) (post : Post) (verdict : Verdict)
-    → is_open a.ending ≡ true → IsOfAnother c bytes header post → is_content post.content (kept_in a.log (slot_named header)) ≡ false
+    → is_open a.ending ≡ true → IsOfAnother c.roster c.round c.number bytes header post → is_content post.content (kept_in a.log (slot_named header)) ≡ false
     → fault_shown c (kept_in a.log) bytes ≡ Some verdict → answer_by_end verdict ≡ Evidence
     → ComesTo replies c a bytes (record a { ending = verdict }) Evidence
 fault-comes replies c a bytes header post verdict still is apart shown told =
@@ -195,17 +189,17 @@ body-outside c o content e = elim (cases_Bool (is_ok (content_read (shape_in c) 
 
 pub same-comes : (replies : Replies) (c : Configuration) (a : Actor) (bytes : List ℕ) (header : Header) (post : Post) → is_open a.ending ≡ true
     → (LeavesAll (answer_to replies c a bytes) → actor_behind_delivery replies c a bytes ≡ a)
-    → IsOfAnother c bytes header post → found_of (shape_in c) (kept_in a.log (slot_named header)) post.content ≡ Kept
+    → IsOfAnother c.roster c.round c.number bytes header post → found_of (shape_in c) (kept_in a.log (slot_named header)) post.content ≡ Kept
     → ComesTo replies c a bytes a Same
 same-comes replies c a bytes header post still steady is found =
     let same = found-kept c (kept_in a.log (slot_named header)) post.content found in
     let told = idle replies c a bytes (Ok (header, post.content)) Same still (admits c bytes post header is.framed is.admitted)
-        (cond-false (header.sender == c.number) (Some Own) _ is.other
-        ∙ cond-true (is_content post.content (kept_in a.log (slot_named header))) (Some Same) None same) in
-    record { behind = steady (subst LeavesAll (sym told) tt); answer = told; }
+    (cond-false (header.sender == c.number) (Some Own) _ is.other
+    ∙ cond-true (is_content post.content (kept_in a.log (slot_named header))) (Some Same) None same) in
+    record { behind = steady (subst LeavesAll (sym told) tt); answer = told }
 
 pub malformed-comes : (replies : Replies) (c : Configuration) (a : Actor) (bytes : List ℕ) (header : Header) (post : Post) → is_open a.ending ≡ true
-    → IsOfAnother c bytes header post → found_of (shape_in c) (kept_in a.log (slot_named header)) post.content ≡ Malformed
+    → IsOfAnother c.roster c.round c.number bytes header post → found_of (shape_in c) (kept_in a.log (slot_named header)) post.content ≡ Malformed
     → ComesTo replies c a bytes (record a { ending = conviction c.round header.sender Outside (bytes ∷ []) }) Evidence
 malformed-comes replies c a bytes header post still is found =
     let at = not-kept c (kept_in a.log (slot_named header)) post.content Malformed found (λ e. cc) in
@@ -216,7 +210,7 @@ malformed-comes replies c a bytes header post still is found =
     ∙ first_some-some verdict _ _ (cond-false (is_ok (content_read (shape_in c) post.content)) None (Some verdict) outside)) refl
 
 pub other-comes : (replies : Replies) (c : Configuration) (a : Actor) (bytes : List ℕ) (header : Header) (post first : Post) → is_open a.ending ≡ true
-    → IsOfAnother c bytes header post → kept_in a.log (slot_named header) ≡ Some first
+    → IsOfAnother c.roster c.round c.number bytes header post → kept_in a.log (slot_named header) ≡ Some first
     → found_of (shape_in c) (kept_in a.log (slot_named header)) post.content ≡ Other
     → ComesTo replies c a bytes (record a { ending = conviction c.round header.sender Equivocation (post_spelling first ∷ bytes ∷ []) }) Evidence
 other-comes replies c a bytes header post first still is there found =
@@ -247,7 +241,7 @@ found-new c a header post found =
     by_slot (Some kept) f = absurd cc
 
 pub new-comes : (replies : Replies) (c : Configuration) (a : Actor) (bytes : List ℕ) (header : Header) (post : Post) → is_open a.ending ≡ true
-    → IsOfAnother c bytes header post → found_of (shape_in c) (kept_in a.log (slot_named header)) post.content ≡ New
+    → IsOfAnother c.roster c.round c.number bytes header post → found_of (shape_in c) (kept_in a.log (slot_named header)) post.content ≡ New
     → let b = actor_behind_steps replies c (actor_behind_repeat replies c (actor_with_heard a (heard_so c header post)) a.mood) in
     ComesTo replies c a bytes b (answer_by_end b.ending)
 new-comes replies c a bytes header post still is found =
@@ -255,12 +249,12 @@ new-comes replies c a bytes header post still is found =
     let b : Actor = actor_behind_steps replies c (actor_behind_repeat replies c (actor_with_heard a heard) a.mood) in
     let new = found-new c a header post found in
     let behind : actor_behind_delivery replies c a bytes ≡ b =
-        open-delivery replies c a bytes None still
-        (fault-of c (kept_in a.log) bytes (Some heard) (heard-so c bytes header post is)
-        ∙ fault-inside c (kept_in a.log) bytes heard new.reads
-        ∙ contradiction-empty c (kept_in a.log) bytes heard new.empty)
-        ∙ ap (actor_behind_heard replies c a) (heard-so c bytes header post is)
-        ∙ cond-false (is_some (kept_in a.log (slot_named header))) a b (ap is_some new.empty) in
+    open-delivery replies c a bytes None still
+    (fault-of c (kept_in a.log) bytes (Some heard) (heard-so c bytes header post is)
+    ∙ fault-inside c (kept_in a.log) bytes heard new.reads
+    ∙ contradiction-empty c (kept_in a.log) bytes heard new.empty)
+    ∙ ap (actor_behind_heard replies c a) (heard-so c bytes header post is)
+    ∙ cond-false (is_some (kept_in a.log (slot_named header))) a b (ap is_some new.empty) in
     record {
       behind = behind;
       answer = busy replies c a bytes b (Ok (header, post.content)) still (admits c bytes post header is.framed is.admitted)

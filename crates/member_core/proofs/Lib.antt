@@ -4,3 +4,4 @@ mod Comings
 pub mod Saying
 pub mod RowForms
 pub mod RowLengths
+mod Storing

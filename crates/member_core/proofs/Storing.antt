@@ -43,6 +43,7 @@ use Rattle.member_spec.proofs.Moves.{filter-in}
 use Rattle.member_core.specs.declared.ending.Ending.{Ending}
 use Rattle.member_core.specs.declared.ending.Ending.TheVariants.{Blamed, Done, Open, Stopped}
 use Rattle.member_core.specs.declared.machine.Machine.{Machine}
+use Rattle.member_core.specs.Found.{IsOthers, IsStorable}
 use Rattle.member_core.specs.Membership.{Holdings, IsOpen, holdings_of, own_posts_kept, posts_made}
 use Rattle.member_core.specs.Needs.{HoldsNeeded, stages_behind, was_asked}
 use Rattle.member_core.specs.Shorts.{IsShortLog, most_in, own_limit}
@@ -76,17 +77,11 @@ numbers-apart : (shape : Shape) (slot other : Slot) → is_slot shape slot.stage
     → (slot.sender ≡ other.sender → ⊥) → slot_number shape other.stage other.sender ≡ slot_number shape slot.stage slot.sender → ⊥
 numbers-apart shape slot other speaks there apart same =
     let at : Some other ≡ Some slot = sym (slot_at-number shape other.stage other.sender there) ∙ ap (slot_at shape) same
-        ∙ slot_at-number shape slot.stage slot.sender speaks in
+    ∙ slot_at-number shape slot.stage slot.sender speaks in
     let one : other ≡ slot = cc in
     apart (sym (ap (λ (s : Slot). s.sender) one))
 
 -- ---- one slot of another is filled
-
--- an empty slot of another than this member
-pub record IsOthers (log : Log) (number : ℕ) (slot : Slot) : Type 0 where
-  pub speaks : is_slot log.shape slot.stage slot.sender ≡ true
-  pub other : slot.sender ≡ number → ⊥
-  pub empty : kept_in log slot ≡ None
 
 -- the slots of the member stay as they were
 pub own-stays : (log : Log) (number : ℕ) (slot : Slot) (post : Post) (stage : ℕ) → IsOthers log number slot
@@ -184,13 +179,6 @@ short-stays log number slot post small short stage sender kept e = elim (kept-fi
 abbrev pub with_post : Machine → Slot → Post → Machine
 with_post m slot post = record m { log = filled m.log slot post }
 
--- a post that can be kept in an empty slot of another
-pub record IsStorable (m : Machine) (slot : Slot) (post : Post) : Type 0 where
-  pub others : IsOthers m.log m.seat.number slot
-  pub kept : IsKept post.content
-  pub stands : StandsIn m.log.shape slot post.content
-  pub short : length (post_spelling post) ≤ POST_LIMIT
-
 -- the posts that it made
 posts-made : (h : Holdings) (slot : Slot) (post : Post) → IsOthers h.log h.number slot → posts_made (record h { log = filled h.log slot post }) ≡ posts_made h
 posts-made h slot post is = ap (λ (posts : List Post). posts ++ option_to_list h.stray) (made-stays h.log h.number slot post is)
@@ -240,7 +228,7 @@ some-mapped f None is = absurd cc
 mood-stays : (m : Machine) (slot : Slot) (post : Post) (mood : Mood) → IsOthers m.log m.seat.number slot → IsMoodOf m mood → IsMoodOf (with_post m slot post) mood
 mood-stays m slot post Unasked is e = (λ later le. own-stays m.log m.seat.number slot post later is ∙ e.0 later le, e.1)
 mood-stays m slot post (PutOff bytes) is e =
-    (λ later le. own-stays m.log m.seat.number slot post later is ∙ e.0 later le, e.1, record { slot = e.2.slot; short = e.2.short })
+    (λ later le. own-stays m.log m.seat.number slot post later is ∙ e.0 later le, e.1, record { slot = e.2.slot; short = e.2.short }, e.3)
 mood-stays m slot post Spoken is e =
     (λ later le. own-stays m.log m.seat.number slot post later is ∙ e.0 later le, e.1, subst IsSome (sym (own-stays m.log m.seat.number slot post m.stage is)) e.2)
 mood-stays m slot post Mute is e = (λ later le. own-stays m.log m.seat.number slot post later is ∙ e.0 later le, e.1)
