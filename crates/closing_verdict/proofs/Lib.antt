@@ -1,0 +1,3 @@
+pub mod Charges
+pub mod ClosingPosts
+pub mod PadPosts

@@ -55,7 +55,7 @@ impl Charge {
     // What these posts show.
     pub(crate) fn shown_by(self, alloc: Global, posts: Vec<List<u8>>) -> Mem<Conviction>
         requires { IsCharge self posts.items }
-        ensures { IfOk result (IsConvictionBy (transcript_of self.entry posts.entry.items)) }
+        ensures { IfOk result (IsConvictionBy (transcript_of self posts.items)) }
     {
         let listed = Transcript {
             claim: self.claim,
