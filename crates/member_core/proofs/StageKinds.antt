@@ -1,10 +1,10 @@
 -- Which stage a kind has.
-use Rattle.std.proofs.Common.{◌≡◌, ℕ, ◌+◌, ◌-◌, ◌<◌, ◌≤◌, Option, Some, None, inl, inr, sym, ap, ◌∙◌, refl, subst, arith}
-use Rattle.std.proofs.lemmas.Bool.{cases_eq, cases_lt}
+use Rattle.std.proofs.Common.{◌≡◌, ℕ, ◌+◌, ◌-◌, ◌<◌, ◌≤◌, true, Option, Some, None, inl, inr, sym, ap, ◌∙◌, refl, subst, arith}
+use Rattle.std.proofs.lemmas.Bool.{cases_eq, cases_lt, eqb-true}
 use Rattle.phase_message.specs.declared.stage.StageKind.{StageKind}
 use Rattle.phase_message.specs.declared.stage.StageKind.TheVariants.{Keys, Submit, Shuffle, Go, Final, Pad, Check, Confirm}
 use Rattle.phase_message.specs.Shape.{Shape}
-use Rattle.phase_message.specs.Stages.{kind_of_stage}
+use Rattle.phase_message.specs.Stages.{is_slot, kind_of_stage, speaks}
 use Rattle.phase_message.proofs.Table.{check_is, confirm_is, final_a_is, final_b_is, go_a_is, go_b_is, keys_is, nothing_is, pad_is, submit_a_is, submit_b_is, turn_a, turn_b}
 use Rattle.round_spec.specs.Slots.{final_stage, pad_stage, submit_stage}
 
@@ -90,3 +90,7 @@ kind-place shape stage kind e =
             ]
           ]
         ]
+
+-- who speaks at a turn is the member whose turn it is
+pub turn-own : (shape : Shape) (stage sender shuffle k : ℕ) → kind_of_stage shape stage ≡ Some (Shuffle shuffle k) → is_slot shape stage sender ≡ true → sender ≡ k
+turn-own shape stage sender shuffle k e there = eqb-true sender k (sym (ap (λ (o : Option StageKind). speaks shape o sender) e) ∙ there)
