@@ -1,5 +1,23 @@
 //! The body that the rules give a member to say, by the kind of the stage.
 
+ghost use Rattle.std.specs.Prelude.{◌≡◌, ◌≤◌, ◌<◌, ◌+◌, ◌*◌, IfOk, IsSome, List, Some, length, ℕ};
+ghost use Rattle.phase_message.specs.declared.post.TheConstants.{POST_LIMIT};
+ghost use Rattle.phase_message.specs.declared.stage.StageKind.TheVariants.{Check, Confirm, Final, Go, Keys, Pad, Shuffle, Submit};
+ghost use Rattle.phase_message.specs.Stages.{kind_of_stage};
+ghost use Rattle.bulk_descriptor.specs.Descriptor.{descriptor_text, own_pad};
+ghost use Rattle.shuffle_blame.specs.Asked.{past_of};
+ghost use Rattle.round_spec.specs.Slots.{submit_stage};
+ghost use Rattle.round_spec.specs.Say.{Configuration, own_description, own_item, own_pad_seeds, own_submission};
+ghost use Rattle.honest_say.specs.Seats.{IsSeatOf};
+ghost use Rattle.member_spec.specs.declared.mood.Mood.TheVariants.{Spoken};
+ghost use Rattle.member_spec.specs.Actor.{Actor};
+ghost use Rattle.member_spec.specs.Replies.{Replies};
+ghost use Rattle.member_core.specs.Asking.{IsDue, IsToBeAsked, StandsAsked, asked_at};
+ghost use Rattle.member_core.specs.Membership.{holdings_of};
+ghost use Rattle.member_core.specs.Needs.{AreSecretsOf, HoldsNeeded, shuffle_secrets};
+ghost use Rattle.member_core.specs.Sound.{IsFormed, IsReady};
+ghost use Rattle.member_core.specs.Stands.{StandsFor};
+
 use crate::machine::Machine;
 use crate::own::Own;
 use bulk_descriptor::Made;
@@ -15,7 +33,14 @@ use wire_core::{List, Mem};
 
 impl Machine {
     // Its five keys.
-    pub(crate) fn keys_due(&self) -> Body {
+    pub(crate) fn keys_due(&self) -> Body
+        requires formed { IsFormed self.now }
+        requires ready { IsReady self.now }
+        requires needed { HoldsNeeded (holdings_of self.now) }
+        requires asked { IsToBeAsked self.now }
+        requires kind { kind_of_stage self.now.log.shape self.now.stage ≡ Some Keys }
+        ensures { (now : Replies) → IsDue now self.now Keys result }
+    {
         let Some(first) = &self.secrets.first else {
             unreachable!()
         };
@@ -33,7 +58,20 @@ impl Machine {
         &mut self,
         alloc: Global,
         conduct: &mut C,
-    ) -> Mem<Body> {
+    ) -> Mem<Body>
+        requires formed { IsFormed self.old }
+        requires ready { IsReady self.old }
+        requires needed { HoldsNeeded (holdings_of self.old) }
+        requires asked { IsToBeAsked self.old }
+        requires kind { kind_of_stage self.old.log.shape self.old.stage ≡ Some (Submit 1) }
+        ensures formed { IsFormed self.new }
+        ensures same { self.new ≡ record self.old { own = self.new.own } }
+        ensures needed { IfOk result (λ _. HoldsNeeded (asked_at (holdings_of self.new) Spoken)) }
+        ensures due { IfOk result (λ body. IsDue (C.replies conduct.old) self.old (Submit 1) body) }
+        ensures stands { IfOk result (λ _. (start : Replies) (c : Configuration) (a : Actor) →
+            StandsFor (C.replies conduct.old) start c a (holdings_of self.old) →
+            StandsAsked (C.replies conduct.new) start c a (holdings_of self.new)) }
+    {
         let (descriptor, pad) = self.descriptor_due(alloc, conduct)?;
         let submission = self.submission_of(alloc, 1, descriptor.items())?;
         let Submission {
@@ -53,7 +91,21 @@ impl Machine {
         &self,
         alloc: Global,
         conduct: &mut C,
-    ) -> Mem<(List<u8>, List<u8>)> {
+    ) -> Mem<(List<u8>, List<u8>)>
+        requires formed { IsFormed self.now }
+        requires ready { IsReady self.now }
+        requires behind { 1 ≤ self.now.stage }
+        requires held { IsSome self.now.secrets.bulk }
+        ensures long { IfOk result (λ made. length made.0 ≡ 36 + 2272 * self.now.log.shape.members) }
+        ensures told { IfOk result (λ made. (c : Configuration) → IsSeatOf c self.now.seat → AreSecretsOf c self.now.secrets →
+            self.now.message ≡ c.message → made.0 ≡ descriptor_text ((C.replies conduct.old).descriptor
+            (own_description c (past_of self.now.log self.now.stage)))) }
+        ensures pad { IfOk result (λ made. (c : Configuration) → IsSeatOf c self.now.seat → AreSecretsOf c self.now.secrets →
+            self.now.message ≡ c.message → made.1 ≡ own_pad (own_pad_seeds c) c.number c.message) }
+        ensures then { IfOk result (λ _. (c : Configuration) → IsSeatOf c self.now.seat → AreSecretsOf c self.now.secrets →
+            self.now.message ≡ c.message → (C.replies conduct.new).speech ≡ (C.replies conduct.old).speech_after
+            (own_description c (past_of self.now.log self.now.stage))) }
+    {
         let Some(keys) = &self.keys else {
             unreachable!()
         };
@@ -72,7 +124,18 @@ impl Machine {
     }
 
     // An item as it submits it to a shuffle.
-    fn submission_of(&self, alloc: Global, shuffle: u8, item: &[u8]) -> Mem<Submission> {
+    fn submission_of(&self, alloc: Global, shuffle: u8, item: &[u8]) -> Mem<Submission>
+        requires formed { IsFormed self.now }
+        requires ready { IsReady self.now }
+        requires behind { 1 ≤ self.now.stage }
+        requires first { 1 ≤ shuffle }
+        requires last { shuffle ≤ 2 }
+        requires held { IsSome (shuffle_secrets self.now.secrets shuffle) }
+        requires short { length item.now < POST_LIMIT }
+        ensures { IfOk result (λ submission. (c : Configuration) (own : List ℕ) → IsSeatOf c self.now.seat →
+            AreSecretsOf c self.now.secrets → item.now ≡ own_item c own (past_of self.now.log self.now.stage) shuffle →
+            submission ≡ own_submission c own (past_of self.now.log self.now.stage) shuffle) }
+    {
         let Some(keys) = &self.keys else {
             unreachable!()
         };
@@ -85,7 +148,10 @@ impl Machine {
     }
 
     // The secrets of a shuffle.
-    fn secrets_of(&self, shuffle: u8) -> &ShuffleSecrets {
+    fn secrets_of(&self, shuffle: u8) -> &ShuffleSecrets
+        requires { IsSome (shuffle_secrets self.now.secrets shuffle) }
+        ensures { shuffle_secrets self.now.secrets shuffle ≡ Some result.now }
+    {
         if shuffle == 1 {
             held(&self.secrets.first)
         } else {
@@ -94,7 +160,19 @@ impl Machine {
     }
 
     // The submission to shuffle B, behind which the secrets of the messages are not needed any more.
-    pub(crate) fn second_submission_due(&mut self, alloc: Global) -> Mem<Body> {
+    pub(crate) fn second_submission_due(&mut self, alloc: Global) -> Mem<Body>
+        requires formed { IsFormed self.old }
+        requires ready { IsReady self.old }
+        requires needed { HoldsNeeded (holdings_of self.old) }
+        requires asked { IsToBeAsked self.old }
+        requires kind { kind_of_stage self.old.log.shape self.old.stage ≡ Some (Submit 2) }
+        ensures formed { IsFormed self.new }
+        ensures same { self.new ≡ record self.old { secrets = self.new.secrets; own = self.new.own } }
+        ensures needed { IfOk result (λ _. HoldsNeeded (asked_at (holdings_of self.new) Spoken)) }
+        ensures due { IfOk result (λ body. (now : Replies) → IsDue now self.old (Submit 2) body) }
+        ensures stands { IfOk result (λ _. (now start : Replies) (c : Configuration) (a : Actor) →
+            StandsFor now start c a (holdings_of self.old) → StandsAsked now start c a (holdings_of self.new)) }
+    {
         let item = self.accusation_due();
         let submission = self.submission_of(alloc, 2, &item)?;
         let Submission {
@@ -107,7 +185,14 @@ impl Machine {
     }
 
     // What it accuses of.
-    fn accusation_due(&self) -> [u8; 34] {
+    fn accusation_due(&self) -> [u8; 34]
+        requires formed { IsFormed self.now }
+        requires ready { IsReady self.now }
+        requires stage { self.now.stage ≡ submit_stage self.now.log.shape 2 }
+        requires held { IsSome self.now.secrets.bulk }
+        ensures { (c : Configuration) → IsSeatOf c self.now.seat → AreSecretsOf c self.now.secrets →
+            result ≡ own_item c self.now.own.descriptor (past_of self.now.log self.now.stage) 2 }
+    {
         let Some(opened) = &self.opened else {
             unreachable!()
         };
@@ -122,19 +207,44 @@ impl Machine {
     }
 
     // Its turn of a shuffle.
-    pub(crate) fn turn_due(&self, alloc: Global, shuffle: u8) -> Mem<Body> {
+    pub(crate) fn turn_due(&self, alloc: Global, shuffle: u8) -> Mem<Body>
+        requires formed { IsFormed self.now }
+        requires ready { IsReady self.now }
+        requires needed { HoldsNeeded (holdings_of self.now) }
+        requires asked { IsToBeAsked self.now }
+        requires kind { kind_of_stage self.now.log.shape self.now.stage ≡ Some (Shuffle shuffle self.now.seat.number) }
+        ensures { IfOk result (λ body. (now : Replies) → IsDue now self.now (Shuffle shuffle self.now.seat.number) body) }
+    {
         let secrets = self.secrets_of(shuffle);
         turn_body(alloc, &self.seat, &self.log, secrets, shuffle)
     }
 
     // Its vote on a shuffle.
-    pub(crate) fn go_due(&self, alloc: Global, shuffle: u8) -> Mem<Body> {
+    pub(crate) fn go_due(&self, alloc: Global, shuffle: u8) -> Mem<Body>
+        requires formed { IsFormed self.now }
+        requires ready { IsReady self.now }
+        requires asked { IsToBeAsked self.now }
+        requires kind { kind_of_stage self.now.log.shape self.now.stage ≡ Some (Go shuffle) }
+        ensures { IfOk result (λ body. (now : Replies) → IsDue now self.now (Go shuffle) body) }
+    {
         let own = self.own.inner_ciphertext.items().as_slice();
         go_body(alloc, &self.log, shuffle, self.seen.all_right(), own)
     }
 
     // The end of a shuffle, which takes its secrets.
-    pub(crate) fn end_due(&mut self, alloc: Global, shuffle: u8) -> Mem<Body> {
+    pub(crate) fn end_due(&mut self, alloc: Global, shuffle: u8) -> Mem<Body>
+        requires formed { IsFormed self.old }
+        requires ready { IsReady self.old }
+        requires needed { HoldsNeeded (holdings_of self.old) }
+        requires asked { IsToBeAsked self.old }
+        requires kind { kind_of_stage self.old.log.shape self.old.stage ≡ Some (Final shuffle) }
+        ensures formed { IsFormed self.new }
+        ensures same { self.new ≡ record self.old { secrets = self.new.secrets } }
+        ensures needed { IfOk result (λ _. HoldsNeeded (asked_at (holdings_of self.new) Spoken)) }
+        ensures due { IfOk result (λ body. (now : Replies) → IsDue now self.old (Final shuffle) body) }
+        ensures stands { IfOk result (λ _. (now start : Replies) (c : Configuration) (a : Actor) →
+            StandsFor now start c a (holdings_of self.old) → StandsAsked now start c a (holdings_of self.new)) }
+    {
         let Some(secrets) = self.secrets.take_shuffle(shuffle) else {
             unreachable!()
         };
@@ -142,7 +252,14 @@ impl Machine {
     }
 
     // Its pads.
-    pub(crate) fn pads_due(&self, alloc: Global) -> Mem<Body> {
+    pub(crate) fn pads_due(&self, alloc: Global) -> Mem<Body>
+        requires formed { IsFormed self.now }
+        requires ready { IsReady self.now }
+        requires needed { HoldsNeeded (holdings_of self.now) }
+        requires asked { IsToBeAsked self.now }
+        requires kind { kind_of_stage self.now.log.shape self.now.stage ≡ Some Pad }
+        ensures { IfOk result (λ body. (now : Replies) → IsDue now self.now Pad body) }
+    {
         let Some(bulk) = &self.secrets.bulk else {
             unreachable!()
         };
@@ -155,18 +272,33 @@ impl Machine {
     }
 
     // Its vote on what was seen.
-    pub(crate) fn check_due(&self) -> Body {
+    pub(crate) fn check_due(&self) -> Body
+        requires formed { IsFormed self.now }
+        requires ready { IsReady self.now }
+        requires asked { IsToBeAsked self.now }
+        requires kind { kind_of_stage self.now.log.shape self.now.stage ≡ Some Check }
+        ensures { (now : Replies) → IsDue now self.now Check result }
+    {
         check_body(&self.log, self.stage, self.seen.all_right())
     }
 
     // What closes the votes on what was seen.
-    pub(crate) fn confirm_due(&self, alloc: Global) -> Mem<Body> {
+    pub(crate) fn confirm_due(&self, alloc: Global) -> Mem<Body>
+        requires formed { IsFormed self.now }
+        requires ready { IsReady self.now }
+        requires asked { IsToBeAsked self.now }
+        requires kind { kind_of_stage self.now.log.shape self.now.stage ≡ Some Confirm }
+        ensures { IfOk result (λ body. (now : Replies) → IsDue now self.now Confirm body) }
+    {
         confirm_body(alloc, &self.log)
     }
 }
 
 // Secrets that are held.
-fn held(secrets: &Option<ShuffleSecrets>) -> &ShuffleSecrets {
+fn held(secrets: &Option<ShuffleSecrets>) -> &ShuffleSecrets
+    requires { IsSome secrets.now }
+    ensures { secrets.now ≡ Some result.now }
+{
     let Some(secrets) = secrets else {
         unreachable!()
     };
