@@ -1,5 +1,5 @@
 -- A post of another member that is kept: what is true of a member stays true.
-use Rattle.std.proofs.Common.{◌≡◌, ◌⊎◌, ℕ, zero, suc, ◌+◌, ◌*◌, ◌<◌, ◌≤◌, Bool, true, false, List, [], ◌∷◌, length, Option, Some, None, ap, sym, ◌∙◌, refl, subst, arith, inl, inr}
+use Rattle.std.proofs.Common.{◌≡◌, ◌⊎◌, ℕ, zero, suc, ◌+◌, ◌*◌, ◌^◌, ◌<◌, ◌≤◌, Bool, true, false, List, [], ◌∷◌, length, Option, Some, None, ap, sym, ◌∙◌, refl, subst, arith, inl, inr}
 use Rattle.std.specs.Prelude.{◌++◌, IsSome, IsTrue, ◌==◌, filter_map, unwrap_or, if◌then◌else◌}
 use Rattle.std.specs.List.{range_with_len, slice_get, slice_set}
 use Rattle.std.specs.Option.{option_flatten, option_map, option_to_list}
@@ -15,6 +15,7 @@ use Rattle.phase_message.specs.Shape.{Shape}
 use Rattle.phase_message.specs.Slots.{slot_at, slot_number, stage_count}
 use Rattle.phase_message.specs.Stages.{is_slot, kind_of_stage}
 use Rattle.phase_message.proofs.SlotLists.{slot_at-number}
+use Rattle.signed_post.specs.declared.post.TheConstants.{LONGEST_SIGNATURE}
 use Rattle.stage_log.specs.Log.{before, contents_of}
 use Rattle.stage_log.specs.Seen.{HasSeen}
 use Rattle.stage_log.specs.Table.{IsKept, IsLog, Log, filled, kept_in}
@@ -159,9 +160,38 @@ own-least (Some Confirm) = omega arith
 
 most-least : (shape : Shape) (number stage sender : ℕ) → POST_LIMIT ≤ most_in shape number stage sender
 most-least shape number stage sender = elim (cases_Bool (sender == number)) [
-  | inl own ↦ (let told = cond-true (sender == number) _ POST_LIMIT own in let least = own-least (kind_of_stage shape stage) in omega (arith, told, least))
-  | inr other ↦ (let told = cond-false (sender == number) _ POST_LIMIT other in omega (arith, told))
+  | inl own ↦ (let told = cond-true (sender == number) (own_limit (kind_of_stage shape stage) + (4 + LONGEST_SIGNATURE)) POST_LIMIT own in let least = own-least (kind_of_stage shape stage) in omega (arith, told, least))
+  | inr other ↦ (let told = cond-false (sender == number) (own_limit (kind_of_stage shape stage) + (4 + LONGEST_SIGNATURE)) POST_LIMIT other in omega (arith, told))
 ]
+
+own-most : (kind : Option StageKind) → own_limit kind ≤ 209 * POST_LIMIT
+own-most None = omega arith
+own-most (Some Keys) = omega arith
+own-most (Some (Submit shuffle)) = omega arith
+own-most (Some (Shuffle shuffle k)) = omega arith
+own-most (Some (Go shuffle)) = omega arith
+own-most (Some (Final shuffle)) = elim (cases_Bool (shuffle == 1)) [
+  | inl first ↦ (let told = cond-true (shuffle == 1) (33 * POST_LIMIT) (209 * POST_LIMIT) first in omega (arith, told))
+  | inr second ↦ (let told = cond-false (shuffle == 1) (33 * POST_LIMIT) (209 * POST_LIMIT) second in omega (arith, told))
+]
+own-most (Some Pad) = omega arith
+own-most (Some Check) = omega arith
+own-most (Some Confirm) = omega arith
+
+most-below : (shape : Shape) (number stage sender : ℕ) → most_in shape number stage sender < 2 ^ 32
+most-below shape number stage sender = elim (cases_Bool (sender == number)) [
+  | inl own ↦ (let told = cond-true (sender == number) (own_limit (kind_of_stage shape stage) + (4 + LONGEST_SIGNATURE)) POST_LIMIT own in
+      let most = own-most (kind_of_stage shape stage) in omega (arith, told, most))
+  | inr other ↦ (let told = cond-false (sender == number) (own_limit (kind_of_stage shape stage) + (4 + LONGEST_SIGNATURE)) POST_LIMIT other in omega (arith, told))
+]
+
+-- the length of a kept post can be written in four bytes
+pub kept-short : (number : ℕ) (log : Log) (slot : Slot) (post : Post) → IsShortLog number log → kept_in log slot ≡ Some post
+    → length (post_spelling post) < 2 ^ 32
+kept-short number log slot post short e =
+    let most = short slot.stage slot.sender post e in
+    let below = most-below log.shape number slot.stage slot.sender in
+    omega (arith, most, below)
 
 short-stays : (log : Log) (number : ℕ) (slot : Slot) (post : Post) → length (post_spelling post) ≤ POST_LIMIT → IsShortLog number log
     → IsShortLog number (filled log slot post)
@@ -228,7 +258,7 @@ some-mapped f None is = absurd cc
 mood-stays : (m : Machine) (slot : Slot) (post : Post) (mood : Mood) → IsOthers m.log m.seat.number slot → IsMoodOf m mood → IsMoodOf (with_post m slot post) mood
 mood-stays m slot post Unasked is e = (λ later le. own-stays m.log m.seat.number slot post later is ∙ e.0 later le, e.1)
 mood-stays m slot post (PutOff bytes) is e =
-    (λ later le. own-stays m.log m.seat.number slot post later is ∙ e.0 later le, e.1, record { slot = e.2.slot; short = e.2.short }, e.3)
+    (λ later le. own-stays m.log m.seat.number slot post later is ∙ e.0 later le, e.1, record { speaks = e.2.speaks; slot = e.2.slot; short = e.2.short })
 mood-stays m slot post Spoken is e =
     (λ later le. own-stays m.log m.seat.number slot post later is ∙ e.0 later le, e.1, subst IsSome (sym (own-stays m.log m.seat.number slot post m.stage is)) e.2)
 mood-stays m slot post Mute is e = (λ later le. own-stays m.log m.seat.number slot post later is ∙ e.0 later le, e.1)

@@ -67,12 +67,10 @@ pub record IsPutOff (m : Machine) (bytes : List ℕ) : Type 0 where
   pub short : length bytes ≤ own_limit (kind_of_stage m.log.shape m.stage)
 
 -- what a mood says: where the member has not spoken, its slots from the stage on are empty; where it has, its slots behind
--- are, and its post is there; only a mute member may have made a post that it does not keep. What was put off or is not said
--- any more is of a slot of the member
+-- are, and its post is there; only a mute member may have made a post that it does not keep.
 abbrev pub IsMoodOf : Machine → Mood → Type 0
 IsMoodOf m Unasked = IsEmptyFrom m.log m.seat.number m.stage × (m.stray ≡ None)
-IsMoodOf m (PutOff bytes) =
-    IsEmptyFrom m.log m.seat.number m.stage × (m.stray ≡ None) × IsPutOff m bytes × IsTrue (is_slot m.log.shape m.stage m.seat.number)
+IsMoodOf m (PutOff bytes) = IsEmptyFrom m.log m.seat.number m.stage × (m.stray ≡ None) × IsPutOff m bytes
 IsMoodOf m Spoken = IsEmptyFrom m.log m.seat.number (m.stage + 1) × (m.stray ≡ None) × IsSome (kept_in m.log (slot_here m))
 IsMoodOf m Mute = IsEmptyFrom m.log m.seat.number m.stage × IsTrue (is_slot m.log.shape m.stage m.seat.number)
 
