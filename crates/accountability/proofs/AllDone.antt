@@ -65,6 +65,7 @@ use Rattle.accountability.proofs.Endings.{ending-cases, outcome-cases}
 use Rattle.accountability.proofs.AllHonest.{nothing_but_pads}
 use Rattle.round_spec.proofs.Reached.{open-goes}
 use Rattle.accountability.proofs.Naming.{open_names}
+use Rattle.accountability.proofs.Unheard.{file-heard}
 use Rattle.round_spec.proofs.Honesty.{run_after_is_honest}
 use Rattle.round_spec.specs.Settled.{settled_run}
 use Rattle.phase_message.proofs.SlotBounds.{slot-bounds}
@@ -421,7 +422,8 @@ not-waiting : (c : Configuration) (delivered : List (List ℕ)) (runs : List Run
     → AllDelivered c delivered → result_of c delivered ≡ Waiting stage named → ⊥
 unfolding log_after waits-at
 not-waiting c delivered runs stage named among distinct all heard e = elim (cases_lt ((shape_in c).members + 6) stage) [
-  | inr early ↦ (let given = heard stage names.somebody.0 missed.speaks early missed.other in missed.unheard given.0 given.1 given.2 given.3)
+  | inr early ↦ (let given = heard stage names.somebody.0 missed.speaks early missed.other in
+      file-heard c delivered (record { stage = stage; sender = names.somebody.0 }) given.0 given.1 missed.other given.2 given.3 missed.unheard)
   | inl later ↦ elim (outcome-cases c delivered) [
     | inl open_end ↦ by_course open_end.least open_end.goes_on (ap waits-at (sym open_end.outcome_is ∙ e)) later
     | inr ended ↦ closed ended.verdict (stand_after c (take ended.count delivered)) ended.closed (sym ended.outcome_is ∙ e)
@@ -429,7 +431,7 @@ not-waiting c delivered runs stage named among distinct all heard e = elim (case
 ]
   where
     names : NamesMissed c delivered stage named
-    names = open_names c delivered stage named among.config among.bytes e
+    names = open_names c delivered stage named among.config.enter among.bytes e
 
     missed : IsMissed c delivered stage names.somebody.0
     missed = (names.missed names.somebody.0).0 names.somebody.1

@@ -257,7 +257,7 @@ nobody-blamed c delivered runs stage posts found among distinct all end faithful
     shown shuffle kind = record {
       distinct = distinct;
       openings = λ member is. (let other = of-member shuffle member kind is.least is.most in ap length other.2 ∙ (hash_bytes _ _).0);
-      round_small = among.config.widths.round;
+      round_small = among.config.enter.round;
       shown = λ member layer is its_layer. layer-there shuffle member layer kind is.least is.most its_layer.least its_layer.most;
     }
       where
@@ -319,7 +319,7 @@ nothing_but_pads c delivered runs t among distinct all e = by_claim t.claim refl
     accepts = evidence_accepted c delivered t among.config among.bytes e
 
     same : accepts.accepts.transcript ≡ t
-    same = transcript-one (shape_of_roster c.roster) accepts.accepts.transcript t (shape-is c among.config) accepts.accepts.form (accepts.accepts.spelled) accepts.form
+    same = transcript-one (shape_of_roster c.roster) accepts.accepts.transcript t (shape-is c among.config.enter) accepts.accepts.form (accepts.accepts.spelled) accepts.form
 
     shows : Shows c.roster t t.claim
     shows = subst (λ (x : Transcript). Shows c.roster x t.claim) same accepts.accepts.convicts

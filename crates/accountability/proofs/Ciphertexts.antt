@@ -462,4 +462,4 @@ places_differ c runs posts shuffle run other place other_place honest distinct l
     number_same : run.config.number ≡ other.config.number
     number_same = (layer_seed_determines (strings_of_runs runs) (own_opening run.config shuffle 1) (own_opening other.config shuffle 1) run.config.round other.config.round shuffle shuffle 1 1
         run.config.number other.config.number 1 1 distinct (own-layer runs run shuffle its listed is) (own-layer runs other shuffle others other_listed is)
-        (hash_bytes _ _).0 (hash_bytes _ _).0 its.config.widths.round others.config.widths.round seeds_same).4
+        (hash_bytes _ _).0 (hash_bytes _ _).0 its.config.enter.round others.config.enter.round seeds_same).4

@@ -122,7 +122,7 @@ equivocation_accepted run stage posts t end is =
     transcript-same t _ is.verdict_is ∙ ap (λ (bytes : List ℕ). two-evidence c.round is.pair.0.sender bytes is.pair.1) (sent-in run posts stage is.pair.0.stage is.pair.0.sender kk) in
     subst (IsAccepted c.roster) (sym same)
     (two-shown c.roster c.round is.pair.0 (post_spelling kk.post) is.pair.1 kk.post.content e.post.content kk.checks.content.header e.file.content.header
-    end.honest.config.widths.round (spelled-few run posts is.pair.0.stage is.pair.0.sender kk) (omega (arith, few, most, ap length e.file.spelled))
+    end.honest.config.enter.round (spelled-few run posts is.pair.0.stage is.pair.0.sender kk) (omega (arith, few, most, ap length e.file.spelled))
     (file-says c (record { stage = is.pair.0.stage; sender = is.pair.0.sender }) kk.post kk.checks)
     (record { signature = e.post.signature; spelled = e.file.spelled; admitted = e.file.admitted })
     kk.checks.named e.file.named

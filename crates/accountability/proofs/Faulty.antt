@@ -53,7 +53,7 @@ use Rattle.round_spec.specs.Settled.{settled_run}
 use Rattle.round_spec.proofs.Beginnings.{shape-is}
 use Rattle.group_roster.specs.Roster.{shape_of_roster}
 use Rattle.phase_message.proofs.SlotBounds.{slot-bounds}
-use Rattle.round_spec.proofs.PastForms.{spelled-bytes}
+use Rattle.round_spec.proofs.PastForms.{checks-read, spelled-bytes}
 use Rattle.phase_message.specs.Slots.{stage_count}
 use Rattle.transcript_form.specs.Form.{transcript_read}
 use Rattle.transcript_form.proofs.Transcripts.{transcript_read-again}
@@ -167,10 +167,10 @@ evidence_is_bytes c delivered t is all e =
     let part_bytes = All-take IsBytes blame.count delivered all in
     let honest = settled_run_is_honest c (first_posts c (take blame.count delivered)) is (firsts-check c (take blame.count delivered) part_bytes) in
     let accepts = evidence_accepted c delivered t is all e in
-    let few = (shape-is c is).most in
+    let few = (shape-is c is.enter).most in
     spelling-bytes (shape_of_roster c.roster) t few accepts.form (record {
       posts = part-has IsBytes c (take blame.count delivered) t is part_bytes blame.ends (λ bytes listed. All-contains IsBytes (take blame.count delivered) bytes part_bytes listed)
-          (λ slot post kept. spelled-bytes c slot post (honest.posts slot post kept))
+          (λ slot post kept. spelled-bytes c slot post (checks-read c slot post (honest.posts slot post kept)))
           (λ stage member posts content pair end member_is reads listed. embedded-is_bytes (settled_run c (first_posts c (take blame.count delivered))) stage member posts content pair end member_is reads listed);
       detail = part-detail c (take blame.count delivered) t is part_bytes blame.ends;
     })
@@ -235,7 +235,7 @@ accused_faulty c delivered runs t among e none run listed number round =
     (evidence_accepted c delivered t among.config among.bytes e).accepts runs among.honest none
     (λ other form spelled. (
     let accepts = evidence_accepted c delivered t among.config among.bytes e in
-    let same = transcript-one (shape_of_roster c.roster) other t (shape-is c among.config) form spelled accepts.form in
+    let same = transcript-one (shape_of_roster c.roster) other t (shape-is c among.config.enter) form spelled accepts.form in
     said other same))
   where
     has : HasNumber runs t.accused

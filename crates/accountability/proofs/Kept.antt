@@ -35,7 +35,7 @@ use Rattle.phase_message.specs.Post.{post_spelling}
 use Rattle.round_spec.specs.Slots.{said_in}
 use Rattle.phase_message.proofs.SlotLists.{slot_at-number, slot_number-within, slots_before-rises}
 use Rattle.phase_message.specs.Slots.{slot_number, slots_before}
-use Rattle.round_spec.proofs.PastForms.{spelled-short, said-there}
+use Rattle.round_spec.proofs.PastForms.{checks-read, spelled-short, said-there}
 use Rattle.conviction.specs.Accepts.{Convicts as Shows}
 use Rattle.phase_message.specs.Grammar.{IsBody, OfGrammar, body_text}
 use Rattle.phase_message.specs.Kinds.{IsBodyAt}
@@ -129,7 +129,7 @@ pub sent-in : (run : Run) (posts : List Post) (end stage member : ℕ) (k : Kept
 sent-in run posts end stage member k = ap post_spelling (post-in run posts end stage member k)
 
 pub spelled-few : (run : Run) (posts : List Post) (stage member : ℕ) (k : KeptIn run posts stage member) → length (post_spelling k.post) < 2 ^ 32
-spelled-few run posts stage member k = spelled-short run.config (record { stage = stage; sender = member }) k.post k.checks
+spelled-few run posts stage member k = spelled-short run.config (record { stage = stage; sender = member }) k.post (checks-read run.config (record { stage = stage; sender = member }) k.post k.checks)
 
 -- ---- the end of a closing stage
 
@@ -173,7 +173,7 @@ contents-same a b r e e' = let both = sym e ∙ e' in cc
 pub whole-end : (run : Run) (stage : ℕ) (posts : List Post) → IsKeptEnd run stage posts → IsWhole (closing_of run.config posts stage)
 whole-end run stage posts end =
     let is = end-past run stage posts end in
-    let least = end.honest.config.roster.least in
+    let least = end.honest.config.enter.roster.least in
     record {
       members = omega arith;
       closing = end.closing;
@@ -202,7 +202,7 @@ accept roster t form shows = record {
 pub content-grammar : (run : Run) (posts : List Post) (stage member : ℕ) (k : KeptIn run posts stage member)
     → OfGrammar (shape_in run.config) k.checks.content
 content-grammar run posts stage member k =
-    let said = said-there run.config (record { stage = stage; sender = member }) k.post k.checks in
+    let said = said-there run.config (record { stage = stage; sender = member }) k.post (checks-read run.config (record { stage = stage; sender = member }) k.post k.checks) in
     subst (OfGrammar (shape_in run.config))
     (contents-same said.content k.checks.content (content_read (shape_in run.config) k.post.content) said.reads (content-reads run posts stage member k)) said.grammar
 
@@ -220,7 +220,7 @@ body-of_kind run posts stage member kind k at =
 -- and its body is bytes
 pub body-bytes : (run : Run) (posts : List Post) (stage member : ℕ) (k : KeptIn run posts stage member) → IsBytes (body_text k.checks.content.body)
 body-bytes run posts stage member k =
-    let said = said-there run.config (record { stage = stage; sender = member }) k.post k.checks in
+    let said = said-there run.config (record { stage = stage; sender = member }) k.post (checks-read run.config (record { stage = stage; sender = member }) k.post k.checks) in
     subst (λ (c : Content). IsBytes (body_text c.body))
     (contents-same said.content k.checks.content (content_read (shape_in run.config) k.post.content) said.reads (content-reads run posts stage member k)) said.body_bytes
 

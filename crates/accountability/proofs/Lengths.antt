@@ -68,7 +68,7 @@ use Rattle.round_spec.proofs.Beginnings.{shape-is}
 use Rattle.std.proofs.lemmas.Option.{slice_get-map, slice_get_within}
 use Rattle.phase_message.proofs.SlotBounds.{slot-bounds}
 use Rattle.phase_message.specs.Slots.{slots_before, slots_of}
-use Rattle.round_spec.proofs.PastForms.{spelled-long}
+use Rattle.round_spec.proofs.PastForms.{checks-read, spelled-long}
 use Rattle.go_nogo.specs.Rows.{written}
 
 -- ---- transcripts
@@ -197,7 +197,11 @@ before-closing run stage posts end =
     record {
       past = own.row.past;
       front = own.front;
-      can = record { config = end.honest.config; speaks = speaks_there; past_is = record { whole = past.long; checks = past.checks } };
+      can = record {
+        enter = end.honest.config.enter;
+        speaks = speaks_there;
+        past_is = record { whole = past.long; reads = λ number slot post at there. checks-read c slot post (past.checks number slot post at there) };
+      };
       goes = subst (λ (s : ℕ). AllGo run.config own.row.past s) own.at own.row.goes;
     }
 
@@ -331,7 +335,7 @@ verdict-short run stage posts t end e = by_case (verdict_cases (closing_of run.c
     b = before-closing run stage posts end
 
     eight : shape.members ≤ 8
-    eight = (shape-is c end.honest.config).most
+    eight = (shape-is c end.honest.config.enter).most
 
     sent-most : (s member : ℕ) → KeptIn run posts s member → length (sent_in (closing_of run.config posts stage) s member) ≤ 16777216
     sent-most s member k = (let most = post-most c (record { stage = s; sender = member }) k.post k.checks in omega (arith, most, ap length (sent-in run posts stage s member k)))

@@ -1,4 +1,5 @@
 pub mod Endings
+pub mod Unheard
 pub mod Naming
 pub mod Kept
 pub mod OnePost

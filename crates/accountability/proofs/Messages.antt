@@ -27,6 +27,7 @@ use Rattle.group_roster.specs.Roster.{Roster, shape_of_roster}
 use Rattle.accountability.proofs.Rows.{RowIn, row-in, same_past}
 use Rattle.phase_message.specs.Shape.{Shape}
 use Rattle.round_spec.proofs.SealedBytes.{all-from, all-places}
+use Rattle.round_spec.proofs.PastForms.{checks-read}
 use Rattle.bulk_descriptor.proofs.FittingLemmas.{all_fit_message, made_is_of_grammar, pad_row-own, own_pad_fits}
 use Rattle.stage_log.proofs.Pasts.{all_some-is, option_map-some}
 use Rattle.accountability.proofs.Traces.{at-listed}
@@ -337,7 +338,7 @@ run-pads c delivered runs stage place posts run e =
         (ap (λ (s : Shape). own_descriptor run.config (front s (contents_of posts) (pad_stage shape))) (sym facts.shape_is) ∙ descriptor-front run.config (contents_of posts) (pad_stage shape) (omega (arith, here)))
 
     pads_are : sent_pads.pads ≡ map (pad_for run.config own_there) (items_opened shape (contents_of posts) 1)
-    pads_are = pads-own run mine.row.read.header sent_pads.pads row_of facts.honest.config.message row_stage ∙ row_same
+    pads_are = pads-own run mine.row.read.header sent_pads.pads row_of facts.honest.config.enter.message row_stage ∙ row_same
 
 -- for an entry that is its own descriptor it is its own pad
 own-pad-there : (c : Configuration) (delivered : List (List ℕ)) (runs : List Run) (stage place : ℕ) (posts : List Post) (run : Run) → AtEnd c delivered runs stage posts run
@@ -648,7 +649,7 @@ pub items-count : (c : Configuration) (delivered : List (List ℕ)) (stage : ℕ
     → length (items_opened (shape_in c) (contents_of posts) 1) ≡ (shape_in c).members
 items-count c delivered stage posts end late =
     let past = end-past (run_after c delivered) stage posts end in
-    opened-count c (stage + 1) posts (record { whole = past.long; checks = past.checks }) (omega (arith, late))
+    opened-count c (stage + 1) posts (record { whole = past.long; reads = λ number slot post at there. checks-read c slot post (past.checks number slot post at there) }) (omega (arith, late))
 
 -- where a run's message is
 run-message : (c : Configuration) (delivered : List (List ℕ)) (runs : List Run) (stage : ℕ) (posts : List Post) (run : Run) → AtEnd c delivered runs stage posts run

@@ -1,6 +1,6 @@
 -- An open round names whom it misses.
 use Rattle.std.proofs.Common.{◌≡◌, ◌≢◌, ℕ, ◌≤◌, true, false, List, [], ◌∷◌, map, Option, Some, None, ap, sym, ◌∙◌, refl, subst, arith, inl, inr, eq-eqb, rules, slice_get, take}
-use Rattle.std.specs.Prelude.{◌==◌, All, Contains, filter, is_none, not, option_and_then}
+use Rattle.std.specs.Prelude.{◌&&◌, ◌==◌, ◌<◌, All, AllPairs, Bool, Contains, IsSome, filter, is_none, not, option_and_then}
 use Rattle.std.proofs.lemmas.Bool.{and_from, and_parts, cases_Bool, cond-false, cond-true, eqb-true, false_from_ne_true}
 use Rattle.std.proofs.lemmas.Option.{none-some, slice_get-get_or}
 use Rattle.wire_core.specs.Bytes.{IsBytes}
@@ -14,19 +14,23 @@ use Rattle.stage_log.specs.Log.{all_some}
 use Rattle.round_spec.specs.Say.{Configuration, shape_in}
 use Rattle.round_spec.specs.Course.{Others, Stand, course_of, is_open, post_of, posts_of_kind, settled_log, stage_filled}
 use Rattle.round_spec.specs.Result.{Outcome, Waiting, counted_part, first_posts, is_awaited, least_ending, log_after, outcome_ended, senders_at, stand_after, waiting_outcome}
-use Rattle.round_spec.specs.Runs.{IsConfiguration}
+use Rattle.round_spec.specs.Runs.{CanEnter}
 use Rattle.round_spec.specs.Verdict.{Convicts, Done, Goes, Verdict}
 use Rattle.round_spec.proofs.Contained.{contains-filter, contains-filter-from, contains-here, contains-later}
 use Rattle.round_spec.proofs.Given.{first_posts_name}
 use Rattle.round_spec.proofs.Stopping.{course_stops}
-use Rattle.round_spec.proofs.Unheard.{missing_are_unheard}
 use Rattle.round_spec.proofs.Waiting.{open_rounds_wait}
 use Rattle.conviction.proofs.OwnRows.{in-range}
 use Rattle.accountability.specs.Naming.{IsMissed, NamesMissed, OpenNames}
 use Rattle.accountability.proofs.Endings.{outcome-cases}
+use Rattle.accountability.proofs.Unheard.{missing-unheard, unheard-missing}
 use Rattle.round_spec.specs.Reached.{IsStopped}
 use Rattle.round_spec.specs.Waiting.{WaitsAtFirst}
-use Rattle.stage_log.specs.Table.{first_incomplete_of}
+use Rattle.phase_message.specs.declared.post.Post.{Post}
+use Rattle.phase_message.specs.declared.stage.Slot.{Slot}
+use Rattle.std.proofs.lemmas.List.FromFn.{get_or-range_with_len, length-range_with_len}
+use Rattle.std.proofs.lemmas.List.Kept.{AllPairs-filter}
+use Rattle.stage_log.specs.Table.{Log, first_incomplete_of, is_missing, kept_in}
 use Rattle.std.specs.Option.{option_map_or}
 use Rattle.std.specs.List.{range_with_len}
 
@@ -56,6 +60,26 @@ sender-speaks : (shape : Shape) (stage s : ℕ) (kind : StageKind) → kind_of_s
 sender-speaks shape stage s kind at listed =
     let place = contained-at (senders_in shape kind) s listed in
     (slot_at-is shape _ (record { stage = stage; sender = s }) (slot_at-place shape stage place.0 s kind at place.1)).0
+
+range-ascends : (a n : ℕ) → AllPairs (λ member later. member < later) (range_with_len a n)
+range-ascends a n i j d lt within =
+    let long = length-range_with_len a n in
+    let first = get_or-range_with_len a n i d (omega (arith, long, within, lt)) in
+    let second = get_or-range_with_len a n j d (omega (arith, long, within)) in
+    omega (arith, first, second, lt)
+
+one-ascends : (x : ℕ) → AllPairs (λ member later. member < later) (x ∷ [])
+one-ascends x i j d lt within = absurd (omega (arith, lt, within))
+
+senders-ascend : (shape : Shape) (kind : StageKind) → AllPairs (λ member later. member < later) (senders_in shape kind)
+senders-ascend shape (Shuffle shuffle k) = one-ascends k
+senders-ascend shape Keys = range-ascends 1 shape.members
+senders-ascend shape (Submit shuffle) = range-ascends 1 shape.members
+senders-ascend shape (Go shuffle) = range-ascends 1 shape.members
+senders-ascend shape (Final shuffle) = range-ascends 1 shape.members
+senders-ascend shape Pad = range-ascends 1 shape.members
+senders-ascend shape Check = range-ascends 1 shape.members
+senders-ascend shape Confirm = range-ascends 1 shape.members
 
 -- ---- somebody is missing
 
@@ -104,16 +128,39 @@ post-missing c others stand sender e = elim (cases_Bool (sender == c.number)) [
   )
 ]
 
+-- ---- the own post
+
+some-there : (o : Option Post) → is_none o ≡ false → IsSome o
+some-there None e = absurd cc
+some-there (Some post) e = refl
+
+-- what the member has to say is there, since it waits for others alone
+own-there : (c : Configuration) (others : Others) (stage : ℕ) → is_slot (shape_in c) stage c.number ≡ true
+    → is_missing (settled_log c others) stage c.number ≡ is_awaited c others stage c.number
+    → IsSome (kept_in (settled_log c others) (record { stage = stage; sender = c.number }))
+unfolding settled_log
+own-there c others stage speaks same =
+    let slot : Slot = record { stage = stage; sender = c.number } in
+    let other : not (c.number == c.number) ≡ false = ap not (eq-eqb c.number c.number refl) in
+    let awaited : is_awaited c others stage c.number ≡ false = ap (λ (b : Bool). b && is_none (others (record { stage = stage; sender = c.number }))) other in
+    some-there (kept_in (settled_log c others) (record { stage = stage; sender = c.number }))
+    (false_from_ne_true _ (λ none. (let missing = and_from _ _ speaks none in let both = sym missing ∙ same ∙ awaited in cc)))
+
 -- ---- an open result
 
-pub waits-names : (c : Configuration) (delivered : List (List ℕ)) → IsConfiguration c → All IsBytes delivered → least_ending c delivered ≡ None
+pub waits-names : (c : Configuration) (delivered : List (List ℕ)) → CanEnter c → All IsBytes delivered → least_ending c delivered ≡ None
     → is_open (stand_after c delivered).verdict ≡ true
     → NamesMissed c delivered (stand_after c delivered).at (filter (is_awaited c (first_posts c delivered) (stand_after c delivered).at) (senders_at c (stand_after c delivered).at))
 unfolding log_after
 waits-names c delivered is all least still = record {
   first = ap (λ (o : Option (ℕ × Verdict)). first_incomplete_of (settled_log c (first_posts c (counted_part delivered o)))) least ∙ waits.stage;
   missed = λ member. (named-missed member, missed-named member);
+  ascending = AllPairs-filter (λ member later. member < later) (is_awaited c others stand.at) (senders_at c stand.at)
+      (subst (AllPairs (λ (member later : ℕ). member < later)) (sym senders) (senders-ascend (shape_in c) kind.0));
   somebody = somebody;
+  own = λ speaks. subst (λ (log : Log). IsSome (kept_in log (record { stage = stand.at; sender = c.number })))
+      (sym (ap (λ (o : Option (ℕ × Verdict)). settled_log c (first_posts c (counted_part delivered o))) least))
+      (own-there c others stand.at speaks (waits.missing c.number speaks));
 }
   where
     others : Others
@@ -126,10 +173,10 @@ waits-names c delivered is all least still = record {
     members = (let least = is.roster.least in omega arith)
 
     waits : WaitsAtFirst c others
-    waits = open_rounds_wait c others is.widths.round members (first_posts_name c delivered all) still
+    waits = open_rounds_wait c others is.round members (first_posts_name c delivered all) still
 
     stops : IsStopped c others stand
-    stops = course_stops c others is.widths.round members (first_posts_name c delivered all)
+    stops = course_stops c others is.round members (first_posts_name c delivered all)
 
     kind : (kind : StageKind) × (kind_of_stage (shape_in c) stand.at ≡ Some kind)
     kind = stops.stage still
@@ -148,13 +195,13 @@ waits-names c delivered is all least still = record {
         record {
           speaks = sender-speaks (shape_in c) stand.at member kind.0 kind.1 (subst (λ (xs : List ℕ). Contains xs member) senders parts.0);
           other = other;
-          unheard = (missing_are_unheard c delivered (record { stage = stand.at; sender = member }) all other).0 (none-is _ both.1);
+          unheard = missing-unheard c delivered (record { stage = stand.at; sender = member }) least (none-is _ both.1);
         }
 
     missed-named : (member : ℕ) → IsMissed c delivered stand.at member → Contains named member
     missed-named member missed =
         let speaks_there : is_sender (shape_in c) kind.0 member ≡ true = sym (ap (λ (o : Option StageKind). speaks (shape_in c) o member) kind.1) ∙ missed.speaks in
-        let none = (missing_are_unheard c delivered (record { stage = stand.at; sender = member }) all missed.other).1 missed.unheard in
+        let none = unheard-missing c delivered (record { stage = stand.at; sender = member }) missed.unheard in
         contains-filter-from (is_awaited c others stand.at) (senders_at c stand.at) member
         (subst (λ (xs : List ℕ). Contains xs member) (sym senders) (senders-contain (shape_in c) kind.0 member speaks_there))
         (and_from _ _ (other-not member c.number missed.other) (is-none _ none))

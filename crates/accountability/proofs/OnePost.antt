@@ -44,7 +44,7 @@ use Rattle.std.proofs.lemmas.Option.{none-some}
 use Rattle.conviction.proofs.Replays.{not_both}
 use Rattle.signed_post.proofs.Lengths.{posts_are_short}
 use Rattle.std.specs.Result.{result_ok}
-use Rattle.round_spec.proofs.PastForms.{spelled-short}
+use Rattle.round_spec.proofs.PastForms.{checks-read, spelled-short}
 use Rattle.phase_message.specs.Slots.{slots_before}
 
 -- ---- a bad log
@@ -60,7 +60,7 @@ log-shown run stage member posts end is k unjustified =
     accept run.config.roster (log-evidence run.config.round member (post_spelling k.post))
     (record {
       accused = member-is run stage member posts is;
-      round = end.honest.config.widths.round;
+      round = end.honest.config.enter.round;
       detail = tt;
       count = refl;
       posts = (spelled-few run posts stage member k, tt);
@@ -118,7 +118,7 @@ seed-shown run stage member shuffle posts end is a b kind keys votes seed a_is b
     accept c.roster (seed-evidence c.round member (post_spelling a.post) (post_spelling b.post))
     (record {
       accused = member-is run stage member posts is;
-      round = end.honest.config.widths.round;
+      round = end.honest.config.enter.round;
       detail = tt;
       count = refl;
       posts = (spelled-few run posts 0 member a, (spelled-few run posts stage member b, tt));
@@ -234,7 +234,7 @@ malformed-accepted c bytes t is are malformed =
     let same : t ≡ malformed-evidence c.round malformed.heard.header.sender bytes = transcript-same t _ malformed.verdict_is in
     subst (IsAccepted c.roster) (sym same)
     (accept c.roster (malformed-evidence c.round malformed.heard.header.sender bytes)
-    (record { accused = parts.admitted.member; round = is.widths.round; detail = tt; count = refl; posts = (spelled-most c bytes malformed.heard parts, tt) })
+    (record { accused = parts.admitted.member; round = is.enter.round; detail = tt; count = refl; posts = (spelled-most c bytes malformed.heard parts, tt) })
     (record {
       post = bytes;
       listed = refl;
@@ -292,8 +292,8 @@ contradiction-accepted c firsts bytes t is check are other =
     let same : t ≡ two-evidence c.round (slot_named other.heard.header).sender (post_spelling other.first) bytes = transcript-same t _ other.verdict_is in
     subst (IsAccepted c.roster) (sym same)
     (two-shown c.roster c.round (slot_named other.heard.header) (post_spelling other.first) bytes other.first.content other.heard.post.content
-    checks.content.header other.heard.header is.widths.round
-    (spelled-short c (slot_named other.heard.header) other.first checks) (spelled-most c bytes other.heard parts)
+    checks.content.header other.heard.header is.enter.round
+    (spelled-short c (slot_named other.heard.header) other.first (checks-read c (slot_named other.heard.header) other.first checks)) (spelled-most c bytes other.heard parts)
     (file-says c (slot_named other.heard.header) other.first checks) (heard-says c bytes other.heard parts)
     checks.named refl other.differ)
 

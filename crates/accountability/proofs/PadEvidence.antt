@@ -259,7 +259,7 @@ pad-shown run stage posts a end b least most form held pads =
     accept c.roster (pad-evidence c.round log a (post_spelling pads.kept.post))
     (record {
       accused = member-is run stage a.member posts (record { least = least; most = most });
-      round = end.honest.config.widths.round;
+      round = end.honest.config.enter.round;
       detail = form;
       count = length-append (written log) (post_spelling pads.kept.post ∷ []) ∙ (let five = before-pads shape in omega (arith, five, long, wide));
       posts = all-append (λ (bytes : List ℕ). length bytes < 2 ^ 32) (written log) (post_spelling pads.kept.post ∷ [])

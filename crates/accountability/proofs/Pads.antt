@@ -6,6 +6,7 @@ use Rattle.phase_message.specs.declared.stage.StageKind.TheVariants.{Go as AtGo,
 use Rattle.phase_message.specs.declared.content.Body.TheVariants.{Dispute, Reveal}
 use Rattle.round_spec.specs.Runs.{AllGo, HonestRun, Run}
 use Rattle.round_spec.proofs.AgreedClosings.{ClosingKind, agreed-there, final-closes}
+use Rattle.round_spec.proofs.PastForms.{checks-read}
 use Rattle.phase_message.specs.declared.content.Content.{Content}
 use Rattle.accountability.specs.Evidence.{IsKeptEnd}
 use Rattle.round_spec.specs.Rows.{IsOwnRow}
@@ -128,7 +129,7 @@ final-assents run stage posts b member honest least most k =
     let some : 1 ≤ (shape_in c).members = omega (arith, least, most) in
     let at : final_stage (shape_in c) 1 ≡ (shape_in c).members + 3 = omega arith in
     let past = is-past run stage b.past honest b.kept in
-    (agreed-there c stage (final_stage (shape_in c) 1) member b.past k.post k.checks.content (record { whole = past.long; checks = past.checks }) some b.goes (omega (arith, at, late))
+    (agreed-there c stage (final_stage (shape_in c) 1) member b.past k.post k.checks.content (record { whole = past.long; reads = λ number slot post at there. checks-read c slot post (past.checks number slot post at there) }) some b.goes (omega (arith, at, late))
     (final-closes (shape_in c) (final_stage (shape_in c) 1) 1 (final_a_is (shape_in c) (final_stage (shape_in c) 1) at)) least most k.at (content-reads run b.past (final_stage (shape_in c) 1) member k)).assents
 
 pub pad-log : (run : Run) (stage : ℕ) (posts : List Post) → IsKeptEnd run stage posts → (b : BeforeEnd run stage posts)

@@ -174,7 +174,7 @@ replay_accepted run stage posts t end is =
     (accept c.roster (replay-evidence run stage posts is.fault.member)
     (record {
       accused = member-is run stage is.fault.member posts (record { least = one.0; most = one.1 });
-      round = end.honest.config.widths.round;
+      round = end.honest.config.enter.round;
       detail = tt;
       count = members-listed run stage posts;
       posts = all-from (λ (bytes : List ℕ). length bytes < 2 ^ 32) (by_member (shape_in c) (sent_in v stage))

@@ -217,7 +217,7 @@ pub can-make : (run : Run) (past : List (List ℕ)) → HonestRun run
 can-make run past honest =
     let c = run.config in
     let shape = shape_in c in
-    let is = shape-is c honest.config in
+    let is = shape-is c honest.config.enter in
     let most = is.most in
     let within = slot-bounds shape 0 c.number (own-speaks c honest.config) in
     record {
@@ -227,7 +227,7 @@ can-make run past honest =
       as_many_seeds = length-map-range_with_len (derived c.fresh c.round 12) 1 shape.members;
       first = within.1;
       last = within.2;
-      short = honest.config.message;
+      short = honest.config.enter.message;
     }
 
 -- what is read of the own descriptor
@@ -321,7 +321,7 @@ frame-pad run runs t listed one form bytes none e = held.2.other (sent ∙ eithe
         let member = accused-within shape t form in
         ap (λ (m : ℕ). pad_sent table m a.slot) e.accused
         ∙ sent-is shape t.accused a.slot e.pads member.0 member.1
-        ∙ ap (λ (pads : List (List ℕ)). slice_index_or pads (a.slot - 1) []) (pads-own run e.header e.pads own one.honest.config.message at)
+        ∙ ap (λ (pads : List (List ℕ)). slice_index_or pads (a.slot - 1) []) (pads-own run e.header e.pads own one.honest.config.enter.message at)
         ∙ get_or_from_slice_get (row_pads c past) (a.slot - 1) _ []
         (slice_get-map (pad_for c own_bytes) (items_opened shape past 1) (a.slot - 1) ∙ ap (option_map (pad_for c own_bytes)) item.1)
 
@@ -343,7 +343,7 @@ frame-pad run runs t listed one form bytes none e = held.2.other (sent ∙ eithe
         let made : d ≡ own_description c past =
         description-same d (own_description c past) (sym item.2 ∙ ap (descriptor_read shape.members) is ∙ own-read run past one.honest) in
         let size : d.length ≡ length c.message = ap (λ (x : Description). x.length) made ∙ length_of-made keys (own_pad_seeds c) c.number c.message in
-        let message = one.honest.config.message in
+        let message = one.honest.config.enter.message in
         pad_row-own shape.members own_bytes kept c.number seed item.0 ((bytes_eq-Decides item.0 own_bytes).1 is)
         ∙ fits_determines (strings_of_runs runs ++ strings_of_evidence c.roster (transcript_spelling t)) d c.number kept pad
         (omega (arith, size, message)) none of_run of_accusation

@@ -167,7 +167,7 @@ pub transcript-among : (run : Run) (runs : List Run) (t : Transcript) → OneRun
     → Contains (strings_of_runs runs ++ strings_of_evidence run.config.roster (transcript_spelling t)) s
 transcript-among run runs t one form s listed =
     Contains-append_right (strings_of_runs runs) (strings_of_evidence run.config.roster (transcript_spelling t)) s
-    (subst (λ (strings : List (List ℕ)). Contains strings s) (sym (evidence-is run.config.roster t (shape-is run.config one.honest.config) form)) listed)
+    (subst (λ (strings : List (List ℕ)). Contains strings s) (sym (evidence-is run.config.roster t (shape-is run.config one.honest.config.enter) form)) listed)
 
 pub frame_replay : NotShownUnlessCollide ReplaysFault
 frame_replay = by-run-unless ReplaysFault

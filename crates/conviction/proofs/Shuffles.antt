@@ -292,7 +292,7 @@ own-turn run q shuffle place strings e honest none shown lt number so_far =
         (permutation_keeps so_far.bodies so_far.list so_far.order).2 (stripped_are_distinct q shuffle place strings so_far.bodies shown none lt long so_far.stripped)
 
     few : length so_far.list < 2 ^ 32
-    few = (let most = honest.config.roster.most in let count = entries.1 in omega arith)
+    few = (let most = honest.config.enter.roster.most in let count = entries.1 in omega arith)
 
     -- what the member says
     turn : (said : List (List ℕ)) × (turn_of seed (own_order_seed c shuffle) so_far.list ≡ Shuffled said) × IsPermutation rest.0 said

@@ -1,4 +1,4 @@
--- What a member that can be honest posts ends a shuffle at most once, and shows one of its two seeds.
+-- What a plain member posts ends a shuffle at most once, and shows one of its two seeds.
 use Rattle.std.proofs.Common.{◌≡◌, ◌⊎◌, ℕ, zero, suc, ◌+◌, ◌-◌, ◌<◌, ◌≤◌, Bool, true, false, List, ◌∷◌, Option, Some, None, Result, Ok, ap, sym, ◌∙◌, refl, subst, arith, inl, inr, cond}
 use Rattle.std.specs.Prelude.{◌&&◌, ◌==◌, ◌^◌, nat_lt, count_by, filter_map, if◌then◌else◌}
 use Rattle.std.specs.List.{cons_option, range_with_len, slice_get}
@@ -27,11 +27,12 @@ use Rattle.round_spec.specs.Slots.{final_stage, inner_place}
 use Rattle.round_spec.specs.Say.{Configuration, content_with, own_body_if, own_content, own_descriptor, own_header, own_key_seed, own_opening, own_post, shape_in}
 use Rattle.round_spec.specs.Course.{Others, Stand, course_of, has_spoken, is_open, own_post_at, own_posts, post_settled, posts_before_stage, settled_log}
 use Rattle.round_spec.specs.Reached.{IsReached, post_due}
-use Rattle.round_spec.specs.Runs.{HonestRun, IsConfiguration}
-use Rattle.round_spec.specs.Settled.{settled_run}
+use Rattle.round_spec.specs.Honesty.{OthersCheck}
+use Rattle.round_spec.specs.Runs.{CanEnter}
 use Rattle.round_spec.specs.OwnRows.{CanSay, IsPastAt, content_due}
 use Rattle.round_spec.proofs.OwnLengths.{take-get}
 use Rattle.round_spec.proofs.Settling.{reached-end, settled-kept}
+use Rattle.round_spec.proofs.Honesty.{settled_posts_read}
 use Rattle.round_spec.proofs.OwnGrammar.{own_row_of_grammar}
 use Rattle.round_spec.proofs.Contained.{contains-filter_map}
 use Rattle.round_spec.proofs.Stopping.{own-header}
@@ -175,15 +176,15 @@ kept-past c others number slot post at lt there =
         cond-false (slot.sender == c.number) (own_post_at c stand slot.stage) (others slot) other
         ∙ sym (cond-false (slot.sender == c.number) (Some (own_post c (posts_before_stage c stand slot.stage) slot.stage)) (others slot) other) ∙ due
 
--- so each front of it is a past of posts that check
-past-checks : (c : Configuration) (others : Others) (stage : ℕ) → HonestRun (settled_run c others) → stage ≤ (course_of c others).at
+-- so each front of it is a past of posts that read
+past-reads : (c : Configuration) (others : Others) (stage : ℕ) → CanEnter c → OthersCheck c others → stage ≤ (course_of c others).at
     → IsPastAt c stage (posts_before_stage c (course_of c others) stage)
-past-checks c others stage honest le = record {
+past-reads c others stage enters check le = record {
   whole = length-take-le (slots_before (shape_in c) stage) (course_of c others).past (omega (arith, rises, is.whole));
-  checks = λ number slot post at there. (
+  reads = λ number slot post at there. (
       let front = take-get (course_of c others).past (slots_before (shape_in c) stage) number post there in
       let lt = front.0 in
-      honest.posts slot post (kept-past c others number slot post at (earlier number slot at lt) front.1));
+      settled_posts_read c others enters check slot post (kept-past c others number slot post at (earlier number slot at lt) front.1));
 }
   where
     is : IsReached c others (course_of c others)
@@ -205,15 +206,15 @@ past-checks c others stage honest le = record {
 
 -- ---- all own posts
 
-pub own-ends : (c : Configuration) (others : Others) (shuffle : ℕ) → IsConfiguration c → HonestRun (settled_run c others)
+pub own-ends : (c : Configuration) (others : Others) (shuffle : ℕ) → CanEnter c → OthersCheck c others
     → EndsOnce c (own_posts c (course_of c others)) shuffle
 unfolding own_posts
-own-ends c others shuffle is honest = record {
-  single = ends-at-most-once c stand shuffle is.widths.round;
+own-ends c others shuffle is check = record {
+  single = ends-at-most-once c stand shuffle is.round;
   shows = λ post content listed reads kind. (
       let found = contains-filter_map (own_post_at c stand) (range_with_len 0 (stage_count (shape_in c))) post listed in
       let own = own-at c stand found.0 post found.2 in
-      let can : CanSay c found.0 (posts_before_stage c stand found.0) = record { config = is; speaks = (and_parts (is_slot (shape_in c) found.0 c.number) _ own.said).0; past_is = past-checks c others found.0 honest (within found.0 own.said) } in
+      let can : CanSay c found.0 (posts_before_stage c stand found.0) = record { enter = is; speaks = (and_parts (is_slot (shape_in c) found.0 c.number) _ own.said).0; past_is = past-reads c others found.0 is check (within found.0 own.said) } in
       own-shows c found.0 shuffle (posts_before_stage c stand found.0) content can (ap (λ (p : Post). content_read (shape_in c) p.content) (sym own.is) ∙ reads) kind);
 }
   where

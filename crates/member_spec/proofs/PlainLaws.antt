@@ -23,17 +23,17 @@ use Rattle.round_spec.specs.Deliveries.{with_last}
 use Rattle.round_spec.specs.Result.{Waiting, counted_part, delivered_counted, ending_at, ending_of, ending_verdict, first_posts, is_awaited, least_ending, log_after, outcome_by, outcome_ended, posts_of, result_of, senders_at, stand_after, waiting_outcome}
 use Rattle.round_spec.specs.Waiting.{WaitsAtFirst}
 use Rattle.round_spec.proofs.Deliveries.{ending-all, ending-none}
-use Rattle.round_spec.specs.Runs.{HonestRun, IsConfiguration, own_slot, posts_said}
+use Rattle.round_spec.specs.Runs.{HonestRun, own_slot, posts_said}
 use Rattle.round_spec.specs.Settled.{settled_run}
 use Rattle.round_spec.proofs.Settling.{settled-kept}
 use Rattle.round_spec.specs.Honesty.{OthersCheck}
 use Rattle.round_spec.proofs.Given.{first_posts_delivered, first_posts_name}
-use Rattle.round_spec.proofs.Honesty.{run_after_is_honest, settled_run_is_honest}
+use Rattle.round_spec.proofs.Honesty.{members-least, run_after_is_honest}
 use Rattle.round_spec.proofs.Waiting.{open_rounds_wait}
 use Rattle.member_spec.specs.Actor.{Actor, actor_after, actor_at_start, first_actor, actor_behind_delivery}
 use Rattle.member_spec.specs.Outcomes.{members_missing}
-use Rattle.member_spec.specs.Plain.{ComesTo, EndsOnce, HonestComesToResult, PlainEndsOnce, PlainPostsAreSaid, PlainRunIsHonest}
-use Rattle.member_spec.specs.Replies.{IsPlain, Replies}
+use Rattle.member_spec.specs.Plain.{ComesTo, EndsOnce, PlainComesToResult, PlainEndsOnce, PlainPostsAreSaid, PlainRunIsHonest}
+use Rattle.member_spec.specs.Replies.{IsPlain, Replies, plain_replies}
 use Rattle.member_spec.proofs.Agreeing.{Agrees, delivery-keeps}
 use Rattle.member_spec.proofs.Ends.{own-ends}
 use Rattle.member_spec.proofs.Hearing.{closed-ending, none-open, open-ending}
@@ -196,35 +196,39 @@ agrees-comes c delivered a small least are (inr is) = record {
 
 -- ---- laws
 
+pub honest_is_plain : IsPlain plain_replies
+honest_is_plain = record {
+  descriptor = λ own. refl;
+  speech = λ stage bytes log. refl;
+  speech_after = λ own stage bytes log. refl;
+}
+
 All-take : (k : ℕ) (xs : List (List ℕ)) → All IsBytes xs → All IsBytes (take k xs)
 All-take k xs all i d lt = (let long = length-take k xs in subst IsBytes (sym (get_or-take k xs i d (omega (arith, long)))) (all i d (omega (arith, long))))
-
-pub members-least : (c : Configuration) → IsConfiguration c → 1 ≤ (shape_in c).members
-members-least c is = (let least = is.roster.least in omega arith)
 
 part-bytes : (delivered : List (List ℕ)) (o : Option (ℕ × Verdict)) → All IsBytes delivered → All IsBytes (counted_part delivered o)
 part-bytes delivered None are = are
 part-bytes delivered (Some ending) are = All-take ending.0 delivered are
 
-counted-bytes : (c : Configuration) (delivered : List (List ℕ)) → All IsBytes delivered → All IsBytes (delivered_counted c delivered)
+pub counted-bytes : (c : Configuration) (delivered : List (List ℕ)) → All IsBytes delivered → All IsBytes (delivered_counted c delivered)
 counted-bytes c delivered are = part-bytes delivered (least_ending c delivered) are
 
-pub honest_comes_to_result : HonestComesToResult
-honest_comes_to_result replies c delivered plain is are =
-    agrees-comes c delivered (actor_after replies c delivered) is.widths.round (members-least c is) are (agrees-after replies c delivered plain (says-grammar c is) are)
+pub plain_comes_to_result : PlainComesToResult
+plain_comes_to_result replies c delivered plain is are =
+    agrees-comes c delivered (actor_after replies c delivered) is.round (members-least c is) are (agrees-after replies c delivered plain (says-grammar c is) are)
 
 pub plain_run_is_honest : PlainRunIsHonest
 plain_run_is_honest replies c delivered plain is are =
-    subst (λ (log : Log). HonestRun (record { config = c; log = log })) (sym (honest_comes_to_result replies c delivered plain is are).log) (run_after_is_honest c delivered is are)
+    subst (λ (log : Log). HonestRun (record { config = c; log = log })) (sym (plain_comes_to_result replies c delivered plain is.enter are).log) (run_after_is_honest c delivered is are)
 
 pub plain_ends_once : PlainEndsOnce
 unfolding posts_of
 plain_ends_once replies c delivered shuffle plain is are =
-    let comes = honest_comes_to_result replies c delivered plain is are in
+    let comes = plain_comes_to_result replies c delivered plain is are in
     let counted : List (List ℕ) = delivered_counted c delivered in
     let others : Others = first_posts c counted in
     let check : OthersCheck c others = λ slot post e. (first_posts_delivered c counted slot post (counted-bytes c delivered are) e).checks in
-    subst (λ (made : List Post). EndsOnce c made shuffle) (sym comes.posts) (own-ends c others shuffle is (settled_run_is_honest c others is check))
+    subst (λ (made : List Post). EndsOnce c made shuffle) (sym comes.posts) (own-ends c others shuffle is check)
 
 -- the own posts that a settled log keeps are those of its course
 said-there : (c : Configuration) (others : Others) (stage : ℕ)
@@ -252,6 +256,6 @@ said-all c others = filter-in (own_post_at c (course_of c others)) (λ stage. ke
 pub plain_posts_are_said : PlainPostsAreSaid
 unfolding posts_of log_after
 plain_posts_are_said replies c delivered plain is are =
-    let comes = honest_comes_to_result replies c delivered plain is are in
+    let comes = plain_comes_to_result replies c delivered plain is are in
     comes.posts ∙ said-all c (first_posts c (delivered_counted c delivered))
     ∙ sym (ap (λ (log : Log). posts_said (record { config = c; log = log })) comes.log)

@@ -17,16 +17,20 @@ use Rattle.phase_message.specs.Slots.{senders_in, senders_of, slot_count, slot_n
 use Rattle.phase_message.specs.Stages.{is_slot, kind_of_stage, speaks as speaks_in, stages}
 use Rattle.phase_message.proofs.Lengths.{fixed-length, pads-length, turn-length}
 use Rattle.phase_message.proofs.SlotLists.{length-senders_in, length-slots_of, slot_at-is}
-use Rattle.signed_post.proofs.Lengths.{posts_are_short}
-use Rattle.stage_log.specs.Table.{kept_in}
+use Rattle.stage_log.specs.Table.{IsLog, Log, kept_in}
+use Rattle.round_spec.specs.Course.{Others, settled_log}
+use Rattle.round_spec.specs.Honesty.{OthersCheck}
+use Rattle.round_spec.specs.Result.{delivered_counted, first_posts, log_after}
 use Rattle.round_spec.specs.Say.{Configuration, shape_in}
-use Rattle.round_spec.specs.Runs.{ChecksIn}
+use Rattle.round_spec.specs.Runs.{CanEnter, ReadsIn}
 use Rattle.round_spec.proofs.Courses.{cases_Some}
-use Rattle.round_spec.proofs.PastForms.{checks-admitted, said-there, spelled-long}
+use Rattle.round_spec.proofs.Given.{first_posts_delivered}
+use Rattle.round_spec.proofs.Honesty.{members-least, settled_is_log, settled_posts_read}
+use Rattle.round_spec.proofs.PastForms.{said-there, spelled-long}
 use Rattle.member_spec.specs.Actor.{Actor, actor_after}
-use Rattle.member_spec.specs.Plain.{PlainKeepsAtMost}
+use Rattle.member_spec.specs.Plain.{KeepsAtMost, PlainKeepsAtMost}
 use Rattle.member_spec.specs.Sizes.{bytes_at, bytes_kept, greatest_body, greatest_log, greatest_post}
-use Rattle.member_spec.proofs.PlainLaws.{members-least, plain_run_is_honest}
+use Rattle.member_spec.proofs.PlainLaws.{counted-bytes, plain_comes_to_result}
 
 -- ---- one post
 
@@ -54,22 +58,22 @@ open-room shape x Check some is at open_kind = omega (arith, fixed-length shape 
 open-room shape x (Final shuffle) some is at open_kind = absurd (open_kind tt)
 open-room shape x Confirm some is at open_kind = absurd (open_kind tt)
 
--- a post that checks is no longer than the greatest one of its stage
-post-room : (c : Configuration) (slot : Slot) (post : Post) (kind : StageKind) → 1 ≤ (shape_in c).members → ChecksIn c slot post
+-- a post that reads in its slot is no longer than the greatest one of its stage
+post-room : (c : Configuration) (slot : Slot) (post : Post) (kind : StageKind) → 1 ≤ (shape_in c).members → ReadsIn c slot post
     → kind_of_stage (shape_in c) slot.stage ≡ Some kind
     → length (post_spelling post) ≤ greatest_post (shape_in c) kind
-post-room c slot post kind some checks kind_is = by_kind kind kind_is
+post-room c slot post kind some reads kind_is = by_kind kind kind_is
   where
     limit : length (post_spelling post) ≤ 16777216
-    limit = (let admitted = checks-admitted c slot post checks in let most = admitted.1.frame.most in omega (arith, spelled-long post, most))
+    limit = (let most = reads.frame.most in omega (arith, spelled-long post, most))
 
     open_kind : (k : StageKind) → kind_of_stage (shape_in c) slot.stage ≡ Some k → (IsClosing k → ⊥)
         → length (post_spelling post) ≤ 4 + 76 + greatest_body (shape_in c) k + 9324
     open_kind k e not_closing =
-        let said = said-there c slot post checks in
-        let admitted = checks-admitted c slot post checks in
+        let said = said-there c slot post reads in
+        let short = reads.short in
         let content = open-room (shape_in c) said.content k some said.grammar (ap (kind_of_stage (shape_in c)) said.stage ∙ e) not_closing in
-        omega (arith, content, ap length said.spelled, posts_are_short c.roster c.round post admitted.0 admitted.1)
+        omega (arith, content, ap length said.spelled, short, spelled-long post)
 
     by_kind : (k : StageKind) → kind_of_stage (shape_in c) slot.stage ≡ Some k → length (post_spelling post) ≤ greatest_post (shape_in c) k
     by_kind (Final shuffle) e = limit
@@ -129,20 +133,20 @@ slots-sum shape first (kind ∷ kinds) are =
     ∙ sym (sum_by-cons (λ kind. senders_of shape kind * greatest_post shape kind) kind kinds)
 
 places-room : (c : Configuration) (places : List (Option Post)) → 1 ≤ (shape_in c).members → length places ≡ slot_count (shape_in c)
-    → ((slot : Slot) (post : Post) → kept_in (record { shape = shape_in c; posts = places }) slot ≡ Some post → ChecksIn c slot post)
+    → ((slot : Slot) (post : Post) → kept_in (record { shape = shape_in c; posts = places }) slot ≡ Some post → ReadsIn c slot post)
     → sum_by bytes_at places ≤ greatest_log (shape_in c)
 unfolding greatest_log
-places-room c places some whole checks =
+places-room c places some whole reads =
     let shape : Shape = shape_in c in
     let bounded = sum-bounded shape places (slots_of shape) (whole ∙ sym (length-slots_of shape)) each in
     let sum = slots-sum shape 0 (stages shape) (λ i kind e. (let start : 0 + i ≡ i = omega arith in ap (kind_of_stage (shape_in c)) start ∙ e)) in
     omega (arith, bounded, sum)
   where
-    by_kind : (slot : Slot) (post : Post) → is_slot (shape_in c) slot.stage slot.sender ≡ true → ChecksIn c slot post → (kind : StageKind)
+    by_kind : (slot : Slot) (post : Post) → is_slot (shape_in c) slot.stage slot.sender ≡ true → ReadsIn c slot post → (kind : StageKind)
         → kind_of_stage (shape_in c) slot.stage ≡ Some kind
         → length (post_spelling post) ≤ slot_room (shape_in c) slot
-    by_kind slot post speaks checked kind e =
-        subst (λ (n : ℕ). length (post_spelling post) ≤ n) (sym (ap (λ (o : Option StageKind). option_map_or (greatest_post (shape_in c)) o 0) e)) (post-room c slot post kind some checked e)
+    by_kind slot post speaks read kind e =
+        subst (λ (n : ℕ). length (post_spelling post) ≤ n) (sym (ap (λ (o : Option StageKind). option_map_or (greatest_post (shape_in c)) o 0) e)) (post-room c slot post kind some read e)
 
     each : (i : ℕ) (place : Option Post) (slot : Slot) → slice_get places i ≡ Some place → slice_get (slots_of (shape_in c)) i ≡ Some slot
         → bytes_at place ≤ slot_room (shape_in c) slot
@@ -154,19 +158,31 @@ places-room c places some whole checks =
         ∙ ap (λ (k : ℕ). option_flatten (slice_get places k)) is.1 ∙ ap option_flatten at in
         elim (cases_Some (kind_of_stage (shape_in c) slot.stage)) [
           | inl none ↦ absurd (let silent = ap (λ (o : Option StageKind). speaks_in (shape_in c) o slot.sender) none in let never = sym is.0 ∙ silent in cc)
-          | inr kind ↦ by_kind slot post is.0 (checks slot post kept) kind.0 kind.1
+          | inr kind ↦ by_kind slot post is.0 (reads slot post kept) kind.0 kind.1
         ]
 
 -- ---- the law
 
-pub plain_keeps_at_most : PlainKeepsAtMost
+-- what a log of the round keeps has room, if it reads in its slots
+log-room : (c : Configuration) (a : Actor) → CanEnter c → IsLog a.log → a.log.shape ≡ shape_in c
+    → ((slot : Slot) (post : Post) → kept_in a.log slot ≡ Some post → ReadsIn c slot post) → KeepsAtMost c a
 unfolding bytes_kept
+log-room c a is log shape reads = record {
+  each = λ slot post kind e kind_is. post-room c slot post kind (members-least c is) (reads slot post e) kind_is;
+  all = places-room c a.log.posts (members-least c is) (log.places ∙ ap slot_count shape)
+      (λ slot post e. reads slot post (ap (λ (s : Shape). kept_in (record { shape = s; posts = a.log.posts }) slot) shape ∙ e));
+}
+
+settled-shape : (c : Configuration) (others : Others) → (settled_log c others).shape ≡ shape_in c
+unfolding settled_log
+settled-shape c others = refl
+
+pub plain_keeps_at_most : PlainKeepsAtMost
+unfolding log_after
 plain_keeps_at_most replies c delivered plain is are =
     let a : Actor = actor_after replies c delivered in
-    let run = plain_run_is_honest replies c delivered plain is are in
-    let whole : length a.log.posts ≡ slot_count (shape_in c) = run.log.places ∙ ap slot_count run.shape in
-    record {
-      each = λ slot post kind e kind_is. post-room c slot post kind (members-least c is) (run.posts slot post e) kind_is;
-      all = places-room c a.log.posts (members-least c is) whole
-          (λ slot post e. run.posts slot post (ap (λ (s : Shape). kept_in (record { shape = s; posts = a.log.posts }) slot) run.shape ∙ e));
-    }
+    let others : Others = first_posts c (delivered_counted c delivered) in
+    let log : a.log ≡ settled_log c others = (plain_comes_to_result replies c delivered plain is are).log in
+    let check : OthersCheck c others = λ slot post e. (first_posts_delivered c (delivered_counted c delivered) slot post (counted-bytes c delivered are) e).checks in
+    log-room c a is (subst IsLog (sym log) (settled_is_log c others is check)) (ap (λ (l : Log). l.shape) log ∙ settled-shape c others)
+    (λ slot post e. settled_posts_read c others is check slot post (sym (ap (λ (l : Log). kept_in l slot) log) ∙ e))

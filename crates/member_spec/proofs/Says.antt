@@ -1,4 +1,4 @@
--- What a member that can be honest has to say is of the grammar, whatever was delivered.
+-- What a member has to say is of the grammar, whatever was delivered.
 use Rattle.std.proofs.Common.{◌≡◌, ℕ, zero, suc, ◌+◌, ◌-◌, ◌≤◌, true, List, ◌++◌, length, take, Some, None, Ok, ap, sym, ◌∙◌, refl, subst, arith, inl, inr, length-append}
 use Rattle.std.specs.Prelude.{All, is_ok}
 use Rattle.std.proofs.lemmas.Bool.{cases_lt}
@@ -14,13 +14,12 @@ use Rattle.round_spec.specs.Course.{Others, Stand, closing_of, course_from, cour
 use Rattle.round_spec.specs.Honesty.{OthersCheck}
 use Rattle.round_spec.specs.Reached.{IsReached}
 use Rattle.round_spec.specs.Result.{first_posts}
-use Rattle.round_spec.specs.Runs.{AllGo, IsConfiguration, IsOwnPost}
+use Rattle.round_spec.specs.Runs.{AllGo, CanEnter, IsOwnPost}
 use Rattle.round_spec.specs.Settled.{settled_run}
 use Rattle.round_spec.proofs.Courses.{cases_Some, course-adds, course-next, course-stays}
 use Rattle.round_spec.proofs.Given.{first_posts_delivered, first_posts_name}
-use Rattle.round_spec.proofs.Honesty.{own_posts_check}
+use Rattle.round_spec.proofs.Honesty.{own_posts_read}
 use Rattle.round_spec.proofs.Reached.{behind-at, next-parts, open-goes, stands_are_reached}
-use Rattle.round_spec.proofs.Rows.{checks-parts}
 use Rattle.round_spec.proofs.Settling.{before-settled, reached-end}
 use Rattle.round_spec.proofs.Stopping.{course_stops}
 use Rattle.member_spec.proofs.Steps.{SaysGrammar}
@@ -112,13 +111,12 @@ ok-when : (c : Configuration) (past : List Post) (stage : ℕ) (content : Conten
 unfolding own_post
 ok-when c past stage content e = ap is_ok e
 
-pub says-grammar : (c : Configuration) → IsConfiguration c → (part : List (List ℕ)) → All IsBytes part → SaysGrammar c (first_posts c part)
+pub says-grammar : (c : Configuration) → CanEnter c → (part : List (List ℕ)) → All IsBytes part → SaysGrammar c (first_posts c part)
 says-grammar c is part are stages still speaks =
     let others : Others = first_posts c part in
     let stand : Stand = course_from c others stages first_stand in
     let least : 1 ≤ (shape_in c).members = (let two = is.roster.least in omega arith) in
     let check : OthersCheck c others = λ slot post e. (first_posts_delivered c part slot post are e).checks in
-    let stops = course_stops c others is.widths.round least (first_posts_name c part are) in
-    let own = own_posts_check c others is check stand.at (own_post c stand.past stand.at) speaks (own-is c others stages stops.no_next still) in
-    let parts = checks-parts c.roster c.round (own_post c stand.past stand.at) own.content own.checks in
-    ok-when c stand.past stand.at own.content parts.2
+    let stops = course_stops c others is.round least (first_posts_name c part are) in
+    let own = own_posts_read c others is check stand.at (own_post c stand.past stand.at) speaks (own-is c others stages stops.no_next still) in
+    ok-when c stand.past stand.at own.content own.reads

@@ -5,6 +5,5 @@ pub mod Taking
 pub mod Growing
 pub mod Standing
 pub mod Sizes
-pub mod Entering
 pub mod Plain
 pub mod Order

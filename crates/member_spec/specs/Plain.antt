@@ -20,7 +20,7 @@ use Rattle.shuffle_blame.specs.Replay.{outer_place}
 use Rattle.round_spec.specs.Slots.{final_stage, inner_place}
 use Rattle.round_spec.specs.Say.{Configuration, own_key_seed, own_opening, shape_in}
 use Rattle.round_spec.specs.Result.{log_after, posts_of, result_of}
-use Rattle.round_spec.specs.Runs.{HonestRun, IsConfiguration, posts_said}
+use Rattle.round_spec.specs.Runs.{CanEnter, HonestRun, IsConfiguration, posts_said}
 use Rattle.member_spec.specs.Actor.{Actor, actor_after}
 use Rattle.member_spec.specs.Outcomes.{outcome_of}
 use Rattle.member_spec.specs.Replies.{IsPlain, Replies}
@@ -34,19 +34,19 @@ pub record ComesTo (c : Configuration) (delivered : List (List ℕ)) (a : Actor)
   pub posts : a.made ≡ posts_of c delivered
   pub log : a.log ≡ log_after c delivered
 
--- so it is with every plain conduct of a member that can be honest: its key is the roster's
-abbrev pub HonestComesToResult : Type 0
-HonestComesToResult = (replies : Replies) (c : Configuration) (delivered : List (List ℕ)) → IsPlain replies → IsConfiguration c →
+-- so it is with every plain conduct, whether the member's key is the roster's or not
+abbrev pub PlainComesToResult : Type 0
+PlainComesToResult = (replies : Replies) (c : Configuration) (delivered : List (List ℕ)) → IsPlain replies → CanEnter c →
     All IsBytes delivered → ComesTo c delivered (actor_after replies c delivered)
 
--- its run is honest, where the leaf run's key is the roster's
+-- its run is honest, where its key is the roster's
 abbrev pub PlainRunIsHonest : Type 0
 PlainRunIsHonest = (replies : Replies) (c : Configuration) (delivered : List (List ℕ)) → IsPlain replies → IsConfiguration c →
     All IsBytes delivered → HonestRun (record { config = c; log = (actor_after replies c delivered).log })
 
 -- and the posts that it has made are just its own posts in the log of that run
 abbrev pub PlainPostsAreSaid : Type 0
-PlainPostsAreSaid = (replies : Replies) (c : Configuration) (delivered : List (List ℕ)) → IsPlain replies → IsConfiguration c →
+PlainPostsAreSaid = (replies : Replies) (c : Configuration) (delivered : List (List ℕ)) → IsPlain replies → CanEnter c →
     All IsBytes delivered → (actor_after replies c delivered).made ≡ posts_said (record { config = c; log = (actor_after replies c delivered).log })
 
 -- ---- one end of a shuffle
@@ -75,7 +75,7 @@ pub record EndsOnce (c : Configuration) (made : List Post) (shuffle : ℕ) : Typ
 -- so it is among the posts of a plain conduct
 abbrev pub PlainEndsOnce : Type 0
 PlainEndsOnce = (replies : Replies) (c : Configuration) (delivered : List (List ℕ)) (shuffle : ℕ) → IsPlain replies →
-    IsConfiguration c → All IsBytes delivered → EndsOnce c (actor_after replies c delivered).made shuffle
+    CanEnter c → All IsBytes delivered → EndsOnce c (actor_after replies c delivered).made shuffle
 
 -- ---- room
 
@@ -87,5 +87,5 @@ pub record KeepsAtMost (c : Configuration) (a : Actor) : Type 0 where
 
 -- so it is with every plain conduct
 abbrev pub PlainKeepsAtMost : Type 0
-PlainKeepsAtMost = (replies : Replies) (c : Configuration) (delivered : List (List ℕ)) → IsPlain replies → IsConfiguration c →
+PlainKeepsAtMost = (replies : Replies) (c : Configuration) (delivered : List (List ℕ)) → IsPlain replies → CanEnter c →
     All IsBytes delivered → KeepsAtMost c (actor_after replies c delivered)

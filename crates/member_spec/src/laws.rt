@@ -2,7 +2,8 @@
 
 ghost use Rattle.member_spec.specs.Growing.{PostsGrow};
 ghost use Rattle.member_spec.specs.Order.{OrderChangesNothing};
-ghost use Rattle.member_spec.specs.Plain.{HonestComesToResult, PlainEndsOnce, PlainKeepsAtMost, PlainPostsAreSaid, PlainRunIsHonest};
+ghost use Rattle.member_spec.specs.Plain.{PlainComesToResult, PlainEndsOnce, PlainKeepsAtMost, PlainPostsAreSaid, PlainRunIsHonest};
+ghost use Rattle.member_spec.specs.Replies.{IsPlain, plain_replies};
 ghost use Rattle.member_spec.specs.Sizes.{GreatestOfEight};
 ghost use Rattle.member_spec.specs.Standing.{OpenStandAtFirst};
 ghost use Rattle.member_spec.specs.Taking.{IdleLeavesAll};
@@ -18,16 +19,21 @@ pub fn eight_keep_at_most()
     ensures { GreatestOfEight }
 {}
 
-/// A member of a plain conduct whose key is the roster's comes to the result of its deliveries: how the round stands, the
-/// posts that it has made and the log that it keeps; and its run is honest, with just these posts of its own. Among its posts
-/// at most one ends a shuffle, and shows the inner seed, or the outer seed and the outer opening. What it keeps has at most
-/// the bytes of the greatest post in each slot, and of all of these together.
+/// A member of a plain conduct comes to the result of its deliveries, whatever key it signs with: how the round stands, the
+/// posts that it has made and the log that it keeps, which has just these posts of its own. Among its posts at most one ends a
+/// shuffle, and shows the inner seed, or the outer seed and the outer opening. What it keeps has at most the bytes of the
+/// greatest post in each slot, and of all of these together. Where its key is the roster's, its run is honest.
 pub fn plain_members()
-    ensures result { HonestComesToResult }
+    ensures result { PlainComesToResult }
     ensures honest { PlainRunIsHonest }
     ensures said { PlainPostsAreSaid }
     ensures ends_once { PlainEndsOnce }
     ensures room { PlainKeepsAtMost }
+{}
+
+/// The answers that `Honest` tells are those of a plain conduct.
+pub fn honest_is_plain()
+    ensures { IsPlain plain_replies }
 {}
 
 /// A delivery that is answered `Ignored`, `Own`, `Same` or `Finished` leaves the member as it was, whatever its conduct is.

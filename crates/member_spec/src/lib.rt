@@ -10,8 +10,8 @@ mod taken;
 
 pub use conduct::{Conduct, Honest, Speech};
 pub use laws::{
-    eight_keep_at_most, idle_deliveries, open_members_wait, order_changes_nothing, plain_members,
-    posts_only_grow,
+    eight_keep_at_most, honest_is_plain, idle_deliveries, open_members_wait, order_changes_nothing,
+    plain_members, posts_only_grow,
 };
 pub use mood::Mood;
 pub use state::State;

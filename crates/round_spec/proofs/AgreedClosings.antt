@@ -32,7 +32,7 @@ use Rattle.round_spec.specs.Course.{closing_of}
 use Rattle.round_spec.specs.Embedded.{embedded_pairs, posts_in_content}
 use Rattle.round_spec.specs.Justified.{ArePostsOf, IsPostOf}
 use Rattle.round_spec.specs.OwnRows.{IsPastAt}
-use Rattle.round_spec.specs.Runs.{AllGo, ChecksIn}
+use Rattle.round_spec.specs.Runs.{AllGo, ReadsIn}
 use Rattle.round_spec.specs.Say.{Configuration, shape_in}
 use Rattle.round_spec.specs.Verdict.{ClosedStage, Convicts, Goes, Verdict, is_closing, no_post, post_in, verdict_of}
 use Rattle.round_spec.proofs.GoLists.{there}
@@ -150,7 +150,7 @@ stage_passed c past stage = closing_of c (take (slots_before (shape_in c) (stage
 record StandsAt (c : Configuration) (past : List Post) (stage member : ℕ) : Type 0 where
   pub post : Post
   pub stands : slice_get past (slot_number (shape_in c) stage member) ≡ Some post
-  pub checks : ChecksIn c (record { stage = stage; sender = member }) post
+  pub reads : ReadsIn c (record { stage = stage; sender = member }) post
   pub closed : post_in (stage_passed c past stage) stage member ≡ post
 
 stands-at : (c : Configuration) (later stage member : ℕ) (past : List Post) → IsPastAt c later past → stage < later
@@ -163,7 +163,7 @@ stands-at c later stage member past is lt speaks_there =
     record {
       post = found.0;
       stands = found.1;
-      checks = is.checks number (record { stage = stage; sender = member }) found.0 (slot_at-number shape stage member speaks_there) found.1;
+      reads = is.reads number (record { stage = stage; sender = member }) found.0 (slot_at-number shape stage member speaks_there) found.1;
       closed = get_or-take (slots_before shape (stage + 1)) past number no_post within ∙ get_or_from_slice_get past number found.0 no_post found.1;
     }
 
@@ -175,7 +175,7 @@ whole-stage c later stage past is some lt k = record {
   posts = length-take-le (slots_before (shape_in c) (stage + 1)) past (let whole = is.whole in omega (arith, whole, slots_before-rises (shape_in c) (stage + 1) later (omega arith)));
   named = λ member content one reads. (
       let at = stands-at c later stage member past is lt (k.all_close member one.least one.most) in
-      let said = said-there c (record { stage = stage; sender = member }) at.post at.checks in
+      let said = said-there c (record { stage = stage; sender = member }) at.post at.reads in
       let same = contents-same content said.content (content_read (shape_in c) at.post.content) (sym (ap (λ (p : Post). content_read (shape_in c) p.content) at.closed) ∙ reads) said.reads in
       ap (λ (x : Content). x.header.stage) same ∙ said.stage);
 }

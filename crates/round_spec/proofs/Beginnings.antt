@@ -43,7 +43,7 @@ use Rattle.signed_post.proofs.Lengths.{own_posts_are_admitted}
 use Rattle.stage_log.specs.Table.{IsKept, IsLog, empty_log, kept_in}
 use Rattle.stage_log.proofs.Entries.{filled-is_log, kept_in-at}
 use Rattle.round_spec.specs.Say.{Configuration, content_with, keys_row, number_said_before, own_content, own_header, own_key_seed, own_post, shape_in}
-use Rattle.round_spec.specs.Runs.{ChecksIn, HonestRun, IsConfiguration, IsOwnPost, own_slot}
+use Rattle.round_spec.specs.Runs.{CanEnter, ChecksIn, HonestRun, IsConfiguration, IsOwnPost, own_slot}
 use Rattle.round_spec.specs.Beginnings.{BeginningsAreHonest, ListsAreHonest, NothingIsForged, keys_post, keys_run, silent_run}
 use Rattle.round_spec.proofs.Contained.{contains-nothing}
 use Rattle.round_spec.proofs.OwnBytes.{key-bytes, signature-bytes}
@@ -51,7 +51,7 @@ use Rattle.round_spec.proofs.Stopping.{own-header}
 
 -- ---- shapes and members
 
-pub shape-is : (c : Configuration) → IsConfiguration c → IsShape (shape_in c).version (shape_in c).members
+pub shape-is : (c : Configuration) → CanEnter c → IsShape (shape_in c).version (shape_in c).members
 shape-is c is = record { first = is.roster.version; least = is.roster.least; most = is.roster.most }
 
 -- a member's number is one of the roster
@@ -80,7 +80,7 @@ nothing-kept n k d lt = subst (λ (o : Option Post). IfSome o (λ (post : Post).
 empty-is_log : (c : Configuration) → IsConfiguration c → IsLog (empty_log (shape_in c))
 unfolding nothing
 empty-is_log c is = record {
-  shape = shape-is c is;
+  shape = shape-is c is.enter;
   places = length-replicate (slot_count (shape_in c)) nothing;
   contents = λ k d lt. nothing-kept (slot_count (shape_in c)) k d (let long = length-replicate (slot_count (shape_in c)) nothing in omega (arith, lt, long));
 }
@@ -129,7 +129,7 @@ keys-grammar c is = (
   record {
     version_is = refl;
     group_long = (hash_bytes _ _).0;
-    round_small = is.widths.round;
+    round_small = is.enter.round;
     slot_is = own-speaks c is;
     view_long = (hash_bytes _ _).0;
   },
@@ -147,8 +147,8 @@ flat-bytes f (n ∷ ns) each = IsBytes-append (f n) (flat_map (λ key. key) (map
 keys-bytes : (c : Configuration) → IsConfiguration c → IsBytes (own_content c [] 0)
 unfolding keys_content own_keys
 keys-bytes c is =
-    let version : c.roster.version < 256 = omega (arith, is.roster.version) in
-    let most = is.roster.most in
+    let version : c.roster.version < 256 = omega (arith, is.enter.roster.version) in
+    let most = is.enter.roster.most in
     let number : c.number < 256 = small_number (own-speaks c is) most in
     let view : List ℕ = hash_of View [] in
     let sender : List ℕ = (c.number ∷ []) ++ view in
@@ -183,8 +183,8 @@ checks-from roster round post header content admitted reads =
 
 keys-sendable : (c : Configuration) → IsConfiguration c → IsSendable c.roster c.round (own_content c [] 0) (own_header c [] 0)
 keys-sendable c is = record {
-  reads = own-header c [] 0 is.widths.round;
-  version = is.roster.version;
+  reads = own-header c [] 0 is.enter.round;
+  version = is.enter.roster.version;
   group = refl;
   this_round = refl;
   member = own-speaks c is;
@@ -203,7 +203,7 @@ keys-post c = refl
 pub keys-admitted : (c : Configuration) → IsConfiguration c → Admitted c.roster c.round (keys_post c) (own_header c [] 0)
 unfolding own_post number_said_before
 keys-admitted c is =
-    let left = is.leaves in
+    let left = is.enter.leaves in
     own_posts_are_admitted c.roster c.round (own_content c [] 0) (own_header c [] 0) c.key (c.first + number_said_before c 0) (keys-sendable c is) is.key (first_left left)
   where
     first_left : c.first + 12 ≤ leaves c.key → c.first + 0 < leaves c.key

@@ -1,4 +1,4 @@
--- When the run that deliveries make is honest.
+-- What a member keeps reads in its slots, and when the run that deliveries make is honest.
 use Rattle.std.proofs.Common.{◌≡◌, ℕ, zero, suc, ◌<◌, ◌≤◌, true, List, length, get_or, map, take, Option, Some, None, Result, Ok, ap, sym, ◌∙◌, refl, subst, arith, inl, inr}
 use Rattle.std.specs.Prelude.{◌==◌, All, IfSome, slice_index_or, option_map}
 use Rattle.std.specs.List.{slice_get}
@@ -17,9 +17,8 @@ use Rattle.phase_message.specs.Slots.{slot_at, slot_count, slots_before, slots_o
 use Rattle.phase_message.specs.Stages.{is_slot}
 use Rattle.phase_message.proofs.SlotLists.{length-slots_of, slot_at-is, slot_number-within, slots_before-most, slots_before-rises}
 use Rattle.signed_post.specs.Admission.{Admitted}
-use Rattle.signed_post.proofs.Admits.{admits_exactly}
 use Rattle.stage_log.specs.Log.{before}
-use Rattle.stage_log.specs.Table.{IsKept, IsLog, Log, kept_in}
+use Rattle.stage_log.specs.Table.{IsKept, Log, kept_in}
 use Rattle.stage_log.proofs.Pasts.{all_some-is}
 use Rattle.round_spec.specs.Embedded.{slot_named}
 use Rattle.round_spec.specs.Say.{Configuration, shape_in}
@@ -28,23 +27,22 @@ use Rattle.round_spec.specs.Course.{Others, course_of, own_post_at, post_settled
 use Rattle.round_spec.specs.Reached.{NameSlots}
 use Rattle.round_spec.specs.Result.{counted_part, delivered_counted, first_posts, least_ending, log_after}
 use Rattle.round_spec.specs.OwnRows.{CanSay}
-use Rattle.round_spec.specs.Runs.{ChecksIn, HasNumber, IsConfiguration, IsOwnPost, Sent, own_slot}
+use Rattle.round_spec.specs.Runs.{CanEnter, ChecksIn, HasNumber, IsConfiguration, IsOwnPost, ReadsIn, Sent, own_slot}
 use Rattle.round_spec.specs.Settled.{settled_run}
-use Rattle.round_spec.specs.Honesty.{OthersCheck, OwnPostsCheck, RunAfterIsHonest, SettledRunIsHonest, UnforgedIsSaid}
+use Rattle.round_spec.specs.Honesty.{OthersCheck, OwnPostsCheck, OwnPostsRead, RunAfterIsHonest, SettledIsLog, SettledPostsRead, SettledRunIsHonest, UnforgedIsSaid}
 use Rattle.round_spec.proofs.Beginnings.{shape-is}
 use Rattle.round_spec.proofs.Given.{first_posts_delivered}
-use Rattle.round_spec.proofs.OwnChecks.{own_post_checks}
+use Rattle.round_spec.proofs.OwnChecks.{own_post_checks, own_post_reads}
 use Rattle.round_spec.proofs.OwnLengths.{take-get}
+use Rattle.round_spec.proofs.PastForms.{checks-read}
 use Rattle.round_spec.proofs.Rows.{checks-parts}
 use Rattle.round_spec.proofs.Settling.{own_posts_settled, settled-kept}
 
--- what checks can be kept
-checked-kept : (c : Configuration) (slot : Slot) (post : Post) → ChecksIn c slot post → IsKept post.content
-checked-kept c slot post is =
-    let parts = checks-parts c.roster c.round post is.content is.checks in
-    let admitted = (admits_exactly c.roster c.round post parts.0 is.signature_bytes).0 parts.1 in
-    let least = admitted.frame.least in
-    let most = admitted.frame.most in
+-- what reads in a slot can be kept
+read-kept : (c : Configuration) (slot : Slot) (post : Post) → ReadsIn c slot post → IsKept post.content
+read-kept c slot post is =
+    let least = is.frame.least in
+    let most = is.frame.most in
     record { least = least; most = omega arith }
 
 content-same : (a b : Content) (r : Result Content Offence) → r ≡ Ok a → r ≡ Ok b → a ≡ b
@@ -64,27 +62,28 @@ kept-speaks c others slot post e = elim (cases_Bool (is_slot (shape_in c) slot.s
   | inr silent ↦ absurd (none-some post (sym (cond-false (is_slot (shape_in c) slot.stage slot.sender) _ None silent) ∙ e))
 ]
 
-members-least : (c : Configuration) → IsConfiguration c → 1 ≤ (shape_in c).members
+pub members-least : (c : Configuration) → CanEnter c → 1 ≤ (shape_in c).members
 members-least c is = (let least = is.roster.least in omega arith)
 
--- a kept post checks in its slot, if the own post of its stage does
-kept-if-own : (c : Configuration) (others : Others) (slot : Slot) (post : Post) → IsConfiguration c → OthersCheck c others
-    → (is_slot (shape_in c) slot.stage c.number ≡ true → IsOwnPost (settled_run c others) slot.stage post → ChecksIn c (own_slot (settled_run c others) slot.stage) post)
-    → kept_in (settled_log c others) slot ≡ Some post → ChecksIn c slot post
+-- what holds of the others' posts in their slots holds of each kept post, if it does of the own post of its stage
+kept-if-own : (c : Configuration) (others : Others) (P : Slot → Post → Type 0) (slot : Slot) (post : Post) → CanEnter c → OthersCheck c others
+    → (others slot ≡ Some post → P slot post)
+    → (is_slot (shape_in c) slot.stage c.number ≡ true → IsOwnPost (settled_run c others) slot.stage post → P (own_slot (settled_run c others) slot.stage) post)
+    → kept_in (settled_log c others) slot ≡ Some post → P slot post
 unfolding post_settled
-kept-if-own c others slot post is check own_check e = elim (cases_Bool (slot.sender == c.number)) [
+kept-if-own c others P slot post is check other_is own_is e = elim (cases_Bool (slot.sender == c.number)) [
   | inl own ↦
       let number : slot.sender ≡ c.number = eqb-true slot.sender c.number own in
       let slot_is : slot ≡ own_slot (settled_run c others) slot.stage = ap (λ (s : ℕ). record { stage = slot.stage; sender = s }) number in
       let speaks_own : is_slot (shape_in c) slot.stage c.number ≡ true = sym (ap (λ (s : ℕ). is_slot (shape_in c) slot.stage s) number) ∙ kept-speaks c others slot post e in
       let kept_own : kept_in (settled_log c others) (own_slot (settled_run c others) slot.stage) ≡ Some post = sym (ap (kept_in (settled_log c others)) slot_is) ∙ e in
-      let own_post_is = (own_posts_settled c others slot.stage post is.widths.round (members-least c is) (checks-name c others check) speaks_own).0 kept_own in
-      subst (λ (s : Slot). ChecksIn c s post) (sym slot_is) (own_check speaks_own own_post_is)
-  | inr other ↦ check slot post (sym (cond-false (slot.sender == c.number) (own_post_at c (course_of c others) slot.stage) (others slot) other)
+      let own_post_is = (own_posts_settled c others slot.stage post is.round (members-least c is) (checks-name c others check) speaks_own).0 kept_own in
+      subst (λ (s : Slot). P s post) (sym slot_is) (own_is speaks_own own_post_is)
+  | inr other ↦ other_is (sym (cond-false (slot.sender == c.number) (own_post_at c (course_of c others) slot.stage) (others slot) other)
       ∙ sym (settled-kept c others slot (kept-speaks c others slot post e)) ∙ e)
 ]
 
-shape-of : (c : Configuration) (others : Others) → IsConfiguration c → IsShape (settled_log c others).shape.version (settled_log c others).shape.members
+shape-of : (c : Configuration) (others : Others) → CanEnter c → IsShape (settled_log c others).shape.version (settled_log c others).shape.members
 unfolding settled_log
 shape-of c others is = shape-is c is
 
@@ -147,36 +146,60 @@ earlier-slot shape stage number slot at lt =
       | inr later ↦ absurd (omega (arith, within, number_is, lt, slots_before-rises shape stage slot.stage later))
     ]
 
--- own posts check, stage by stage
-own-checks : (c : Configuration) (others : Others) (bound stage : ℕ) (post : Post) → IsConfiguration c → OthersCheck c others → stage < bound → is_slot (shape_in c) stage c.number ≡ true
-    → IsOwnPost (settled_run c others) stage post → ChecksIn c (own_slot (settled_run c others) stage) post
-own-checks c others zero stage post is check lt speaks own = absurd (omega (arith, lt))
-own-checks c others (suc bound) stage post is check lt speaks own =
+-- the own posts read, stage by stage
+own-reads : (c : Configuration) (others : Others) (bound stage : ℕ) (post : Post) → CanEnter c → OthersCheck c others → stage < bound → is_slot (shape_in c) stage c.number ≡ true
+    → IsOwnPost (settled_run c others) stage post → ReadsIn c (own_slot (settled_run c others) stage) post
+own-reads c others zero stage post is check lt speaks own = absurd (omega (arith, lt))
+own-reads c others (suc bound) stage post is check lt speaks own =
     let length_is = past-length c others stage own.past own.before in
     let can : CanSay c stage own.past = record {
-      config = is;
+      enter = is;
       speaks = speaks;
       past_is = record {
         whole = length_is;
-        checks = λ number slot kept at stands. (
+        reads = λ number slot kept at stands. (
             let within = slice_get_within own.past number kept stands in
             let earlier = earlier-slot (shape_in c) stage number slot at (omega (arith, within, length_is)) in
-            kept-if-own c others slot kept is check (λ speaks_there own_there. own-checks c others bound slot.stage kept is check (omega (arith, earlier, lt)) speaks_there own_there)
+            kept-if-own c others (ReadsIn c) slot kept is check (λ other. checks-read c slot kept (check slot kept other))
+            (λ speaks_there own_there. own-reads c others bound slot.stage kept is check (omega (arith, earlier, lt)) speaks_there own_there)
             (past-kept c others stage number own.past slot kept own.before at stands));
       };
     } in
-    subst (ChecksIn c (own_slot (settled_run c others) stage)) (sym own.said) (own_post_checks c stage own.past can own.goes)
+    subst (ReadsIn c (own_slot (settled_run c others) stage)) (sym own.said) (own_post_reads c stage own.past can own.goes)
+
+pub own_posts_read : OwnPostsRead
+own_posts_read c others is check stage post speaks own = own-reads c others (suc stage) stage post is check (omega arith) speaks own
+
+pub settled_posts_read : SettledPostsRead
+settled_posts_read c others is check slot post e =
+    kept-if-own c others (ReadsIn c) slot post is check (λ other. checks-read c slot post (check slot post other))
+    (λ speaks own. own_posts_read c others is check slot.stage post speaks own) e
+
+-- a member can say what it has to say at a stage over what its log keeps before it
+own-can : (c : Configuration) (others : Others) (stage : ℕ) (post : Post) → CanEnter c → OthersCheck c others → is_slot (shape_in c) stage c.number ≡ true
+    → (own : IsOwnPost (settled_run c others) stage post) → CanSay c stage own.past
+own-can c others stage post is check speaks own = record {
+  enter = is;
+  speaks = speaks;
+  past_is = record {
+    whole = past-length c others stage own.past own.before;
+    reads = λ number slot kept at stands. settled_posts_read c others is check slot kept (past-kept c others stage number own.past slot kept own.before at stands);
+  };
+}
 
 pub own_posts_check : OwnPostsCheck
-own_posts_check c others is check stage post speaks own = own-checks c others (suc stage) stage post is check (omega arith) speaks own
+own_posts_check c others is check stage post speaks own =
+    subst (ChecksIn c (own_slot (settled_run c others) stage)) (sym own.said)
+    (own_post_checks c stage own.past is (own-can c others stage post is.enter check speaks own) own.goes)
 
 kept-checks : (c : Configuration) (others : Others) (slot : Slot) (post : Post) → IsConfiguration c → OthersCheck c others → kept_in (settled_log c others) slot ≡ Some post → ChecksIn c slot post
-kept-checks c others slot post is check e = kept-if-own c others slot post is check (λ speaks own. own_posts_check c others is check slot.stage post speaks own) e
+kept-checks c others slot post is check e =
+    kept-if-own c others (ChecksIn c) slot post is.enter check (check slot post) (λ speaks own. own_posts_check c others is check slot.stage post speaks own) e
 
 -- ---- honest runs
 
-settled-is_log : (c : Configuration) (others : Others) → IsConfiguration c → OthersCheck c others → IsLog (settled_log c others)
-settled-is_log c others is check = record { shape = shape-of c others is; places = places-of c others; contents = λ k d lt. each k d lt (slice_get (slots_of (shape_in c)) k) refl }
+pub settled_is_log : SettledIsLog
+settled_is_log c others is check = record { shape = shape-of c others is; places = places-of c others; contents = λ k d lt. each k d lt (slice_get (slots_of (shape_in c)) k) refl }
   where
     each : (k : ℕ) (d : Option Post) → k < length (settled_log c others).posts → (o : Option Slot) → slice_get (slots_of (shape_in c)) k ≡ o
         → IfSome (slice_index_or (settled_log c others).posts k d) (λ (post : Post). IsKept post.content)
@@ -185,15 +208,15 @@ settled-is_log c others is check = record { shape = shape-of c others is; places
         let at = slot_at-is (shape_in c) k slot e in
         let there = place-is c others k d slot e in
         subst (λ (o : Option Post). IfSome o (λ (post : Post). IsKept post.content)) (sym (there ∙ sym (settled-kept c others slot at.0)))
-        (kept-if (kept_in (settled_log c others) slot) (λ post kept. checked-kept c slot post (kept-checks c others slot post is check kept)))
+        (kept-if (kept_in (settled_log c others) slot) (λ post kept. read-kept c slot post (settled_posts_read c others is check slot post kept)))
 
 pub settled_run_is_honest : SettledRunIsHonest
 settled_run_is_honest c others is check = record {
   config = is;
-  log = settled-is_log c others is check;
+  log = settled_is_log c others is.enter check;
   shape = shape-same c others;
   posts = λ slot post e. kept-checks c others slot post is check e;
-  own = λ stage post e. (own_posts_settled c others stage post is.widths.round (members-least c is) (checks-name c others check) (kept-speaks c others (own_slot (settled_run c others) stage) post e)).0 e;
+  own = λ stage post e. (own_posts_settled c others stage post is.enter.round (members-least c is.enter) (checks-name c others check) (kept-speaks c others (own_slot (settled_run c others) stage) post e)).0 e;
 }
 
 -- the deliveries that count are bytes

@@ -1,4 +1,4 @@
--- What a member says checks, and stands in its slot.
+-- What a member says reads in its slot, and checks where its key is the roster's.
 use Rattle.std.proofs.Common.{◌≡◌, ℕ, zero, suc, ◌+◌, ◌-◌, ◌*◌, ◌<◌, ◌≤◌, Bool, true, List, ◌∷◌, ◌++◌, cond, length, Ok, ap, sym, ◌∙◌, refl, subst, arith, rules}
 use Rattle.std.specs.Prelude.{◌==◌, count_by}
 use Rattle.std.specs.List.{list_all, range_with_len, sum_by}
@@ -13,13 +13,15 @@ use Rattle.phase_message.specs.Grammar.{content_text}
 use Rattle.phase_message.specs.Stages.{is_member, is_slot}
 use Rattle.phase_message.proofs.SlotBounds.{slot-bounds}
 use Rattle.phase_message.proofs.Whole.{content-is_read}
-use Rattle.lms_tree.specs.Secret.{leaves, lms_signature}
+use Rattle.lms_tree.specs.Secret.{leaves, lms_signature, own_public}
+use Rattle.lms_tree.proofs.OwnPaths.{own_signatures_are_valid}
+use Rattle.signed_post.specs.declared.post.TheConstants.{LONGEST_SIGNATURE}
 use Rattle.signed_post.specs.Own.{IsSendable}
 use Rattle.signed_post.proofs.Admits.{admits_exactly}
-use Rattle.signed_post.proofs.Lengths.{own_posts_are_admitted}
+use Rattle.signed_post.proofs.Lengths.{own_posts_are_admitted, valid-short}
 use Rattle.round_spec.specs.Embedded.{slot_named}
-use Rattle.round_spec.specs.OwnRows.{CanSay, OwnPostChecks, content_due}
-use Rattle.round_spec.specs.Runs.{AllGo, ChecksIn}
+use Rattle.round_spec.specs.OwnRows.{CanSay, OwnPostChecks, OwnPostReads, content_due}
+use Rattle.round_spec.specs.Runs.{AllGo, ChecksIn, ReadsIn}
 use Rattle.round_spec.specs.Say.{Configuration, content_with, number_said_before, own_content, own_header, own_post, shape_in}
 use Rattle.round_spec.proofs.Beginnings.{checks-from}
 use Rattle.round_spec.proofs.OwnBytes.{signature-bytes}
@@ -31,14 +33,14 @@ use Rattle.round_spec.proofs.Stopping.{own-header}
 -- ---- twelve leaves are enough
 
 -- how many of the stages of a round of n a member speaks at
-abbrev spoken_of : ℕ → ℕ → ℕ
+abbrev pub spoken_of : ℕ → ℕ → ℕ
 spoken_of n member = count_by (λ stage. is_slot (record { version = 1; members = n }) stage member) (range_with_len 0 (2 * n + 10))
 
 -- of every member of every group it is twelve
 all-twelve : list_all (λ n. list_all (λ member. spoken_of n member == 12) (range_with_len 1 n)) (range_with_len 2 7) ≡ true
 all-twelve = refl
 
-twelve : (n member : ℕ) → 2 ≤ n → n ≤ 8 → 1 ≤ member → member ≤ n → spoken_of n member ≡ 12
+pub twelve : (n member : ℕ) → 2 ≤ n → n ≤ 8 → 1 ≤ member → member ≤ n → spoken_of n member ≡ 12
 twelve n member least most first last =
     let n_place : 2 + (n - 2) ≡ n = omega (arith, least) in
     let member_place : 1 + (member - 1) ≡ member = omega (arith, first) in
@@ -65,7 +67,7 @@ range-split a (suc x) y =
     ∙ ap (λ (b : ℕ). a ∷ (range_with_len (a + 1) x ++ range_with_len b y)) next
 
 -- one that speaks at a stage has spoken at fewer before it than in the whole round
-spoken-before : (p : ℕ → Bool) (stage rest : ℕ) → p stage ≡ true → count_by p (range_with_len 0 stage) < count_by p (range_with_len 0 (stage + suc rest))
+pub spoken-before : (p : ℕ → Bool) (stage rest : ℕ) → p stage ≡ true → count_by p (range_with_len 0 stage) < count_by p (range_with_len 0 (stage + suc rest))
 spoken-before p stage rest speaks =
     let f : ℕ → ℕ = λ x. cond (p x) 1 0 in
     let here : f stage ≡ 1 = ap (λ (b : Bool). cond b 1 0) speaks in
@@ -75,7 +77,7 @@ spoken-before p stage rest speaks =
     ∙ ap (λ (b : ℕ). sum_by f (range_with_len 0 stage) + sum_by f (range_with_len b (suc rest))) at in
     omega (arith, split, sum_by-cons f stage (range_with_len (stage + 1) rest), here)
 
-leaf-left : (c : Configuration) (stage : ℕ) (past : List Post) → CanSay c stage past → c.first + number_said_before c stage < leaves c.key
+pub leaf-left : (c : Configuration) (stage : ℕ) (past : List Post) → CanSay c stage past → c.first + number_said_before c stage < leaves c.key
 unfolding number_said_before
 leaf-left c stage past can =
     let n : ℕ = (shape_in c).members in
@@ -83,12 +85,12 @@ leaf-left c stage past can =
     let rest : ℕ = 2 * n + 9 - stage in
     let lt = (slot-bounds (shape_in c) stage c.number can.speaks).0 in
     let whole : stage + suc rest ≡ 2 * n + 10 = omega (arith, lt) in
-    let shape_is : shape_in c ≡ record { version = 1; members = n } = ap (λ (v : ℕ). record { version = v; members = n }) can.config.roster.version in
+    let shape_is : shape_in c ≡ record { version = 1; members = n } = ap (λ (v : ℕ). record { version = v; members = n }) can.enter.roster.version in
     let fewer = spoken-before (λ (earlier : ℕ). is_slot (shape_in c) earlier c.number) stage rest can.speaks in
     let all : count_by (λ (earlier : ℕ). is_slot (shape_in c) earlier c.number) (range_with_len 0 (stage + suc rest)) ≡ spoken_of n c.number =
     ap (λ (k : ℕ). count_by (λ (earlier : ℕ). is_slot (shape_in c) earlier c.number) (range_with_len 0 k)) whole
     ∙ ap (λ (s : Shape). count_by (λ (earlier : ℕ). is_slot s earlier c.number) (range_with_len 0 (2 * n + 10))) shape_is in
-    let left = can.config.leaves in
+    let left = can.enter.leaves in
     omega (arith, fewer, all, twelve n c.number member.least member.most member.first member.last, left)
 
 -- ---- an own post
@@ -110,8 +112,8 @@ sendable c stage past can goes =
     let member = is-member c stage past can in
     let short = own_content_is_short c stage past can goes in
     record {
-      reads = own-header c past stage can.config.widths.round;
-      version = can.config.roster.version;
+      reads = own-header c past stage can.enter.round;
+      version = can.enter.roster.version;
       group = refl;
       this_round = refl;
       member = is-there (length c.roster.keys) c.number member.first member.last;
@@ -131,18 +133,49 @@ own-post-is : (c : Configuration) (past : List Post) (stage : ℕ)
 unfolding own_post own-signature
 own-post-is c past stage = refl
 
+-- a signature by any key is short enough
+signature-short : (c : Configuration) (stage : ℕ) (past : List Post) → CanSay c stage past → length (own-signature c past stage) ≤ LONGEST_SIGNATURE
+unfolding own-signature
+signature-short c stage past can =
+    let q : ℕ = c.first + number_said_before c stage in
+    valid-short (own_public c.key) (own_content c past stage) (lms_signature c.key q (own_content c past stage))
+    (own_signatures_are_valid c.key q (own_content c past stage) (leaf-left c stage past can))
+
+due-read : (c : Configuration) (stage : ℕ) (past : List Post) → CanSay c stage past
+    → content_read (shape_in c) (own_content c past stage) ≡ Ok (content_due c past stage)
+due-read c stage past can =
+    ap (content_read (shape_in c)) (own-text c past stage) ∙ content-is_read (shape_in c) (content_due c past stage) (own_row_of_grammar c stage past can)
+
+signed-bytes : (c : Configuration) (stage : ℕ) (past : List Post) → IsBytes (own-signature c past stage)
+unfolding own-signature
+signed-bytes c stage past = signature-bytes c.key (c.first + number_said_before c stage) (own_content c past stage)
+
+pub own_post_reads : OwnPostReads
+own_post_reads c stage past can goes =
+    let its = sendable c stage past can goes in
+    let least = its.least in
+    let most = its.most in
+    let short = signature-short c stage past can in
+    subst (ReadsIn c (record { stage = stage; sender = c.number })) (sym (own-post-is c past stage)) (record {
+      content = content_due c past stage;
+      reads = due-read c stage past can;
+      content_bytes = own-content-bytes c stage past can;
+      signature_bytes = signed-bytes c stage past;
+      named = due-slot c past stage;
+      frame = record { least = least; most = omega (arith, most, short) };
+      short = short;
+    })
+
 pub own_post_checks : OwnPostChecks
 unfolding own-signature
-own_post_checks c stage past can goes =
+own_post_checks c stage past is can goes =
     let q : ℕ = c.first + number_said_before c stage in
     let post : Post = record { content = own_content c past stage; signature = own-signature c past stage } in
     let signature : IsBytes (own-signature c past stage) = signature-bytes c.key q (own_content c past stage) in
-    let admitted = own_posts_are_admitted c.roster c.round (own_content c past stage) (own_header c past stage) c.key q (sendable c stage past can goes) can.config.key (leaf-left c stage past can) in
-    let reads : content_read (shape_in c) (own_content c past stage) ≡ Ok (content_due c past stage) =
-    ap (content_read (shape_in c)) (own-text c past stage) ∙ content-is_read (shape_in c) (content_due c past stage) (own_row_of_grammar c stage past can) in
+    let admitted = own_posts_are_admitted c.roster c.round (own_content c past stage) (own_header c past stage) c.key q (sendable c stage past can goes) is.key (leaf-left c stage past can) in
     subst (ChecksIn c (record { stage = stage; sender = c.number })) (sym (own-post-is c past stage)) (record {
       content = content_due c past stage;
-      checks = checks-from c.roster c.round post (own_header c past stage) (content_due c past stage) ((admits_exactly c.roster c.round post (own_header c past stage) signature).1 admitted) reads;
+      checks = checks-from c.roster c.round post (own_header c past stage) (content_due c past stage) ((admits_exactly c.roster c.round post (own_header c past stage) signature).1 admitted) (due-read c stage past can);
       content_bytes = own-content-bytes c stage past can;
       signature_bytes = signature;
       named = due-slot c past stage;

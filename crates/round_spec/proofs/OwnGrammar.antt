@@ -1,4 +1,4 @@
--- What a member says over a past of posts that check is of the grammar.
+-- What a member says over a past of posts that read in their slots is of the grammar.
 use Rattle.std.proofs.Common.{◌≡◌, ℕ, zero, suc, ◌+◌, ◌-◌, ◌*◌, ◌<◌, ◌≤◌, ◌^◌, true, false, List, [], ◌∷◌, ◌++◌, length, map, drop, Option, Some, None, ap, sym, ◌∙◌, refl, subst, arith, inl, inr}
 use Rattle.std.specs.Prelude.{◌⊎◌, Bool, ◌==◌, option_map, if◌then◌else◌}
 use Rattle.std.specs.Int.{to_be_bytes, w64}
@@ -18,7 +18,7 @@ use Rattle.phase_message.specs.declared.post.Post.{Post}
 use Rattle.phase_message.specs.declared.stage.StageKind.{StageKind}
 use Rattle.phase_message.specs.declared.stage.StageKind.TheVariants.{Keys, Submit, Shuffle, Go, Final, Pad, Check, Confirm}
 use Rattle.phase_message.specs.Body.{level}
-use Rattle.phase_message.specs.Grammar.{body_text, flag_text, header_text, kind_number}
+use Rattle.phase_message.specs.Grammar.{OfGrammar, body_text, flag_text, header_text, kind_number}
 use Rattle.phase_message.specs.Kinds.{IsBodyAt}
 use Rattle.phase_message.specs.Post.{post_spelling}
 use Rattle.phase_message.specs.Shape.{Shape}
@@ -40,9 +40,9 @@ use Rattle.go_nogo.specs.Votes.{votes_agree}
 use Rattle.shuffle_blame.specs.Replay.{outer_place}
 use Rattle.round_spec.specs.Slots.{inner_place, items_opened, list_said}
 use Rattle.round_spec.specs.Say.{Configuration, content_with, keys_row, own_body_at, own_body_if, own_content, own_descriptor, own_header, own_key_seed, own_opening, own_order_seed, own_secret, own_submission, pad_for, pads_row, shape_in, turn_over, turn_row}
-use Rattle.round_spec.specs.OwnRows.{CanSay, IsPastAt, OwnRowOfGrammar, content_due}
+use Rattle.round_spec.specs.OwnRows.{CanSay, IsPastAt, OwnRowOfGrammar, RowOfGrammar, content_due}
 use Rattle.round_spec.proofs.OwnBytes.{key-bytes}
-use Rattle.round_spec.proofs.OwnItems.{IsItem, is-member, opened-count, own-submission, sent-pad}
+use Rattle.round_spec.proofs.OwnItems.{IsItem, descriptor-long, is-member, opened-count, own-descriptor-bytes, own-submission, sent-pad}
 use Rattle.round_spec.proofs.PastForms.{AreEntries, list-is, spelled-bytes, spelled-short, stands-there}
 use Rattle.round_spec.proofs.SealedBytes.{all-drop, all-from, all-items, all-map, all-map-from, all-places, all-take, bodies-bytes, bodies-long, flat-bytes, prefixed-bytes}
 use Rattle.round_spec.proofs.Turns.{pad-late, submit-late, turn-at}
@@ -73,10 +73,11 @@ check-is : (c : Configuration) (stage : ℕ) (past : List (List ℕ)) → IsRow 
 unfolding check_row
 check-is c stage past = record { form = tt; bytes = flag-bytes _ }
 
-submit-is : (c : Configuration) (stage shuffle : ℕ) (past : List Post) → CanSay c stage past → kind_of_stage (shape_in c) stage ≡ Some (Submit shuffle)
-    → IsRow c stage (Submit shuffle) (SubmitBody (own_submission c (own_descriptor c (contents_of past)) (contents_of past) shuffle).ciphertext)
-submit-is c stage shuffle past can kind =
-    let is = own-submission c stage past shuffle can (submit-late (shape_in c) stage shuffle kind) in
+submit-is : (c : Configuration) (own : List ℕ) (stage shuffle : ℕ) (past : List Post) → CanSay c stage past → IsItem (36 + 2272 * (shape_in c).members) own
+    → kind_of_stage (shape_in c) stage ≡ Some (Submit shuffle)
+    → IsRow c stage (Submit shuffle) (SubmitBody (own_submission c own (contents_of past) shuffle).ciphertext)
+submit-is c own stage shuffle past can of_own kind =
+    let is = own-submission c own stage past shuffle can of_own (submit-late (shape_in c) stage shuffle kind) in
     record { form = is.long; bytes = is.bytes }
 
 -- ---- turns
@@ -162,30 +163,29 @@ turn-is c stage shuffle k past can kind =
 
 -- ---- pads
 
-pads-are : (c : Configuration) (stage : ℕ) (past : List Post) → CanSay c stage past → kind_of_stage (shape_in c) stage ≡ Some Pad
-    → IsRow c stage Pad (pads_row c (own_descriptor c (contents_of past)) (contents_of past))
+pads-are : (c : Configuration) (own : List ℕ) (stage : ℕ) (past : List Post) → CanSay c stage past → kind_of_stage (shape_in c) stage ≡ Some Pad
+    → IsRow c stage Pad (pads_row c own (contents_of past))
 unfolding pads_row
-pads-are c stage past can kind =
-    let own : List ℕ = own_descriptor c (contents_of past) in
+pads-are c own stage past can kind =
     let opened : List (Option (List ℕ)) = items_opened (shape_in c) (contents_of past) 1 in
     let sent : List ℕ → Option (List ℕ) → List ℕ = pad_for c in
     record {
       form = (
-        all-map (λ pad. length pad ≤ 65536) (pad_for c own) opened (λ entry. (sent-pad c own entry can.config).short),
+        all-map (λ pad. length pad ≤ 65536) (pad_for c own) opened (λ entry. (sent-pad c own entry can.enter).short),
         length-map opened (pad_for c own) ∙ opened-count c stage past can.past_is (pad-late (shape_in c) stage kind),
       );
-      bytes = prefixed-bytes (map (pad_for c own) opened) (all-map IsBytes (pad_for c own) opened (λ entry. (sent-pad c own entry can.config).bytes));
+      bytes = prefixed-bytes (map (pad_for c own) opened) (all-map IsBytes (pad_for c own) opened (λ entry. (sent-pad c own entry can.enter).bytes));
     }
 
 -- ---- closing contents
 
 posts-short : (c : Configuration) (stage : ℕ) (past : List Post) → IsPastAt c stage past → AllByRecursion (λ post. length (post_spelling post) < 2 ^ 32) past
 posts-short c stage past is = all-from (λ post. length (post_spelling post) < 2 ^ 32) past
-    (λ k post at. (let there = stands-there c stage past k post is at in spelled-short c there.slot post there.checks))
+    (λ k post at. (let there = stands-there c stage past k post is at in spelled-short c there.slot post there.reads))
 
 posts-bytes : (c : Configuration) (stage : ℕ) (past : List Post) → IsPastAt c stage past → AllByRecursion (λ post. IsBytes (post_spelling post)) past
 posts-bytes c stage past is = all-from (λ post. IsBytes (post_spelling post)) past
-    (λ k post at. (let there = stands-there c stage past k post is at in spelled-bytes c there.slot post there.checks))
+    (λ k post at. (let there = stands-there c stage past k post is at in spelled-bytes c there.slot post there.reads))
 
 all-posts : (P : List ℕ → Type 0) (posts : List Post) → AllByRecursion (λ post. P (post_spelling post)) posts → AllByRecursion P (written posts)
 all-posts P posts all = all-map-from P post_spelling posts all
@@ -258,60 +258,78 @@ confirm-is c stage past is kind =
 secret-item : (c : Configuration) (label : ℕ) → IsItem 32 (own_secret c label)
 secret-item c label = record { long = (hash_bytes _ _).0; bytes = (hash_bytes _ _).1 }
 
-row-at : (c : Configuration) (stage : ℕ) (past : List Post) (kind : StageKind) → CanSay c stage past → kind_of_stage (shape_in c) stage ≡ Some kind
-    → IsRow c stage kind (own_body_at c (own_descriptor c (contents_of past)) past stage kind)
-row-at c stage past Keys can at = keys-are c stage
-row-at c stage past (Submit shuffle) can at = submit-is c stage shuffle past can at
-row-at c stage past (Shuffle shuffle k) can at = turn-is c stage shuffle k past can at
-row-at c stage past (Go shuffle) can at = go-is c stage shuffle (contents_of past) _
-row-at c stage past (Final shuffle) can at =
+row-at : (c : Configuration) (own : List ℕ) (stage : ℕ) (past : List Post) (kind : StageKind) → CanSay c stage past → IsItem (36 + 2272 * (shape_in c).members) own
+    → kind_of_stage (shape_in c) stage ≡ Some kind → IsRow c stage kind (own_body_at c own past stage kind)
+row-at c own stage past Keys can is at = keys-are c stage
+row-at c own stage past (Submit shuffle) can is at = submit-is c own stage shuffle past can is at
+row-at c own stage past (Shuffle shuffle k) can is at = turn-is c stage shuffle k past can at
+row-at c own stage past (Go shuffle) can is at = go-is c stage shuffle (contents_of past) _
+row-at c own stage past (Final shuffle) can is at =
     final-is c stage shuffle past (own_key_seed c (inner_place shuffle)) (own_key_seed c (outer_place shuffle)) (own_opening c shuffle 2) can.past_is at
     (secret-item c (inner_place shuffle + 1)) (secret-item c (outer_place shuffle + 1)) (secret-item c (5 + 2 * shuffle + 2))
-row-at c stage past Pad can at = pads-are c stage past can at
-row-at c stage past Check can at = check-is c stage (contents_of past)
-row-at c stage past Confirm can at = confirm-is c stage past can.past_is at
+row-at c own stage past Pad can is at = pads-are c own stage past can at
+row-at c own stage past Check can is at = check-is c stage (contents_of past)
+row-at c own stage past Confirm can is at = confirm-is c stage past can.past_is at
 
--- the own body, of the kind of its stage
-pub record OwnBody (c : Configuration) (stage : ℕ) (past : List Post) : Type 0 where
+-- the own body, of the kind of its stage, where the own descriptor has these bytes
+pub record OwnBody (c : Configuration) (own : List ℕ) (stage : ℕ) (past : List Post) : Type 0 where
   pub kind : StageKind
   pub at : kind_of_stage (shape_in c) stage ≡ Some kind
-  pub row : IsRow c stage kind (content_due c past stage).body
+  pub row : IsRow c stage kind (content_with c own past stage).body
 
-pub own-body : (c : Configuration) (stage : ℕ) (past : List Post) → CanSay c stage past → OwnBody c stage past
+body-with : (c : Configuration) (own : List ℕ) (stage : ℕ) (past : List Post) → CanSay c stage past → IsItem (36 + 2272 * (shape_in c).members) own
+    → OwnBody c own stage past
 unfolding content_with
-own-body c stage past can = by_kind (kind_of_stage (shape_in c) stage) refl
+body-with c own stage past can is = by_kind (kind_of_stage (shape_in c) stage) refl
   where
-    by_kind : (o : Option StageKind) → kind_of_stage (shape_in c) stage ≡ o → OwnBody c stage past
+    by_kind : (o : Option StageKind) → kind_of_stage (shape_in c) stage ≡ o → OwnBody c own stage past
     by_kind None e = absurd (let silent = sym (ap (λ (o : Option StageKind). speaks (shape_in c) o c.number) e) ∙ can.speaks in cc)
     by_kind (Some kind) e = record {
       kind = kind;
       at = e;
-      row = subst (IsRow c stage kind) (sym (ap (own_body_if c (own_descriptor c (contents_of past)) past stage) e)) (row-at c stage past kind can e);
+      row = subst (IsRow c stage kind) (sym (ap (own_body_if c own past stage) e)) (row-at c own stage past kind can is e);
     }
+
+-- the descriptor that a member makes is as long as one of the group
+own-made : (c : Configuration) (stage : ℕ) (past : List Post) → CanSay c stage past → IsItem (36 + 2272 * (shape_in c).members) (own_descriptor c (contents_of past))
+own-made c stage past can = record {
+  long = descriptor-long c (contents_of past) can.enter (is-member c stage past can);
+  bytes = own-descriptor-bytes c (contents_of past);
+}
+
+pub own-body : (c : Configuration) (stage : ℕ) (past : List Post) → CanSay c stage past → OwnBody c (own_descriptor c (contents_of past)) stage past
+own-body c stage past can = body-with c (own_descriptor c (contents_of past)) stage past can (own-made c stage past can)
 
 pub view-hash : (shape : Shape) (past : List (List ℕ)) (stage : ℕ) → (length (view_of shape past stage) ≡ 32) × IsBytes (view_of shape past stage)
 view-hash shape past zero = hash_bytes View []
 view-hash shape past (suc stage) = hash_bytes View _
 
-pub own_row_of_grammar : OwnRowOfGrammar
+of-grammar : (c : Configuration) (own : List ℕ) (stage : ℕ) (past : List Post) → CanSay c stage past → IsItem (36 + 2272 * (shape_in c).members) own
+    → OfGrammar (shape_in c) (content_with c own past stage)
 unfolding content_with
-own_row_of_grammar c stage past can =
-    let own = own-body c stage past can in (
+of-grammar c own stage past can is =
+    let said = body-with c own stage past can is in (
       record {
         version_is = refl;
         group_long = (hash_bytes _ _).0;
-        round_small = can.config.widths.round;
+        round_small = can.enter.round;
         slot_is = can.speaks;
         view_long = (view-hash (shape_in c) (contents_of past) stage).0;
       },
-      (bodies_are_of_kinds (shape_in c) stage own.kind (content_due c past stage).body own.at).1 own.row.form,
+      (bodies_are_of_kinds (shape_in c) stage said.kind (content_with c own past stage).body said.at).1 said.row.form,
     )
+
+pub row_of_grammar : RowOfGrammar
+row_of_grammar c own stage past can long bytes = of-grammar c own stage past can (record { long = long; bytes = bytes })
+
+pub own_row_of_grammar : OwnRowOfGrammar
+own_row_of_grammar c stage past can = of-grammar c (own_descriptor c (contents_of past)) stage past can (own-made c stage past can)
 
 -- ---- its bytes
 
 header-bytes : (c : Configuration) (stage : ℕ) (past : List Post) → CanSay c stage past → IsBytes (header_text (own_header c past stage))
 header-bytes c stage past can =
-    let version : c.roster.version < 256 = omega (arith, can.config.roster.version) in
+    let version : c.roster.version < 256 = omega (arith, can.enter.roster.version) in
     let member = is-member c stage past can in
     let last = member.last in
     let most = member.most in

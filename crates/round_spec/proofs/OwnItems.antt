@@ -1,4 +1,4 @@
--- What a member submits, and the pads that it sends, over a past of posts that check.
+-- What a member submits, and the pads that it sends, over a past of posts that read in their slots.
 use Rattle.std.proofs.Common.{◌≡◌, ℕ, ◌+◌, ◌-◌, ◌*◌, ◌<◌, ◌≤◌, true, false, List, [], ◌∷◌, length, get_or, map, Option, Some, None, sym, ◌∙◌, refl, subst, arith, inl, inr}
 use Rattle.std.specs.Prelude.{◌⊎◌, All, ◌==◌, bytes_eq, option_map, option_and_then, unwrap_or, slice_index_or, if◌then◌else◌}
 use Rattle.std.specs.List.{enumerate_from}
@@ -36,7 +36,7 @@ use Rattle.shuffle_blame.specs.Replay.{outer_place}
 use Rattle.round_spec.specs.Slots.{bulk_place, descriptors_opened, entries_opened, inner_place, items_opened, key_said, keys_said, list_said, pads_sent, seeds_revealed, slots_of_past}
 use Rattle.round_spec.specs.Say.{Configuration, own_description, own_descriptor, own_item, own_key_seed, own_layer_seeds, own_opening, own_pad_seeds, own_submission, pad_for, shape_in}
 use Rattle.round_spec.specs.OwnRows.{CanSay, IsPastAt}
-use Rattle.round_spec.specs.Runs.{IsConfiguration}
+use Rattle.round_spec.specs.Runs.{CanEnter}
 use Rattle.round_spec.proofs.PastForms.{list-is}
 use Rattle.round_spec.proofs.SealedBytes.{descriptor-bytes, own-pad-bytes, pad-bytes, wrapping-bytes, zero-bytes}
 
@@ -51,7 +51,7 @@ pub record IsMember (c : Configuration) : Type 0 where
 pub is-member : (c : Configuration) (stage : ℕ) (past : List Post) → CanSay c stage past → IsMember c
 is-member c stage past can =
     let bounds = slot-bounds (shape_in c) stage c.number can.speaks in
-    record { first = bounds.1; last = bounds.2; least = can.config.roster.least; most = can.config.roster.most }
+    record { first = bounds.1; last = bounds.2; least = can.enter.roster.least; most = can.enter.roster.most }
 
 -- ---- the own descriptor
 
@@ -61,7 +61,7 @@ keys-count c past place = length-map-range_with_len (key_said (shape_in c) past 
 seeds-count : (c : Configuration) → length (own_pad_seeds c) ≡ (shape_in c).members
 seeds-count c = length-map-range_with_len (derived c.fresh c.round 12) 1 (shape_in c).members
 
-can-make : (c : Configuration) (past : List (List ℕ)) → IsConfiguration c → IsMember c
+can-make : (c : Configuration) (past : List (List ℕ)) → CanEnter c → IsMember c
     → CanMake (shape_in c).members (keys_said (shape_in c) past bulk_place) (own_pad_seeds c) c.number c.message
 can-make c past is member =
     let most = member.most in record {
@@ -74,7 +74,7 @@ can-make c past is member =
       short = is.message;
     }
 
-pub descriptor-long : (c : Configuration) (past : List (List ℕ)) → IsConfiguration c → IsMember c
+pub descriptor-long : (c : Configuration) (past : List (List ℕ)) → CanEnter c → IsMember c
     → length (own_descriptor c past) ≡ 36 + 2272 * (shape_in c).members
 unfolding own_descriptor
 descriptor-long c past is member =
@@ -182,35 +182,36 @@ states-named c past =
 item_size : Configuration → ℕ → ℕ
 item_size c shuffle = if shuffle == 1 then 36 + 2272 * (shape_in c).members else 34
 
-own-item : (c : Configuration) (stage : ℕ) (past : List Post) (shuffle : ℕ) → CanSay c stage past → ((shuffle == 1) ≡ false → (shape_in c).members + 1 < stage)
-    → IsItem (item_size c shuffle) (own_item c (own_descriptor c (contents_of past)) (contents_of past) shuffle)
+own-item : (c : Configuration) (own : List ℕ) (stage : ℕ) (past : List Post) (shuffle : ℕ) → CanSay c stage past → IsItem (36 + 2272 * (shape_in c).members) own
+    → ((shuffle == 1) ≡ false → (shape_in c).members + 1 < stage)
+    → IsItem (item_size c shuffle) (own_item c own (contents_of past) shuffle)
 unfolding own_item item_size
-own-item c stage past shuffle can late = by_shuffle (cases_Bool (shuffle == 1))
+own-item c own stage past shuffle can is late = by_shuffle (cases_Bool (shuffle == 1))
   where
     contents : List (List ℕ)
     contents = contents_of past
 
     by_shuffle : ((shuffle == 1) ≡ true) ⊎ ((shuffle == 1) ≡ false) → IsItem (if shuffle == 1 then 36 + 2272 * (shape_in c).members else 34)
-        (if shuffle == 1 then own_descriptor c (contents_of past)
-        else item_row (own_descriptor c (contents_of past)) (items_opened (shape_in c) (contents_of past) 1) (slots_of_past (shape_in c) (contents_of past)) (own_pad_seeds c))
-    by_shuffle (inl a) = rw a (record { long = descriptor-long c (contents_of past) can.config (is-member c stage past can); bytes = own-descriptor-bytes c (contents_of past) })
-    by_shuffle (inr b) = rw b (item-row (shape_in c).members (own_descriptor c (contents_of past)) (items_opened (shape_in c) (contents_of past) 1) (slots_of_past (shape_in c) (contents_of past)) (own_pad_seeds c)
+        (if shuffle == 1 then own
+        else item_row own (items_opened (shape_in c) (contents_of past) 1) (slots_of_past (shape_in c) (contents_of past)) (own_pad_seeds c))
+    by_shuffle (inl a) = rw a is
+    by_shuffle (inr b) = rw b (item-row (shape_in c).members own (items_opened (shape_in c) (contents_of past) 1) (slots_of_past (shape_in c) (contents_of past)) (own_pad_seeds c)
         (is-member c stage past can).most (states-count c (contents_of past) ∙ opened-count c stage past can.past_is (late b)) (states-named c (contents_of past)) (seed-item c))
 
 layers-count : (c : Configuration) (shuffle side : ℕ) → length (own_layer_seeds c shuffle side) ≡ (shape_in c).members
 layers-count c shuffle side = (seeds_are_messages (own_opening c shuffle side) c.round shuffle side c.number (shape_in c).members).0
 
-pub own-submission : (c : Configuration) (stage : ℕ) (past : List Post) (shuffle : ℕ) → CanSay c stage past
-    → ((shuffle == 1) ≡ false → (shape_in c).members + 1 < stage)
-    → IsItem (level (shape_in c).members shuffle 0) (own_submission c (own_descriptor c (contents_of past)) (contents_of past) shuffle).ciphertext
+pub own-submission : (c : Configuration) (own : List ℕ) (stage : ℕ) (past : List Post) (shuffle : ℕ) → CanSay c stage past
+    → IsItem (36 + 2272 * (shape_in c).members) own → ((shuffle == 1) ≡ false → (shape_in c).members + 1 < stage)
+    → IsItem (level (shape_in c).members shuffle 0) (own_submission c own (contents_of past) shuffle).ciphertext
 unfolding own_submission item_size
-own-submission c stage past shuffle can late =
+own-submission c own stage past shuffle can of_own late =
     let n : ℕ = (shape_in c).members in
     let contents : List (List ℕ) = contents_of past in
     let inner : List (List ℕ) = keys_said (shape_in c) (contents_of past) (inner_place shuffle) in
     let outer : List (List ℕ) = keys_said (shape_in c) (contents_of past) (outer_place shuffle) in
-    let item : List ℕ = own_item c (own_descriptor c (contents_of past)) (contents_of past) shuffle in
-    let is = own-item c stage past shuffle can late in
+    let item : List ℕ = own_item c own (contents_of past) shuffle in
+    let is = own-item c own stage past shuffle can of_own late in
     let inner_count = keys-count c (contents_of past) (inner_place shuffle) in
     let outer_count = keys-count c (contents_of past) (outer_place shuffle) in
     let adds = submission_adds inner outer (own_layer_seeds c shuffle 1) (own_layer_seeds c shuffle 2) item (inner_count ∙ sym (layers-count c shuffle 1)) (outer_count ∙ sym (layers-count c shuffle 2)) in
@@ -270,10 +271,10 @@ row-pad n own kept member seed entry is = elim (cases_Bool (bytes_eq entry own))
 ]
 
 -- the pad that it sends for an entry
-pub sent-pad : (c : Configuration) (own : List ℕ) (entry : Option (List ℕ)) → IsConfiguration c → IsPad (pad_for c own entry)
+pub sent-pad : (c : Configuration) (own : List ℕ) (entry : Option (List ℕ)) → CanEnter c → IsPad (pad_for c own entry)
 sent-pad c own None is = no-pad
 sent-pad c own (Some entry) is = row-pad (shape_in c).members own (own_pad (own_pad_seeds c) c.number c.message) c.number (own_key_seed c bulk_place) entry
     (record {
       short = (let few = is.message in omega (arith, few, length-own_pad (own_pad_seeds c) c.number c.message));
-      bytes = own-pad-bytes (own_pad_seeds c) c.number c.message is.widths.message_bytes;
+      bytes = own-pad-bytes (own_pad_seeds c) c.number c.message is.bytes;
     })

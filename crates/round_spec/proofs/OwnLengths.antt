@@ -6,7 +6,7 @@ use Rattle.std.specs.List.{AllByRecursion, flat_map, slice_get}
 use Rattle.std.proofs.lemmas.Bool.{cases_Bool, cases_eq, cases_lt, cond-false, cond-true}
 use Rattle.std.proofs.lemmas.Grind.{flat_map-append}
 use Rattle.std.proofs.lemmas.Nat.{mul-le}
-use Rattle.std.proofs.lemmas.List.{drop-map, length-drop, length-map, length-take-le, map-append, take-map, take_all}
+use Rattle.std.proofs.lemmas.List.{drop-map, length-drop, length-map, length-take-le, take-map, take_all}
 use Rattle.wire_core.specs.Bytes.{IsBytes, prefixed}
 use Rattle.wire_core.proofs.ByteLists.{IsBytes-back, IsBytes-front, hash_bytes}
 use Rattle.phase_message.specs.declared.content.Body.{Body}
@@ -28,14 +28,13 @@ use Rattle.phase_message.proofs.Lengths.{fixed-length, pads-length, turn-length}
 use Rattle.phase_message.proofs.SlotBounds.{slot-bounds}
 use Rattle.phase_message.proofs.SlotLists.{slot_at-is, slot_number-within, slots_before-rises}
 use Rattle.phase_message.proofs.Whole.{length-header_text}
-use Rattle.signed_post.proofs.Lengths.{posts_are_short}
 use Rattle.go_nogo.specs.Closing.{is_assent, posts_embedded}
 use Rattle.go_nogo.specs.Rows.{confirm_row, final_row, posts_at, written}
 use Rattle.go_nogo.specs.Votes.{votes_agree}
 use Rattle.go_nogo.proofs.VoteSlots.{get_drop}
 use Rattle.stage_log.specs.Log.{contents_of}
 use Rattle.round_spec.specs.OwnRows.{CanSay, IsPastAt, OwnContentIsShort, content_due}
-use Rattle.round_spec.specs.Runs.{AllGo, ChecksIn}
+use Rattle.round_spec.specs.Runs.{AllGo, ReadsIn}
 use Rattle.round_spec.specs.Say.{Configuration, content_with, own_body_at, own_body_if, own_content, own_descriptor, own_key_seed, own_opening, shape_in}
 use Rattle.round_spec.specs.Slots.{inner_place}
 use Rattle.shuffle_blame.specs.Replay.{outer_place}
@@ -43,8 +42,8 @@ use Rattle.round_spec.proofs.GoLists.{there}
 use Rattle.round_spec.proofs.AgreedClosings.{ClosingKind, agreed-there, confirm-closes, final-closes, votes-short}
 use Rattle.round_spec.proofs.OwnGrammar.{OwnBody, own-body, own_row_of_grammar}
 use Rattle.round_spec.proofs.OwnItems.{is-member}
-use Rattle.round_spec.proofs.PastForms.{IsSaidIn, checks-admitted, kind-body, said-there, stands-there}
-use Rattle.round_spec.proofs.SealedBytes.{all-from, all-map-from}
+use Rattle.round_spec.proofs.PastForms.{IsSaidIn, kind-body, said-there, spelled-long, stands-there}
+use Rattle.round_spec.proofs.SealedBytes.{all-from}
 use Rattle.std.proofs.lemmas.Option.{slice_get-map, slice_get_within}
 
 -- ---- how long a content is
@@ -170,9 +169,9 @@ short-closing c later number past slot post on at stands lt k said own assents =
 
 post-length : (c : Configuration) (later number : ℕ) (past : List Post) (slot : Slot) (post : Post) (kind : StageKind) → GoesOn c later past
     → slot_at (shape_in c) number ≡ Some slot → slice_get past number ≡ Some post
-    → ChecksIn c slot post → slot.stage < later → kind_of_stage (shape_in c) slot.stage ≡ Some kind → length post.content ≤ longest (shape_in c) kind
-post-length c later number past slot post kind on at stands checks lt kind_is =
-    let said = said-there c slot post checks in
+    → ReadsIn c slot post → slot.stage < later → kind_of_stage (shape_in c) slot.stage ≡ Some kind → length post.content ≤ longest (shape_in c) kind
+post-length c later number past slot post kind on at stands reads lt kind_is =
+    let said = said-there c slot post reads in
     subst (λ (bytes : List ℕ). length bytes ≤ longest (shape_in c) kind) (sym said.spelled) (by_kind said kind kind_is)
   where
     here : (said : IsSaidIn c slot post) (k : StageKind) → kind_of_stage (shape_in c) slot.stage ≡ Some k
@@ -281,7 +280,7 @@ part-long c later stage past items kind on stand lt e =
     let stands = stands-there c later past (a + i) post.0 on.is post.1 in
     let small = found.0 in
     let its_stage : stands.slot.stage ≡ stage = stage-of (shape_in c) stands.slot stage (a + i) stands.at (omega arith) (omega (arith, small, next)) in
-    let long = post-length c later (a + i) past stands.slot post.0 kind on stands.at post.1 stands.checks (omega (arith, its_stage, lt)) (ap (kind_of_stage (shape_in c)) its_stage ∙ e) in
+    let long = post-length c later (a + i) past stands.slot post.0 kind on stands.at post.1 stands.reads (omega (arith, its_stage, lt)) (ap (kind_of_stage (shape_in c)) its_stage ∙ e) in
     omega (arith, long, stand.short (a + i) post.0 item post.1 item_there))) in
     let whole = items-long (9332 + longest (shape_in c) kind) part each in
     omega (arith, whole, ap (λ (n : ℕ). n * (9332 + longest (shape_in c) kind)) count)
@@ -455,7 +454,7 @@ items-whole c stage past items can goes stand =
     let many = stand.many in
     let all : take (slots_before (shape_in c) stage) items ≡ items = take_all (slots_before (shape_in c) stage) items (let whole = can.past_is.whole in omega (arith, whole, many)) in
     let long = before-long c stage stage past items on stand (omega arith) in
-    let most = sum-most (shape_in c) stage can.config.roster.version member.least member.most (slot-bounds (shape_in c) stage c.number can.speaks).0 in
+    let most = sum-most (shape_in c) stage can.enter.roster.version member.least member.most (slot-bounds (shape_in c) stage c.number can.speaks).0 in
     omega (arith, long, most, ap (λ (parts : List (List ℕ)). length (flat_map prefixed parts)) all)
 
 item-same : (a b : List ℕ) → (let told : List ℕ → Option (List ℕ) = λ z. Some z in told a ≡ told b) → a ≡ b
@@ -467,9 +466,9 @@ written-stand c stage past is = record {
   many = length-map past post_spelling;
   short = λ k post item at item_at. (
       let stands = stands-there c stage past k post is at in
-      let admitted = checks-admitted c stands.slot post stands.checks in
       let same : item ≡ post_spelling post = item-same item (post_spelling post) (sym item_at ∙ slice_get-map post_spelling past k ∙ ap (option_map post_spelling) at) in
-      omega (arith, ap length same, posts_are_short c.roster c.round post admitted.0 admitted.1));
+      let short = stands.reads.short in
+      omega (arith, ap length same, short, spelled-long post));
 }
 
 pub whole-past : (c : Configuration) (stage : ℕ) (past : List Post) → CanSay c stage past → AllGo c past stage
@@ -480,7 +479,7 @@ pub own_content_is_short : OwnContentIsShort
 unfolding own_content content_with
 own_content_is_short c stage past can goes = by_kind (own-body c stage past can)
   where
-    by_kind : OwnBody c stage past → length (content_text (content_due c past stage)) ≤ 11539924
+    by_kind : OwnBody c (own_descriptor c (contents_of past)) stage past → length (content_text (content_due c past stage)) ≤ 11539924
     by_kind own = elim (closing-or-open own.kind) [
       | inl closes ↦
           let body : (content_due c past stage).body ≡ own_body_at c (own_descriptor c (contents_of past)) past stage own.kind = ap (own_body_if c (own_descriptor c (contents_of past)) past stage) own.at in

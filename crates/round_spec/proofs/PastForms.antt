@@ -1,4 +1,4 @@
--- What stands in the slots of a past of posts that check.
+-- What stands in the slots of a past of posts that read there.
 use Rattle.std.proofs.Common.{◌≡◌, ℕ, zero, suc, ◌+◌, ◌<◌, ◌≤◌, ◌^◌, true, List, [], ◌∷◌, ◌++◌, length, get_or, length-append, map, Option, Some, Ok, ap, sym, ◌∙◌, refl, subst, arith, rules}
 use Rattle.std.specs.Prelude.{option_map}
 use Rattle.std.specs.Int.{to_be_bytes, w32}
@@ -29,12 +29,13 @@ use Rattle.phase_message.proofs.SlotLists.{length-slots_of, slot_at-number, slot
 use Rattle.phase_message.proofs.Whole.{content-is_spelled}
 use Rattle.signed_post.specs.Admission.{Admitted}
 use Rattle.signed_post.proofs.Admits.{admits_exactly}
+use Rattle.signed_post.proofs.Lengths.{posts_are_short}
 use Rattle.stage_log.specs.Log.{contents_of}
 use Rattle.shuffle_blame.specs.Replay.{body_of, ciphertext_of, list_of}
 use Rattle.round_spec.specs.Slots.{list_said, said_in, submissions_said, submit_stage}
 use Rattle.round_spec.specs.Say.{Configuration, shape_in}
 use Rattle.round_spec.specs.OwnRows.{IsPastAt}
-use Rattle.round_spec.specs.Runs.{ChecksIn}
+use Rattle.round_spec.specs.Runs.{ChecksIn, ReadsIn}
 use Rattle.round_spec.proofs.GoLists.{there}
 use Rattle.round_spec.proofs.Rows.{checks-parts}
 use Rattle.round_spec.proofs.SealedBytes.{bytes-flat}
@@ -46,14 +47,14 @@ use Rattle.round_spec.proofs.Turns.{IsShuffle, submit-kind, turn-kind}
 pub record StandsThere (c : Configuration) (number : ℕ) (post : Post) : Type 0 where
   pub slot : Slot
   pub at : slot_at (shape_in c) number ≡ Some slot
-  pub checks : ChecksIn c slot post
+  pub reads : ReadsIn c slot post
 
 pub stands-there : (c : Configuration) (stage : ℕ) (past : List Post) (number : ℕ) (post : Post) → IsPastAt c stage past
     → slice_get past number ≡ Some post → StandsThere c number post
 stands-there c stage past number post is at =
     let within = slice_get_within past number post at in
     let slot = there (slots_of (shape_in c)) number (omega (arith, within, is.whole, slots_before-most (shape_in c) stage, length-slots_of (shape_in c))) in
-    record { slot = slot.0; at = slot.1; checks = is.checks number slot.0 post slot.1 at }
+    record { slot = slot.0; at = slot.1; reads = is.reads number slot.0 post slot.1 at }
 
 -- a post that checks is admitted
 pub checks-admitted : (c : Configuration) (slot : Slot) (post : Post) → ChecksIn c slot post → (header : Header) × Admitted c.roster c.round post header
@@ -66,11 +67,26 @@ spelled-long post =
     let head = to_be_bytes w32 (length post.content) in
     omega (arith, length-append (head ++ post.content) post.signature, length-append head post.content)
 
--- its spelling has its length in four bytes
-pub spelled-short : (c : Configuration) (slot : Slot) (post : Post) → ChecksIn c slot post → length (post_spelling post) < 2 ^ 32
-spelled-short c slot post is = (let most = (checks-admitted c slot post is).1.frame.most in omega (arith, most, spelled-long post))
+-- a post that checks reads in its slot
+pub checks-read : (c : Configuration) (slot : Slot) (post : Post) → ChecksIn c slot post → ReadsIn c slot post
+checks-read c slot post is =
+    let parts = checks-parts c.roster c.round post is.content is.checks in
+    let admitted = checks-admitted c slot post is in
+    record {
+      content = is.content;
+      reads = parts.2;
+      content_bytes = is.content_bytes;
+      signature_bytes = is.signature_bytes;
+      named = is.named;
+      frame = admitted.1.frame;
+      short = omega (arith, posts_are_short c.roster c.round post admitted.0 admitted.1, spelled-long post);
+    }
 
-pub spelled-bytes : (c : Configuration) (slot : Slot) (post : Post) → ChecksIn c slot post → IsBytes (post_spelling post)
+-- its spelling has its length in four bytes
+pub spelled-short : (c : Configuration) (slot : Slot) (post : Post) → ReadsIn c slot post → length (post_spelling post) < 2 ^ 32
+spelled-short c slot post is = (let most = is.frame.most in omega (arith, most, spelled-long post))
+
+pub spelled-bytes : (c : Configuration) (slot : Slot) (post : Post) → ReadsIn c slot post → IsBytes (post_spelling post)
 spelled-bytes c slot post is =
     let head : List ℕ = to_be_bytes w32 (length post.content) in
     IsBytes-append (head ++ post.content) post.signature (IsBytes-append head post.content (IsBytes-to_be_bytes w32 (length post.content)) is.content_bytes) is.signature_bytes
@@ -84,14 +100,13 @@ pub record IsSaidIn (c : Configuration) (slot : Slot) (post : Post) : Type 0 whe
   pub stage : content.header.stage ≡ slot.stage
   pub body_bytes : IsBytes (body_text content.body)
 
-pub said-there : (c : Configuration) (slot : Slot) (post : Post) → ChecksIn c slot post → IsSaidIn c slot post
+pub said-there : (c : Configuration) (slot : Slot) (post : Post) → ReadsIn c slot post → IsSaidIn c slot post
 said-there c slot post is =
-    let parts = checks-parts c.roster c.round post is.content is.checks in
-    let spelled = content-is_spelled (shape_in c) post.content is.content is.content_bytes parts.2 in
+    let spelled = content-is_spelled (shape_in c) post.content is.content is.content_bytes is.reads in
     let text : IsBytes (content_text is.content) = subst IsBytes spelled.0 is.content_bytes in
     record {
       content = is.content;
-      reads = parts.2;
+      reads = is.reads;
       spelled = spelled.0;
       grammar = spelled.1;
       stage = ap (λ (s : Slot). s.stage) is.named;
@@ -116,7 +131,7 @@ past-said c later stage member past is speaks_there lt =
     let number : ℕ = slot_number shape stage member in
     let within = (slot_number-within shape stage member speaks_there).1 in
     let found = there past number (omega (arith, is.whole, within, slots_before-rises shape (stage + 1) later (omega arith))) in
-    let said = said-there c (record { stage = stage; sender = member }) found.0 (is.checks number (record { stage = stage; sender = member }) found.0 (slot_at-number shape stage member speaks_there) found.1) in
+    let said = said-there c (record { stage = stage; sender = member }) found.0 (is.reads number (record { stage = stage; sender = member }) found.0 (slot_at-number shape stage member speaks_there) found.1) in
     let text : get_or (contents_of past) number [] ≡ found.0.content =
     get_or_from_slice_get (contents_of past) number found.0.content [] (slice_get-map (λ (p : Post). p.content) past number ∙ ap (option_map (λ (p : Post). p.content)) found.1) in
     record {

@@ -65,7 +65,7 @@ own_row run content honest listed =
           read = checks.content;
           grammar = spelled.1;
           spelled = sym is ∙ spelled.0;
-          header = ap header_of said ∙ own-header run.config own.past stage honest.config.widths.round;
+          header = ap header_of said ∙ own-header run.config own.past stage honest.config.enter.round;
         }
 
 posts-same : (x y : List Post) → (let told : List Post → Option (List Post) = λ z. Some z in told x ≡ told y) → x ≡ y

@@ -1,8 +1,7 @@
 -- Whose posts are missing: of whom no delivered string is the post file of the slot.
 use Rattle.std.proofs.Common.{◌≡◌, ◌≢◌, ℕ, true, false, List, [], ◌∷◌, map, Option, Some, None, Result, Ok, ap, sym, ◌∙◌, refl, subst, inl, inr}
-use Rattle.std.specs.Prelude.{◌==◌, All, Contains, bytes_eq, is_ok, ◌&&◌, option_and_then}
-use Rattle.std.specs.Result.{result_ok}
-use Rattle.std.proofs.lemmas.Bool.{cond-false, cond-true, eq-eqb, eqb-true, false_from_ne_true}
+use Rattle.std.specs.Prelude.{◌==◌, Contains}
+use Rattle.std.proofs.lemmas.Bool.{eq-eqb, eqb-true, false_from_ne_true}
 use Rattle.std.proofs.lemmas.List.Elements.{All-contains}
 use Rattle.std.proofs.lemmas.Option.{none-some}
 use Rattle.wire_core.specs.declared.cursor.Short.{Short}
@@ -13,16 +12,15 @@ use Rattle.phase_message.specs.declared.header.Header.{Header}
 use Rattle.phase_message.specs.declared.post.Post.{Post}
 use Rattle.phase_message.specs.declared.stage.Slot.{Slot}
 use Rattle.phase_message.specs.Header.{header_of}
-use Rattle.phase_message.specs.Offence.{content_read}
 use Rattle.phase_message.proofs.Whole.{content-header}
-use Rattle.signed_post.specs.Admission.{Admitted, framed_admission_of}
+use Rattle.signed_post.specs.Admission.{Admitted}
 use Rattle.signed_post.specs.Frame.{frame_of}
 use Rattle.signed_post.proofs.Admits.{admit-again}
 use Rattle.signed_post.proofs.Frames.{framed-again, framed-found}
 use Rattle.round_spec.specs.Embedded.{names_slot, slot_named}
 use Rattle.round_spec.specs.Given.{MissingAreUnheard}
 use Rattle.round_spec.specs.Justified.{IsPostOf}
-use Rattle.round_spec.specs.Result.{Heard, first_posts, heard_in, heard_of, heard_of_post, heard_with, post_given}
+use Rattle.round_spec.specs.Result.{first_posts, heard_of, post_given}
 use Rattle.round_spec.specs.Say.{Configuration, shape_in}
 use Rattle.round_spec.proofs.Contained.{contains-cases, contains-nothing}
 use Rattle.round_spec.proofs.Given.{first_posts_delivered}
@@ -31,11 +29,11 @@ use Rattle.round_spec.proofs.Rows.{checks-parts}
 header-same : (a b : Header) (r : Result Header Short) → r ≡ Ok a → r ≡ Ok b → a ≡ b
 header-same a b r e e' = let both = sym e ∙ e' in cc
 
-names-self : (header : Header) → names_slot (slot_named header) header ≡ true
+pub names-self : (header : Header) → names_slot (slot_named header) header ≡ true
 names-self header = rw (eq-eqb header.stage header.stage refl, eq-eqb header.sender header.sender refl) refl
 
 -- the post file of a slot of another member gives it a post
-gives-post : (c : Configuration) (slot : Slot) (bytes : List ℕ) (post : Post) → slot.sender ≢ c.number → IsPostOf c.roster c.round slot bytes post → post_given c slot bytes ≡ Some post
+pub gives-post : (c : Configuration) (slot : Slot) (bytes : List ℕ) (post : Post) → slot.sender ≢ c.number → IsPostOf c.roster c.round slot bytes post → post_given c slot bytes ≡ Some post
 unfolding post_given heard_of
 gives-post c slot bytes post other is =
     let header : Header = is.content.header in
@@ -46,7 +44,7 @@ gives-post c slot bytes post other is =
     let names : names_slot slot is.content.header ≡ true = subst (λ (s : Slot). names_slot s is.content.header ≡ true) is.named (names-self is.content.header) in
     rw (framed, admitted, apart, names, is.reads) refl
 
-none-of : {A B : Type 0} (f : A → Option B) (xs : List A) (x : A) → first_some (map f xs) ≡ None → Contains xs x → f x ≡ None
+pub none-of : {A B : Type 0} (f : A → Option B) (xs : List A) (x : A) → first_some (map f xs) ≡ None → Contains xs x → f x ≡ None
 none-of f [] x e there = absurd (contains-nothing x there)
 none-of {A} {B} f (y ∷ ys) x e there =
     let parts = first_some-none_parts (f y) (map f ys) e in

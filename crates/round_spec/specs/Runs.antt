@@ -1,6 +1,6 @@
 -- Runs of honest members: what a member kept in a round, and what makes it honest; lists of such runs, and what it
 -- means that no signature of theirs was forged.
-use Rattle.std.specs.Prelude.{◌≡◌, ◌≢◌, ℕ, ◌+◌, ◌^◌, ◌<◌, ◌≤◌, ◌⊎◌, List, length, map, take, filter, filter_map, ◌==◌, All, AllPairs, Contains, Some, Ok}
+use Rattle.std.specs.Prelude.{◌≡◌, ◌≢◌, ℕ, ◌+◌, ◌^◌, ◌<◌, ◌≤◌, ◌⊎◌, List, length, map, take, filter, filter_map, ◌==◌, All, AllPairs, Contains, IsTrue, Some, Ok}
 use Rattle.std.specs.List.{flat_map, range_with_len}
 use Rattle.wire_core.specs.Bytes.{IsBytes}
 use Rattle.lms_tree.specs.Secret.{leaves, own_public}
@@ -10,9 +10,12 @@ use Rattle.phase_message.specs.declared.post.Post.{Post}
 use Rattle.phase_message.specs.declared.stage.Slot.{Slot}
 use Rattle.phase_message.specs.Offence.{content_read}
 use Rattle.phase_message.specs.Slots.{slots_before, stage_count}
+use Rattle.phase_message.specs.Stages.{is_member}
+use Rattle.bulk_descriptor.specs.declared.making.TheConstants.{MESSAGE_LIMIT}
 use Rattle.group_roster.specs.Roster.{IsRosterForm, Roster, key_of, shape_of_roster}
 use Rattle.signed_post.specs.Admission.{Admitted, check_of}
-use Rattle.signed_post.specs.Frame.{frame_of}
+use Rattle.signed_post.specs.declared.post.TheConstants.{LONGEST_SIGNATURE}
+use Rattle.signed_post.specs.Frame.{FitsFrame, frame_of}
 use Rattle.stage_log.specs.Log.{before}
 use Rattle.stage_log.specs.Table.{IsLog, Log, kept_in}
 use Rattle.go_nogo.specs.Closing.{IsClosing, posts_embedded}
@@ -24,25 +27,20 @@ use Rattle.round_spec.specs.Result.{log_after}
 
 -- ---- configurations
 
--- the widths of what a member enters a round with
-pub record HasWidths (c : Configuration) : Type 0 where
+-- a member can enter a round: its number is one of a group whose roster is of the form, the round has eight bytes, the
+-- message has at most 65,536 bytes, and twelve leaves are left of its key, which need not be the roster's
+pub record CanEnter (c : Configuration) : Type 0 where
   pub round : c.round < 2 ^ 64
-  pub fresh : length c.fresh ≡ 32
-  pub fresh_bytes : IsBytes c.fresh
-  pub message_bytes : IsBytes c.message
-  pub identifier : length c.key.identifier ≡ 16
-  pub identifier_bytes : IsBytes c.key.identifier
-  pub seed : length c.key.seed ≡ 32
-  pub seed_bytes : IsBytes c.key.seed
-
--- a member that can be honest in a round: the roster is of the form, and has the member's own key under its number; the
--- message has at most 65,536 bytes; and twelve leaves of the key are left for the round
-pub record IsConfiguration (c : Configuration) : Type 0 where
-  pub widths : HasWidths c
+  pub bytes : IsBytes c.message
   pub roster : IsRosterForm c.roster
-  pub key : key_of c.roster c.number ≡ Some (own_public c.key)
-  pub message : length c.message ≤ 65536
+  pub member : IsTrue (is_member (shape_in c).members c.number)
+  pub message : length c.message ≤ MESSAGE_LIMIT
   pub leaves : c.first + 12 ≤ leaves c.key
+
+-- a member that can be honest in a round: it can enter it, and the roster has its key under its number
+pub record IsConfiguration (c : Configuration) : Type 0 where
+  pub enter : CanEnter c
+  pub key : key_of c.roster c.number ≡ Some (own_public c.key)
 
 -- ---- runs
 
@@ -87,6 +85,17 @@ pub record ChecksIn (c : Configuration) (slot : Slot) (post : Post) : Type 0 whe
   pub content_bytes : IsBytes post.content
   pub signature_bytes : IsBytes post.signature
   pub named : slot_named content.header ≡ slot
+
+-- a post reads in a slot, whoever signed it: its body is in the grammar, it stands in the slot, and content and signature
+-- are of a length that can be sent
+pub record ReadsIn (c : Configuration) (slot : Slot) (post : Post) : Type 0 where
+  pub content : Content
+  pub reads : content_read (shape_in c) post.content ≡ Ok content
+  pub content_bytes : IsBytes post.content
+  pub signature_bytes : IsBytes post.signature
+  pub named : slot_named content.header ≡ slot
+  pub frame : FitsFrame post
+  pub short : length post.signature ≤ LONGEST_SIGNATURE
 
 -- a run of an honest member, which may have ended anywhere: what it kept are posts that check, each in its slot, and in
 -- its own slots there is nothing but what it has to say

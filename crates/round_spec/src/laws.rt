@@ -8,7 +8,15 @@ ghost use Rattle.group_roster.specs.Roster.{Roster};
 ghost use Rattle.transcript_form.specs.declared.transcript.Transcript.{Transcript};
 ghost use Rattle.round_spec.specs.Runs.{Run};
 ghost use Rattle.round_spec.specs.Strings.{KeptIsRead, RunHasStrings, TranscriptHasStrings};
-ghost use Rattle.round_spec.specs.Honesty.{OwnPostsCheck, RunAfterIsHonest, SettledRunIsHonest, UnforgedIsSaid};
+ghost use Rattle.round_spec.specs.Honesty.{
+  OwnPostsCheck,
+  OwnPostsRead,
+  RunAfterIsHonest,
+  SettledIsLog,
+  SettledPostsRead,
+  SettledRunIsHonest,
+  UnforgedIsSaid,
+};
 ghost use Rattle.round_spec.specs.Given.{
   FirstPostsDelivered,
   FirstPostsName,
@@ -20,7 +28,7 @@ ghost use Rattle.round_spec.specs.Justified.{FirstBadIsTold, JustifiedExactly, P
 ghost use Rattle.round_spec.specs.Waiting.{InquiryIsOfLog, OpenRoundsWait};
 ghost use Rattle.round_spec.specs.Settled.{OwnPostsSettled};
 ghost use Rattle.round_spec.specs.Beginnings.{BeginningsAreHonest, KeysAreNotForged, ListsAreHonest, NothingIsForged};
-ghost use Rattle.round_spec.specs.OwnRows.{OwnContentIsShort, OwnPostChecks, OwnRowOfGrammar};
+ghost use Rattle.round_spec.specs.OwnRows.{OwnContentIsShort, OwnPostChecks, OwnPostReads, OwnRowOfGrammar, RowOfGrammar};
 ghost use Rattle.round_spec.specs.Rows.{OnePerSlot, OwnRow, RowPast, RunOfContent, RunUnique};
 ghost use Rattle.round_spec.specs.Say.{Configuration};
 ghost use Rattle.round_spec.specs.Reached.{CourseStops, StandsAreReached};
@@ -86,11 +94,14 @@ pub fn row_laws()
     ensures one_per_slot { OnePerSlot }
 {}
 
-/// Whatever a member has to say over a past of posts that check, each in its slot, is of the grammar. If no verdict ended
-/// the round before, it has at most 11,539,924 bytes, and its post checks and stands in its slot.
+/// Whatever a member has to say over a past of posts that read in their slots is of the grammar, with any bytes for its own
+/// descriptor that are as many as in one of the group. If no verdict ended the round before, it has at most 11,539,924
+/// bytes, and its post reads in its slot; where the member's key is the roster's, the post checks there.
 pub fn own_row_laws()
     ensures grammar { OwnRowOfGrammar }
+    ensures any { RowOfGrammar }
     ensures short { OwnContentIsShort }
+    ensures reads { OwnPostReads }
     ensures checks { OwnPostChecks }
 {}
 
@@ -153,9 +164,13 @@ pub fn justified_laws()
     ensures first_bad { FirstBadIsTold }
 {}
 
-/// Where the others' posts check, so does what the member has to say in a course, and the run is honest that any deliveries
-/// make. Where nothing was forged, what is listed of a member with a run was said by it.
+/// Where the others' posts check, all that a member keeps in a course reads in its slots, and what it has to say does. With
+/// the roster's key for its own that checks too, and the run is honest that any deliveries make. Where nothing was forged,
+/// what is listed of a member with a run was said by it.
 pub fn honesty_laws()
+    ensures read { SettledPostsRead }
+    ensures own_reads { OwnPostsRead }
+    ensures log { SettledIsLog }
     ensures own { OwnPostsCheck }
     ensures settled { SettledRunIsHonest }
     ensures after { RunAfterIsHonest }

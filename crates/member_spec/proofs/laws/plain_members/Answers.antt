@@ -1,9 +1,9 @@
-use Rattle.member_spec.proofs.PlainLaws.{honest_comes_to_result, plain_ends_once, plain_posts_are_said, plain_run_is_honest}
+use Rattle.member_spec.proofs.PlainLaws.{plain_comes_to_result, plain_ends_once, plain_posts_are_said, plain_run_is_honest}
 use Rattle.member_spec.proofs.Room.{plain_keeps_at_most}
 use Rattle.member_spec.proofs.laws.plain_members.Goals as goal
 
 pub returns-clause-result : goal.returns-clause-result
-returns-clause-result c = honest_comes_to_result
+returns-clause-result c = plain_comes_to_result
 
 pub returns-clause-honest : goal.returns-clause-honest
 returns-clause-honest c = plain_run_is_honest
