@@ -14,7 +14,7 @@ use Rattle.honest_say.specs.Pasts.{posts_before}
 use Rattle.member_spec.specs.declared.mood.Mood.{Mood}
 use Rattle.member_spec.specs.declared.mood.Mood.TheVariants.{Mute}
 use Rattle.member_spec.specs.Actor.{Actor, actor_after, descriptor_made}
-use Rattle.member_spec.specs.Entering.{CanEnter}
+use Rattle.round_spec.specs.Runs.{CanEnter}
 use Rattle.member_spec.specs.Outcomes.{outcome_of}
 use Rattle.member_spec.specs.Replies.{Replies}
 use Rattle.member_core.specs.declared.config.Config.{Config}
