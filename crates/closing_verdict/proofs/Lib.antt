@@ -1,3 +1,4 @@
 pub mod Charges
 pub mod ClosingPosts
 pub mod PadPosts
+pub mod ClosedStages
