@@ -1,34 +1,31 @@
 -- The posts that a member made, in what its log keeps of it by stage.
-use Rattle.std.proofs.Common.{◌≡◌, ◌⊎◌, ℕ, zero, suc, ◌+◌, ◌-◌, ◌*◌, ◌<◌, ◌≤◌, Bool, true, false, List, [], ◌∷◌, ◌++◌, cond, length, Option, Some, None, ap, sym, ◌∙◌, refl, arith, inl, inr, append-nil}
-use Rattle.std.specs.Prelude.{IsSome, count_by, filter_map, is_some, if◌then◌else◌}
-use Rattle.std.specs.List.{cons_option, range_with_len, slice_get, slice_set}
+use Rattle.std.proofs.Common.{◌≡◌, ◌⊎◌, ℕ, zero, suc, ◌+◌, ◌-◌, ◌*◌, ◌<◌, ◌≤◌, Bool, true, false, List, [], ◌∷◌, ◌++◌, cond, length, Option, Some, None, ap, sym, ◌∙◌, refl, subst, arith, inl, inr, append-nil, eq-eqb}
+use Rattle.std.specs.Prelude.{◌==◌, IsSome, count_by, filter_map, is_some, if◌then◌else◌}
+use Rattle.std.specs.List.{cons_option, list_all, range_with_len, slice_get, slice_set, sum_by}
 use Rattle.std.specs.Option.{option_flatten}
-use Rattle.std.proofs.lemmas.Bool.{cases_Bool, cases_lt, cond-false, cond-true}
+use Rattle.std.proofs.lemmas.Bool.{cases_Bool, cases_lt, cond-false, cond-true, eqb-true}
 use Rattle.std.proofs.lemmas.List.Elements.{filter_map-append}
-use Rattle.std.proofs.lemmas.List.Sums.{sum_by-cons}
+use Rattle.std.proofs.lemmas.Option.{none-some}
+use Rattle.std.proofs.lemmas.List.FromFn.{get_or-range_with_len}
+use Rattle.std.proofs.lemmas.List.Sums.{AllPass-from_list_all, sum_by-append, sum_by-cons}
 use Rattle.phase_message.specs.declared.post.Post.{Post}
 use Rattle.phase_message.specs.declared.stage.Slot.{Slot}
-use Rattle.phase_message.specs.Slots.{slot_number, stage_count}
+use Rattle.phase_message.specs.Shape.{Shape}
+use Rattle.phase_message.specs.Slots.{slot_at, slot_number, stage_count}
 use Rattle.phase_message.specs.Stages.{is_slot}
 use Rattle.phase_message.proofs.SlotBounds.{slot-bounds}
-use Rattle.phase_message.proofs.SlotLists.{slot_number-later}
+use Rattle.phase_message.proofs.SlotLists.{slot_at-number, slot_number-later}
 use Rattle.stage_log.specs.Log.{before}
 use Rattle.stage_log.specs.Table.{IsLog, Log, filled, kept_in}
 use Rattle.stage_log.proofs.Entries.{number-within}
 use Rattle.honest_say.proofs.PastLemmas.{kept-post}
 use Rattle.member_spec.proofs.Moves.{filter-in, filter-none}
+use Rattle.member_core.specs.Membership.{own_posts_kept}
+use Rattle.member_core.specs.Sound.{IsEmptyFrom}
 
 -- what a log keeps of a member at a stage
 abbrev pub own_kept : Log → ℕ → ℕ → Option Post
 own_kept log number stage = kept_in log (record { stage = stage; sender = number })
-
--- all that it keeps of the member, by stage
-abbrev pub own_posts : Log → ℕ → List Post
-own_posts log number = filter_map (own_kept log number) (range_with_len 0 (stage_count log.shape))
-
--- nothing of the member is kept from a stage on
-abbrev pub NothingFrom : Log → ℕ → ℕ → Type 0
-NothingFrom log number stage = (later : ℕ) → stage ≤ later → own_kept log number later ≡ None
 
 -- ---- one slot more is filled
 
@@ -73,6 +70,41 @@ own-here log number at post is speaks =
     cond-true (is_slot log.shape at number) (option_flatten (slice_get (slice_set log.posts k (Some post)) k)) None speaks
     ∙ ap option_flatten (get-same log.posts k (Some post) (number-within log (record { stage = at; sender = number }) is speaks))
 
+-- slots of one number are one
+one-slot : (shape : Shape) (slot other : Slot) → is_slot shape slot.stage slot.sender ≡ true → is_slot shape other.stage other.sender ≡ true
+    → slot_number shape other.stage other.sender ≡ slot_number shape slot.stage slot.sender → other ≡ slot
+one-slot shape slot other speaks other_speaks e =
+    let at : Some other ≡ Some slot = sym (slot_at-number shape other.stage other.sender other_speaks) ∙ ap (slot_at shape) e
+    ∙ slot_at-number shape slot.stage slot.sender speaks in
+    cc
+
+-- what a log keeps once a slot is filled was kept before, or is the post that filled it
+pub kept-cases : (log : Log) (slot other : Slot) (post kept : Post) → IsLog log → is_slot log.shape slot.stage slot.sender ≡ true
+    → kept_in (filled log slot post) other ≡ Some kept → (kept_in log other ≡ Some kept) ⊎ ((other ≡ slot) × (kept ≡ post))
+kept-cases log slot other post kept is speaks e = by_slot (cases_Bool (is_slot log.shape other.stage other.sender))
+  where
+    k : ℕ
+    k = slot_number log.shape slot.stage slot.sender
+
+    number : ℕ
+    number = slot_number log.shape other.stage other.sender
+
+    by_number : is_slot log.shape other.stage other.sender ≡ true → ((number == k) ≡ true) ⊎ ((number == k) ≡ false)
+        → (kept_in log other ≡ Some kept) ⊎ ((other ≡ slot) × (kept ≡ post))
+    by_number there (inl same) =
+        let one = one-slot log.shape slot other speaks there (eqb-true number k same) in
+        let both : Some kept ≡ Some post = sym e ∙ ap (kept_in (filled log slot post)) one ∙ own-here log slot.sender slot.stage post is speaks in
+        inr (one, cc)
+    by_number there (inr apart) =
+        let other_number : number ≡ k → ⊥ = λ same. (let yes = eq-eqb number k same in let both = sym yes ∙ apart in cc) in
+        inl (ap (λ (o : Option (Option Post)). if is_slot log.shape other.stage other.sender then option_flatten o else None)
+        (sym (get-other log.posts k number (Some post) other_number)) ∙ e)
+
+    by_slot : (is_slot log.shape other.stage other.sender ≡ true) ⊎ (is_slot log.shape other.stage other.sender ≡ false)
+        → (kept_in log other ≡ Some kept) ⊎ ((other ≡ slot) × (kept ≡ post))
+    by_slot (inl there) = by_number there (cases_Bool (number == k))
+    by_slot (inr silent) = absurd (none-some kept (sym (cond-false (is_slot log.shape other.stage other.sender) _ None silent) ∙ e))
+
 -- ---- by stage
 
 range-splits : (a m n : ℕ) → range_with_len a (m + n) ≡ range_with_len a m ++ range_with_len (a + m) n
@@ -105,8 +137,9 @@ front-only f at n le none =
     ∙ append-nil (filter_map f (range_with_len 0 at))
 
 -- a post at a stage from which on nothing was kept comes behind all others
-pub one-more : (log : Log) (number at : ℕ) (post : Post) → IsLog log → is_slot log.shape at number ≡ true → NothingFrom log number at
-    → own_posts (filled log (record { stage = at; sender = number }) post) number ≡ own_posts log number ++ post ∷ []
+pub one-more : (log : Log) (number at : ℕ) (post : Post) → IsLog log → is_slot log.shape at number ≡ true → IsEmptyFrom log number at
+    → own_posts_kept (filled log (record { stage = at; sender = number }) post) number ≡ own_posts_kept log number ++ post ∷ []
+unfolding own_posts_kept
 one-more log number at post is speaks none =
     filter-splits f at n lt
     ∙ ap (λ (posts : List Post). posts ++ cons_option (f at) back) (filter-in f g 0 at (λ x from small. own-elsewhere log number at x post speaks (λ e. omega arith)))
@@ -150,8 +183,9 @@ counts f p a (suc n) same =
     omega (arith, one, here, rest, more)
 
 -- where all stages before a stage are complete, a member has spoken before it as often as the round asks
-pub said-before : (log : Log) (number at : ℕ) → IsLog log → IsSome (before log at) → at ≤ stage_count log.shape → NothingFrom log number at
-    → length (own_posts log number) ≡ count_by (λ earlier. is_slot log.shape earlier number) (range_with_len 0 at)
+pub said-before : (log : Log) (number at : ℕ) → IsLog log → IsSome (before log at) → at ≤ stage_count log.shape → IsEmptyFrom log number at
+    → length (own_posts_kept log number) ≡ count_by (λ earlier. is_slot log.shape earlier number) (range_with_len 0 at)
+unfolding own_posts_kept
 said-before log number at is complete le none =
     ap length (front-only (own_kept log number) at (stage_count log.shape) le none)
     ∙ counts (own_kept log number) (λ earlier. is_slot log.shape earlier number) 0 at (λ x from small. by_slot x (omega arith) (cases_Bool (is_slot log.shape x number)))
@@ -163,3 +197,55 @@ said-before log number at is complete le none =
         ap is_some post.1 ∙ sym speaks
     by_slot x lt (inr silent) =
         ap is_some (cond-false (is_slot log.shape x number) (option_flatten (slice_get log.posts (slot_number log.shape x number))) None silent) ∙ sym silent
+
+-- ---- twelve leaves are enough
+
+-- how many of the stages of a round of n a member speaks at
+abbrev spoken_of : ℕ → ℕ → ℕ
+spoken_of n member = count_by (λ stage. is_slot (record { version = 1; members = n }) stage member) (range_with_len 0 (2 * n + 10))
+
+-- of every member of every group it is twelve
+all-twelve : list_all (λ n. list_all (λ member. spoken_of n member == 12) (range_with_len 1 n)) (range_with_len 2 7) ≡ true
+all-twelve = refl
+
+twelve : (n member : ℕ) → 2 ≤ n → n ≤ 8 → 1 ≤ member → member ≤ n → spoken_of n member ≡ 12
+twelve n member least most first last =
+    let n_place : 2 + (n - 2) ≡ n = omega (arith, least) in
+    let member_place : 1 + (member - 1) ≡ member = omega (arith, first) in
+    let group = AllPass-from_list_all (λ (n : ℕ). list_all (λ (member : ℕ). spoken_of n member == 12) (range_with_len 1 n)) (range_with_len 2 7) all-twelve (n - 2) 0 (omega (arith, most, length-of 2 7)) in
+    let group_is : list_all (λ (member : ℕ). spoken_of n member == 12) (range_with_len 1 n) ≡ true =
+    subst (λ (k : ℕ). list_all (λ (member : ℕ). spoken_of k member == 12) (range_with_len 1 k) ≡ true) (get_or-range_with_len 2 7 (n - 2) 0 (omega (arith, most)) ∙ n_place) group in
+    let one = AllPass-from_list_all (λ (member : ℕ). spoken_of n member == 12) (range_with_len 1 n) group_is (member - 1) 0 (omega (arith, first, last, length-of 1 n)) in
+    eqb-true (spoken_of n member) 12 (subst (λ (k : ℕ). (spoken_of n k == 12) ≡ true) (get_or-range_with_len 1 n (member - 1) 0 (omega (arith, first, last)) ∙ member_place) one)
+  where
+    length-of : (a n : ℕ) → length (range_with_len a n) ≡ n
+    length-of a zero = refl
+    length-of a (suc n) = omega (arith, length-of (a + 1) n)
+
+-- one that speaks at a stage has spoken at fewer before it than in the whole round
+spoken-before : (p : ℕ → Bool) (stage rest : ℕ) → p stage ≡ true → count_by p (range_with_len 0 stage) < count_by p (range_with_len 0 (stage + suc rest))
+spoken-before p stage rest speaks =
+    let f : ℕ → ℕ = λ x. cond (p x) 1 0 in
+    let here : f stage ≡ 1 = ap (λ (b : Bool). cond b 1 0) speaks in
+    let at : 0 + stage ≡ stage = omega arith in
+    let split : sum_by f (range_with_len 0 (stage + suc rest)) ≡ sum_by f (range_with_len 0 stage) + sum_by f (stage ∷ range_with_len (stage + 1) rest) =
+    ap (sum_by f) (range-splits 0 stage (suc rest)) ∙ sum_by-append f (range_with_len 0 stage) (range_with_len (0 + stage) (suc rest))
+    ∙ ap (λ (b : ℕ). sum_by f (range_with_len 0 stage) + sum_by f (range_with_len b (suc rest))) at in
+    omega (arith, split, sum_by-cons f stage (range_with_len (stage + 1) rest), here)
+
+-- a member that speaks at a stage and has said nothing from there on has a post to make yet
+pub fewer-said : (log : Log) (number at : ℕ) → IsLog log → IsSome (before log at) → is_slot log.shape at number ≡ true → IsEmptyFrom log number at
+    → length (own_posts_kept log number) < 12
+fewer-said log number at is complete speaks none =
+    let n : ℕ = log.shape.members in
+    let bounds = slot-bounds log.shape at number speaks in
+    let rest : ℕ = 2 * n + 9 - at in
+    let within = bounds.0 in
+    let whole : at + suc rest ≡ 2 * n + 10 = omega (arith, within) in
+    let shape_is : log.shape ≡ record { version = 1; members = n } = ap (λ (v : ℕ). record { version = v; members = n }) is.shape.first in
+    let fewer = spoken-before (λ (earlier : ℕ). is_slot log.shape earlier number) at rest speaks in
+    let all : count_by (λ (earlier : ℕ). is_slot log.shape earlier number) (range_with_len 0 (at + suc rest)) ≡ spoken_of n number =
+    ap (λ (k : ℕ). count_by (λ (earlier : ℕ). is_slot log.shape earlier number) (range_with_len 0 k)) whole
+    ∙ ap (λ (s : Shape). count_by (λ (earlier : ℕ). is_slot s earlier number) (range_with_len 0 (2 * n + 10))) shape_is in
+    let said = said-before log number at is complete (omega (arith, within)) none in
+    omega (arith, fewer, all, twelve n number is.shape.least is.shape.most bounds.1 bounds.2, said)

@@ -1,0 +1,248 @@
+-- A post that a member makes: what is true of the member stays true, and it stands for the pure machine behind that post.
+use Rattle.std.proofs.Common.{◌≡◌, ◌⊎◌, ℕ, ◌+◌, ◌-◌, ◌*◌, ◌<◌, ◌≤◌, Bool, true, false, List, [], ◌∷◌, ◌++◌, length, Option, Some, None, ap, sym, ◌∙◌, refl, subst, arith, inl, inr, append-nil, append_assoc, length-append, eq-eqb}
+use Rattle.std.specs.Prelude.{◌==◌, IfOk, IsErr, IsSome, Ok, Err, Result, is_ok, unwrap_or, if◌then◌else◌}
+use Rattle.std.specs.Int.{w32, to_be_bytes}
+use Rattle.std.specs.List.{range_with_len}
+use Rattle.std.specs.Option.{option_map, option_to_list}
+use Rattle.std.proofs.lemmas.Bool.{cases_Bool, cond-false, cond-true}
+use Rattle.lms_tree.specs.Secret.{SecretParts, lms_signature, own_public}
+use Rattle.lms_tree.specs.States.{RunState}
+use Rattle.lms_tree.specs.Tree.{LmsValid}
+use Rattle.phase_message.specs.declared.post.Post.{Post}
+use Rattle.phase_message.specs.declared.post.TheConstants.{POST_LIMIT}
+use Rattle.phase_message.specs.declared.stage.Slot.{Slot}
+use Rattle.phase_message.specs.Offence.{content_read}
+use Rattle.phase_message.specs.Post.{post_spelling}
+use Rattle.phase_message.specs.Shape.{Shape}
+use Rattle.phase_message.specs.Slots.{stage_count}
+use Rattle.phase_message.specs.Stages.{is_slot, kind_of_stage}
+use Rattle.phase_message.proofs.SlotBounds.{slot-bounds}
+use Rattle.group_roster.specs.Roster.{Roster, shape_of_roster}
+use Rattle.signed_post.specs.declared.post.TheConstants.{LONGEST_SIGNATURE}
+use Rattle.signed_post.proofs.Lengths.{valid-short}
+use Rattle.stage_log.specs.Log.{before, contents_of}
+use Rattle.stage_log.specs.Seen.{HasSeen}
+use Rattle.stage_log.specs.Table.{IsKept, Log, filled, kept_in}
+use Rattle.stage_log.proofs.Entries.{filled-is_log}
+use Rattle.stage_log.proofs.Fronts.{some_is}
+use Rattle.stage_log.proofs.Pasts.{some_of}
+use Rattle.go_nogo.specs.Stands.{StandsIn}
+use Rattle.shuffle_blame.specs.Asked.{past_of}
+use Rattle.round_spec.specs.Say.{Configuration, number_said_before, own_submission, shape_in, signed_at}
+use Rattle.round_spec.specs.Slots.{submit_stage}
+use Rattle.closing_verdict.specs.Carried.{stage_found, stage_opened}
+use Rattle.member_spec.specs.declared.mood.Mood.{Mood}
+use Rattle.member_spec.specs.declared.mood.Mood.TheVariants.{Mute, PutOff, Spoken, Unasked}
+use Rattle.member_spec.specs.Actor.{Actor, actor_behind_post, descriptor_made}
+use Rattle.member_spec.specs.Outcomes.{outcome_of}
+use Rattle.member_spec.specs.Replies.{Replies}
+use Rattle.member_core.specs.declared.ending.Ending.{Ending}
+use Rattle.member_core.specs.declared.ending.Ending.TheVariants.{Blamed, Done, Open, Stopped}
+use Rattle.member_core.specs.declared.machine.Machine.{Machine}
+use Rattle.member_core.specs.Asking.{IsSpeakable, IsToBeAsked, StandsAsked, asked_at}
+use Rattle.member_core.specs.Found.{IsOthers}
+use Rattle.member_core.specs.Membership.{Holdings, IsOpen, holdings_of, own_posts_kept, posts_made}
+use Rattle.member_core.specs.Needs.{HoldsNeeded, no_secrets, was_asked}
+use Rattle.member_core.specs.Shorts.{IsShortLog, most_in, own_limit}
+use Rattle.member_core.specs.Sound.{IsEmptyFrom, IsFormed, IsMachineOf, IsMoodOf, IsReady, IsSound, slot_here}
+use Rattle.member_core.specs.Stands.{AnswersBy, HasEntered, IsOwnOf, ShowsOutcome, StandsFor}
+use Rattle.member_core.proofs.OwnPosts.{fewer-said, kept-cases, one-more, own-elsewhere, own-here, said-before}
+use Rattle.member_core.proofs.Saying.{filled-stands}
+use Rattle.member_core.proofs.Storing.{answers-stay, asked-within, before-stays, keys-stay, open-shown, opened-stay, past-stays, posts-stay, shown-open, slots-stay, some-mapped}
+
+-- ---- where it speaks
+
+-- a member that is to be asked has said nothing from its stage on
+pub record IsSilent (m : Machine) : Type 0 where
+  pub empty : IsEmptyFrom m.log m.seat.number m.stage
+  pub stray : m.stray ≡ None
+
+pub silent-here : (m : Machine) → IsReady m → IsToBeAsked m → IsSilent m
+silent-here m r asked =
+    let mood : IsMoodOf m Unasked = subst (IsMoodOf m) asked.unasked r.mood in
+    record { empty = mood.0; stray = mood.1 }
+
+-- its slot there is empty
+here-others : (m : Machine) → IsToBeAsked m → IsSilent m → IsOthers m.log (m.seat.number + 1) (slot_here m)
+here-others m asked silent = record {
+  speaks = asked.speaks;
+  other = λ same. omega arith;
+  empty = silent.empty m.stage (omega arith);
+}
+
+made-kept : (m : Machine) → IsSilent m → posts_made (holdings_of m) ≡ own_posts_kept m.log m.seat.number
+made-kept m silent =
+    ap (λ (o : Option Post). own_posts_kept m.log m.seat.number ++ option_to_list o) silent.stray ∙ append-nil (own_posts_kept m.log m.seat.number)
+
+-- a leaf is left for its post
+pub leaf-left : (m : Machine) → IsFormed m → IsReady m → IsToBeAsked m → 0 < m.leaves.left
+leaf-left m f r asked =
+    let silent = silent-here m r asked in
+    let fewer = fewer-said m.log m.seat.number m.stage f.log r.past asked.speaks silent.empty in
+    let made = ap length (made-kept m silent) in
+    let twelve = f.leaves in
+    omega (arith, fewer, made, twelve)
+
+-- ---- the post
+
+-- the leaves behind a signature
+abbrev pub leaf_spent : RunState → RunState
+leaf_spent leaves = record { parts = leaves.parts; first = leaves.first + 1; left = leaves.left - 1 }
+
+-- a post is signed with the next leaf of a member, and its content is not too long
+pub record IsSigned (m : Machine) (post : Post) : Type 0 where
+  pub signed : post.signature ≡ lms_signature m.leaves.parts m.leaves.first post.content
+  pub valid : LmsValid (own_public m.leaves.parts) post.content post.signature
+  pub short : length post.content ≤ own_limit (kind_of_stage m.log.shape m.stage)
+
+-- and it can be kept in the slot where it speaks
+pub record IsOwnContent (m : Machine) (post : Post) : Type 0 where
+  pub kept : IsKept post.content
+  pub stands : StandsIn m.log.shape (slot_here m) post.content
+
+-- the member behind a post that it keeps
+abbrev pub posted : Machine → Post → Machine
+posted m post = record m { leaves = leaf_spent m.leaves; log = filled m.log (slot_here m) post; mood = Spoken }
+
+-- and behind one that it does not keep
+abbrev pub strayed : Machine → Post → Machine
+strayed m post = record m { leaves = leaf_spent m.leaves; stray = Some post; secrets = no_secrets; mood = Mute }
+
+spelled-long : (post : Post) → length (post_spelling post) ≡ 4 + length post.content + length post.signature
+spelled-long post =
+    let head : List ℕ = to_be_bytes w32 (length post.content) in
+    omega (arith, length-append (head ++ post.content) post.signature, length-append head post.content)
+
+-- the log goes on to have no post that is too long
+short-posted : (m : Machine) (post : Post) → IsFormed m → IsToBeAsked m → IsSigned m post → IsShortLog m.seat.number (filled m.log (slot_here m) post)
+short-posted m post f asked signed stage sender kept e = elim (kept-cases m.log (slot_here m) (record { stage = stage; sender = sender }) post kept f.log asked.speaks e) [
+  | inl old ↦ f.short stage sender kept old
+  | inr new ↦
+      let number : ℕ = m.seat.number in
+      let most : most_in m.log.shape number stage sender ≡ own_limit (kind_of_stage m.log.shape m.stage) + (4 + LONGEST_SIGNATURE) =
+      ap (λ (s : Slot). most_in m.log.shape number s.stage s.sender) new.0
+      ∙ cond-true (number == number) (own_limit (kind_of_stage m.log.shape m.stage) + (4 + LONGEST_SIGNATURE)) POST_LIMIT (eq-eqb number number refl) in
+      let same = ap (λ (p : Post). length (post_spelling p)) new.1 in
+      let long = spelled-long post in
+      let content = signed.short in
+      let signature = valid-short (own_public m.leaves.parts) post.content post.signature signed.valid in
+      omega (arith, most, same, long, content, signature)
+]
+
+-- ---- behind a post that it keeps
+
+made-more : (own more : List Post) (stray : Option Post) (post : Post) → stray ≡ None → more ≡ own ++ post ∷ []
+    → more ++ option_to_list stray ≡ (own ++ option_to_list stray) ++ post ∷ []
+made-more own more stray post none e =
+    ap (λ (o : Option Post). more ++ option_to_list o) none ∙ append-nil more ∙ e
+    ∙ sym (ap (λ (posts : List Post). posts ++ post ∷ []) (ap (λ (o : Option Post). own ++ option_to_list o) none ∙ append-nil own))
+
+pub posted-made : (m : Machine) (post : Post) → IsFormed m → IsToBeAsked m → IsSilent m
+    → posts_made (holdings_of (posted m post)) ≡ posts_made (holdings_of m) ++ post ∷ []
+posted-made m post f asked silent =
+    made-more (own_posts_kept m.log m.seat.number) (own_posts_kept (filled m.log (slot_here m) post) m.seat.number) m.stray post silent.stray
+    (one-more m.log m.seat.number m.stage post f.log asked.speaks silent.empty)
+
+pub posted-formed : (m : Machine) (post : Post) → IsFormed m → IsReady m → IsToBeAsked m → IsSigned m post → IsOwnContent m post → IsFormed (posted m post)
+posted-formed m post f r asked signed own =
+    let silent = silent-here m r asked in
+    let left = leaf-left m f r asked in
+    let e : IsMachineOf f.entered.0 m = f.entered.1 in
+    let made = ap length (posted-made m post f asked silent) in
+    let longer = length-append (posts_made (holdings_of m)) (post ∷ []) in
+    record {
+      entered = (f.entered.0, record { roster = e.roster; seat = e.seat; message = e.message; secrets = e.secrets; hidden = e.hidden; hidden_short = e.hidden_short; pad = e.pad });
+      message = f.message;
+      log = filled-is_log m.log (slot_here m) post f.log own.kept;
+      shape = f.shape;
+      stand = filled-stands m.log (slot_here m) post asked.speaks (silent.empty m.stage (omega arith)) own.stands f.stand;
+      short = short-posted m post f asked signed;
+      leaves = (let was = f.leaves in omega (arith, made, longer, was, left));
+      handed = (let was = f.handed in omega (arith, made, longer, was));
+    }
+
+pub posted-ready : (m : Machine) (post : Post) → IsFormed m → IsReady m → IsToBeAsked m → IsReady (posted m post)
+posted-ready m post f r asked =
+    let silent = silent-here m r asked in
+    let others = here-others m asked silent in
+    let past = some_of (before m.log m.stage) r.past in
+    record {
+      stage = r.stage;
+      past = some_is (before (filled m.log (slot_here m) post) m.stage) past.0 (before-stays m.log (m.seat.number + 1) (slot_here m) post m.stage past.0 others past.1);
+      seen = subst (λ (said : List (List ℕ)). HasSeen m.log.shape said m.stage m.seen)
+          (sym (past-stays m.log (m.seat.number + 1) (slot_here m) post m.stage m.stage others r.past (omega arith))) r.seen;
+      keys = keys-stay m.log (slot_here m) post m.stage m.keys
+          (λ there. past-stays m.log (m.seat.number + 1) (slot_here m) post 1 m.stage others r.past (r.keys_behind there)) r.keys;
+      opened = opened-stay m.log (slot_here m) post m.stage (option_map (λ items. items.items) m.opened)
+          (λ there. past-stays m.log (m.seat.number + 1) (slot_here m) post (stage_opened m.log) m.stage others r.past (r.opened_behind (some-mapped (λ items. items.items) m.opened there))) r.opened;
+      slots = slots-stay m.log (slot_here m) post m.stage m.slots
+          (λ there. past-stays m.log (m.seat.number + 1) (slot_here m) post (stage_found m.log) m.stage others r.past (r.slots_behind there)) r.slots;
+      keys_behind = r.keys_behind;
+      opened_behind = r.opened_behind;
+      slots_behind = r.slots_behind;
+      mood = (
+        λ later le. own-elsewhere m.log m.seat.number m.stage later post asked.speaks (λ e. omega arith) ∙ silent.empty later (omega arith),
+        silent.stray,
+        some_is (kept_in (filled m.log (slot_here m) post) (slot_here m)) post (own-here m.log m.seat.number m.stage post f.log asked.speaks),
+      );
+    }
+
+pub posted-sound : (m : Machine) (post : Post) → IsFormed m → IsReady m → IsSpeakable m → IsSigned m post → IsOwnContent m post → IsSound (posted m post)
+posted-sound m post f r able signed own =
+    let n : HoldsNeeded (asked_at (holdings_of m) Spoken) = able.needed in
+    record {
+      formed = posted-formed m post f r able.to_be_asked signed own;
+      ready = λ open. posted-ready m post f r able.to_be_asked;
+      needed = record { first = n.first; bulk = n.bulk; second = n.second };
+    }
+
+-- ---- behind a post that it does not keep
+
+pub strayed-made : (m : Machine) (post : Post) → IsSilent m → posts_made (holdings_of (strayed m post)) ≡ posts_made (holdings_of m) ++ post ∷ []
+strayed-made m post silent =
+    sym (ap (λ (posts : List Post). posts ++ post ∷ []) (made-kept m silent))
+
+pub strayed-formed : (m : Machine) (post : Post) → IsFormed m → IsReady m → IsToBeAsked m → IsFormed (strayed m post)
+strayed-formed m post f r asked =
+    let silent = silent-here m r asked in
+    let left = leaf-left m f r asked in
+    let e : IsMachineOf f.entered.0 m = f.entered.1 in
+    let made = ap length (strayed-made m post silent) in
+    let longer = length-append (posts_made (holdings_of m)) (post ∷ []) in
+    record {
+      entered = (f.entered.0, record { roster = e.roster; seat = e.seat; message = e.message; secrets = record { first = tt; bulk = tt; second = tt };
+        hidden = e.hidden; hidden_short = e.hidden_short; pad = e.pad });
+      message = f.message;
+      log = f.log;
+      shape = f.shape;
+      stand = f.stand;
+      short = f.short;
+      leaves = (let was = f.leaves in omega (arith, made, longer, was, left));
+      handed = (let was = f.handed in omega (arith, made, longer, was));
+    }
+
+-- ---- mute
+
+-- a member that says nothing more
+abbrev pub muted : Machine → Machine
+muted m = record m { secrets = no_secrets; mood = Mute }
+
+-- what only hangs on what it carries stays
+pub mute-ready : (m n : Machine) → n ≡ record m { leaves = n.leaves; stray = n.stray; secrets = no_secrets; mood = Mute } → IsReady m → IsToBeAsked m → IsReady n
+mute-ready m n e r asked = subst IsReady (sym e) (record {
+  stage = r.stage;
+  past = r.past;
+  seen = r.seen;
+  keys = r.keys;
+  opened = r.opened;
+  slots = r.slots;
+  keys_behind = r.keys_behind;
+  opened_behind = r.opened_behind;
+  slots_behind = r.slots_behind;
+  mood = ((silent-here m r asked).empty, asked.speaks);
+})
+
+-- a mute member needs no secret
+and-false : (a b : Bool) → false ≡ (if a then false else false)
+and-false true b = refl
+and-false false b = refl
