@@ -5,3 +5,4 @@ pub mod Saying
 pub mod RowForms
 pub mod RowLengths
 mod Storing
+pub mod Posting

@@ -1,13 +1,12 @@
 -- The posts that a member made, in what its log keeps of it by stage.
-use Rattle.std.proofs.Common.{◌≡◌, ◌⊎◌, ℕ, zero, suc, ◌+◌, ◌-◌, ◌*◌, ◌<◌, ◌≤◌, Bool, true, false, List, [], ◌∷◌, ◌++◌, cond, length, Option, Some, None, ap, sym, ◌∙◌, refl, subst, arith, inl, inr, append-nil, eq-eqb}
+use Rattle.std.proofs.Common.{◌≡◌, ◌⊎◌, ℕ, zero, suc, ◌+◌, ◌-◌, ◌*◌, ◌<◌, ◌≤◌, Bool, true, false, List, [], ◌∷◌, ◌++◌, cond, length, Option, Some, None, ap, sym, ◌∙◌, refl, arith, inl, inr, append-nil, eq-eqb}
 use Rattle.std.specs.Prelude.{◌==◌, IsSome, count_by, filter_map, is_some, if◌then◌else◌}
-use Rattle.std.specs.List.{cons_option, list_all, range_with_len, slice_get, slice_set, sum_by}
+use Rattle.std.specs.List.{cons_option, range_with_len, slice_get, slice_set}
 use Rattle.std.specs.Option.{option_flatten}
 use Rattle.std.proofs.lemmas.Bool.{cases_Bool, cases_lt, cond-false, cond-true, eqb-true}
 use Rattle.std.proofs.lemmas.List.Elements.{filter_map-append}
 use Rattle.std.proofs.lemmas.Option.{none-some}
-use Rattle.std.proofs.lemmas.List.FromFn.{get_or-range_with_len}
-use Rattle.std.proofs.lemmas.List.Sums.{AllPass-from_list_all, sum_by-append, sum_by-cons}
+use Rattle.std.proofs.lemmas.List.Sums.{sum_by-cons}
 use Rattle.phase_message.specs.declared.post.Post.{Post}
 use Rattle.phase_message.specs.declared.stage.Slot.{Slot}
 use Rattle.phase_message.specs.Shape.{Shape}
@@ -18,6 +17,7 @@ use Rattle.phase_message.proofs.SlotLists.{slot_at-number, slot_number-later}
 use Rattle.stage_log.specs.Log.{before}
 use Rattle.stage_log.specs.Table.{IsLog, Log, filled, kept_in}
 use Rattle.stage_log.proofs.Entries.{number-within}
+use Rattle.round_spec.proofs.OwnChecks.{spoken-before, spoken_of, twelve}
 use Rattle.honest_say.proofs.PastLemmas.{kept-post}
 use Rattle.member_spec.proofs.Moves.{filter-in, filter-none}
 use Rattle.member_core.specs.Membership.{own_posts_kept}
@@ -199,39 +199,6 @@ said-before log number at is complete le none =
         ap is_some (cond-false (is_slot log.shape x number) (option_flatten (slice_get log.posts (slot_number log.shape x number))) None silent) ∙ sym silent
 
 -- ---- twelve leaves are enough
-
--- how many of the stages of a round of n a member speaks at
-abbrev spoken_of : ℕ → ℕ → ℕ
-spoken_of n member = count_by (λ stage. is_slot (record { version = 1; members = n }) stage member) (range_with_len 0 (2 * n + 10))
-
--- of every member of every group it is twelve
-all-twelve : list_all (λ n. list_all (λ member. spoken_of n member == 12) (range_with_len 1 n)) (range_with_len 2 7) ≡ true
-all-twelve = refl
-
-twelve : (n member : ℕ) → 2 ≤ n → n ≤ 8 → 1 ≤ member → member ≤ n → spoken_of n member ≡ 12
-twelve n member least most first last =
-    let n_place : 2 + (n - 2) ≡ n = omega (arith, least) in
-    let member_place : 1 + (member - 1) ≡ member = omega (arith, first) in
-    let group = AllPass-from_list_all (λ (n : ℕ). list_all (λ (member : ℕ). spoken_of n member == 12) (range_with_len 1 n)) (range_with_len 2 7) all-twelve (n - 2) 0 (omega (arith, most, length-of 2 7)) in
-    let group_is : list_all (λ (member : ℕ). spoken_of n member == 12) (range_with_len 1 n) ≡ true =
-    subst (λ (k : ℕ). list_all (λ (member : ℕ). spoken_of k member == 12) (range_with_len 1 k) ≡ true) (get_or-range_with_len 2 7 (n - 2) 0 (omega (arith, most)) ∙ n_place) group in
-    let one = AllPass-from_list_all (λ (member : ℕ). spoken_of n member == 12) (range_with_len 1 n) group_is (member - 1) 0 (omega (arith, first, last, length-of 1 n)) in
-    eqb-true (spoken_of n member) 12 (subst (λ (k : ℕ). (spoken_of n k == 12) ≡ true) (get_or-range_with_len 1 n (member - 1) 0 (omega (arith, first, last)) ∙ member_place) one)
-  where
-    length-of : (a n : ℕ) → length (range_with_len a n) ≡ n
-    length-of a zero = refl
-    length-of a (suc n) = omega (arith, length-of (a + 1) n)
-
--- one that speaks at a stage has spoken at fewer before it than in the whole round
-spoken-before : (p : ℕ → Bool) (stage rest : ℕ) → p stage ≡ true → count_by p (range_with_len 0 stage) < count_by p (range_with_len 0 (stage + suc rest))
-spoken-before p stage rest speaks =
-    let f : ℕ → ℕ = λ x. cond (p x) 1 0 in
-    let here : f stage ≡ 1 = ap (λ (b : Bool). cond b 1 0) speaks in
-    let at : 0 + stage ≡ stage = omega arith in
-    let split : sum_by f (range_with_len 0 (stage + suc rest)) ≡ sum_by f (range_with_len 0 stage) + sum_by f (stage ∷ range_with_len (stage + 1) rest) =
-    ap (sum_by f) (range-splits 0 stage (suc rest)) ∙ sum_by-append f (range_with_len 0 stage) (range_with_len (0 + stage) (suc rest))
-    ∙ ap (λ (b : ℕ). sum_by f (range_with_len 0 stage) + sum_by f (range_with_len b (suc rest))) at in
-    omega (arith, split, sum_by-cons f stage (range_with_len (stage + 1) rest), here)
 
 -- a member that speaks at a stage and has said nothing from there on has a post to make yet
 pub fewer-said : (log : Log) (number at : ℕ) → IsLog log → IsSome (before log at) → is_slot log.shape at number ≡ true → IsEmptyFrom log number at

@@ -1,6 +1,6 @@
 -- A post that a member makes: what is true of the member stays true, and it stands for the pure machine behind that post.
 use Rattle.std.proofs.Common.{◌≡◌, ◌⊎◌, ℕ, ◌+◌, ◌-◌, ◌*◌, ◌<◌, ◌≤◌, Bool, true, false, List, [], ◌∷◌, ◌++◌, length, Option, Some, None, ap, sym, ◌∙◌, refl, subst, arith, inl, inr, append-nil, append_assoc, length-append, eq-eqb}
-use Rattle.std.specs.Prelude.{◌==◌, IfOk, IsErr, IsSome, Ok, Err, Result, is_ok, unwrap_or, if◌then◌else◌}
+use Rattle.std.specs.Prelude.{◌==◌, ◌&&◌, IsSome, count_by, is_ok}
 use Rattle.std.specs.Int.{w32, to_be_bytes}
 use Rattle.std.specs.List.{range_with_len}
 use Rattle.std.specs.Option.{option_map, option_to_list}
@@ -30,6 +30,7 @@ use Rattle.go_nogo.specs.Stands.{StandsIn}
 use Rattle.shuffle_blame.specs.Asked.{past_of}
 use Rattle.round_spec.specs.Say.{Configuration, number_said_before, own_submission, shape_in, signed_at}
 use Rattle.round_spec.specs.Slots.{submit_stage}
+use Rattle.round_spec.specs.Course.{is_open}
 use Rattle.closing_verdict.specs.Carried.{stage_found, stage_opened}
 use Rattle.member_spec.specs.declared.mood.Mood.{Mood}
 use Rattle.member_spec.specs.declared.mood.Mood.TheVariants.{Mute, PutOff, Spoken, Unasked}
@@ -39,10 +40,11 @@ use Rattle.member_spec.specs.Replies.{Replies}
 use Rattle.member_core.specs.declared.ending.Ending.{Ending}
 use Rattle.member_core.specs.declared.ending.Ending.TheVariants.{Blamed, Done, Open, Stopped}
 use Rattle.member_core.specs.declared.machine.Machine.{Machine}
+use Rattle.member_core.specs.declared.secrets.Secrets.{Secrets}
 use Rattle.member_core.specs.Asking.{IsSpeakable, IsToBeAsked, StandsAsked, asked_at}
 use Rattle.member_core.specs.Found.{IsOthers}
 use Rattle.member_core.specs.Membership.{Holdings, IsOpen, holdings_of, own_posts_kept, posts_made}
-use Rattle.member_core.specs.Needs.{HoldsNeeded, no_secrets, was_asked}
+use Rattle.member_core.specs.Needs.{HoldsNeeded, is_going, no_secrets, was_asked}
 use Rattle.member_core.specs.Shorts.{IsShortLog, most_in, own_limit}
 use Rattle.member_core.specs.Sound.{IsEmptyFrom, IsFormed, IsMachineOf, IsMoodOf, IsReady, IsSound, slot_here}
 use Rattle.member_core.specs.Stands.{AnswersBy, HasEntered, IsOwnOf, ShowsOutcome, StandsFor}
@@ -183,7 +185,7 @@ posted-ready m post f r asked =
       mood = (
         λ later le. own-elsewhere m.log m.seat.number m.stage later post asked.speaks (λ e. omega arith) ∙ silent.empty later (omega arith),
         silent.stray,
-        some_is (kept_in (filled m.log (slot_here m) post) (slot_here m)) post (own-here m.log m.seat.number m.stage post f.log asked.speaks),
+        some_is (kept_in (filled m.log (slot_here m) post) (slot_here m)) post (own-here m.log m.seat.number m.stage post f.log asked.speaks)
       );
     }
 
@@ -192,7 +194,7 @@ posted-sound m post f r able signed own =
     let n : HoldsNeeded (asked_at (holdings_of m) Spoken) = able.needed in
     record {
       formed = posted-formed m post f r able.to_be_asked signed own;
-      ready = λ open. posted-ready m post f r able.to_be_asked;
+      ready = λ still. posted-ready m post f r able.to_be_asked;
       needed = record { first = n.first; bulk = n.bulk; second = n.second };
     }
 
@@ -227,9 +229,10 @@ strayed-formed m post f r asked =
 abbrev pub muted : Machine → Machine
 muted m = record m { secrets = no_secrets; mood = Mute }
 
--- what only hangs on what it carries stays
-pub mute-ready : (m n : Machine) → n ≡ record m { leaves = n.leaves; stray = n.stray; secrets = no_secrets; mood = Mute } → IsReady m → IsToBeAsked m → IsReady n
-mute-ready m n e r asked = subst IsReady (sym e) (record {
+-- it carries what it did
+pub mute-ready : (m : Machine) (leaves : RunState) (stray : Option Post) → IsReady m → IsToBeAsked m
+    → IsReady (record m { leaves = leaves; stray = stray; secrets = no_secrets; mood = Mute })
+mute-ready m leaves stray r asked = record {
   stage = r.stage;
   past = r.past;
   seen = r.seen;
@@ -240,9 +243,180 @@ mute-ready m n e r asked = subst IsReady (sym e) (record {
   opened_behind = r.opened_behind;
   slots_behind = r.slots_behind;
   mood = ((silent-here m r asked).empty, asked.speaks);
-})
+}
 
--- a mute member needs no secret
-and-false : (a b : Bool) → false ≡ (if a then false else false)
-and-false true b = refl
-and-false false b = refl
+and-none : (b : Bool) → false ≡ (b && false)
+and-none true = refl
+and-none false = refl
+
+-- and a mute member needs no secret
+pub mute-needed : (h : Holdings) → h.secrets ≡ no_secrets → h.mood ≡ Mute → HoldsNeeded h
+mute-needed h bare mute = subst HoldsNeeded (sym same) (record {
+  first = and-none (is_going h.ending);
+  bulk = and-none (is_going h.ending);
+  second = and-none (is_going h.ending);
+})
+  where
+    same : h ≡ record h { secrets = no_secrets; mood = Mute }
+    same = ap (λ (s : Secrets). record h { secrets = s }) bare ∙ ap (λ (mood : Mood). record h { secrets = no_secrets; mood = mood }) mute
+
+-- ---- the pure machine
+
+-- the round of a member is that of what it entered with
+pub round-shape : (c : Configuration) (m : Machine) → IsFormed m → HasEntered c (holdings_of m) → m.log.shape ≡ shape_in c
+round-shape c m f entered =
+    let e : IsMachineOf f.entered.0 m = f.entered.1 in
+    f.shape ∙ e.seat.shape ∙ ap (λ (roster : Roster). shape_of_roster roster) (sym e.roster ∙ entered.roster)
+
+-- it has used as many leaves as it has spoken before
+leaf-is : (c : Configuration) (m : Machine) → IsFormed m → IsReady m → IsToBeAsked m → HasEntered c (holdings_of m)
+    → m.leaves.first ≡ c.first + number_said_before c m.stage
+unfolding number_said_before
+leaf-is c m f r asked entered =
+    let silent = silent-here m r asked in
+    let within = (slot-bounds m.log.shape m.stage m.seat.number asked.speaks).0 in
+    entered.next ∙ ap (λ (posts : List Post). c.first + length posts) (made-kept m silent)
+    ∙ ap (λ (k : ℕ). c.first + k) (said-before m.log m.seat.number m.stage f.log r.past (omega (arith, within)) silent.empty
+    ∙ ap (λ (s : Shape). count_by (λ earlier. is_slot s earlier m.seat.number) (range_with_len 0 m.stage)) (round-shape c m f entered)
+    ∙ ap (λ (number : ℕ). count_by (λ earlier. is_slot (shape_in c) earlier number) (range_with_len 0 m.stage)) entered.number)
+
+-- so its post is that of the pure machine
+pub post-is : (c : Configuration) (a : Actor) (m : Machine) (post : Post) → IsFormed m → IsReady m → IsToBeAsked m → IsSigned m post
+    → HasEntered c (holdings_of m) → m.stage ≡ a.stand.at → post ≡ signed_at c a.stand.at post.content
+post-is c a m post f r asked signed entered at =
+    ap (λ (s : List ℕ). record { content = post.content; signature = s }) (signed.signed
+    ∙ ap (λ (key : SecretParts). lms_signature key m.leaves.first post.content) entered.key
+    ∙ ap (λ (leaf : ℕ). lms_signature c.key leaf post.content) (leaf-is c m f r asked entered ∙ ap (λ (stage : ℕ). c.first + number_said_before c stage) at))
+
+-- what an open round shows hangs on nothing else
+shows-open : (c : Configuration) (a b : Actor) (ending : Ending) → IsOpen ending → b.ending ≡ a.ending → ShowsOutcome ending (outcome_of c a)
+    → ShowsOutcome ending (outcome_of c b)
+shows-open c a b Open still same shows = shown-open c b (ap is_open same ∙ open-shown c a shows)
+shows-open c a b (Done slots) still same shows = absurd still
+shows-open c a b (Blamed conviction) still same shows = absurd still
+shows-open c a b Stopped still same shows = absurd still
+
+-- behind a post that it keeps the member stands for the pure machine that keeps it
+pub posted-stands : (now start : Replies) (c : Configuration) (a : Actor) (m : Machine) (post : Post) → IsFormed m → IsReady m → IsToBeAsked m
+    → IsSigned m post → is_ok (content_read m.log.shape post.content) ≡ true → StandsAsked now start c a (holdings_of m)
+    → StandsFor now start c (actor_behind_post c a (signed_at c a.stand.at post.content)) (holdings_of (posted m post))
+posted-stands now start c a m post f r asked signed reads s =
+    subst (λ (x : Actor). StandsFor now start c x (holdings_of (posted m post))) (sym behind) (record {
+      can_enter = s.can_enter;
+      entered = record {
+        roster = s.entered.roster;
+        number = s.entered.number;
+        round = s.entered.round;
+        message = s.entered.message;
+        key = s.entered.key;
+        next = (let used = s.entered.next in let longer = length-append (posts_made (holdings_of m)) (post ∷ []) in let more = ap length made in omega (arith, used, longer, more));
+        secrets = s.entered.secrets;
+      };
+      at = record {
+        log = log_is;
+        stage = s.at.stage;
+        past = before-stays m.log (m.seat.number + 1) (slot_here m) post m.stage a.stand.past others s.at.past;
+        mood = refl;
+        made = made ∙ ap (λ (posts : List Post). posts ++ post ∷ []) s.at.made ∙ ap (λ (p : Post). a.made ++ p ∷ []) same;
+        ending = shows-open c a next m.ending asked.going refl s.at.ending;
+      };
+      conduct = answers-stay now start c (past_of m.log 1) (past_of log 1) (was_asked m.stage Spoken 1) (past_same 1) s.conduct;
+      own = record {
+        descriptor = λ was. own.descriptor was
+            ∙ ap (descriptor_made start c) (sym (posts-stay m.log (m.seat.number + 1) (slot_here m) post 1 m.stage others r.past (asked-within m.stage Spoken 1 was)));
+        pad = own.pad;
+        first = λ was not_yet. own.first was not_yet
+            ∙ ap (λ (past : List (List ℕ)). (own_submission c m.own.descriptor past 1).inner_ciphertext) (sym (past_same 1 was));
+        second = λ was. own.second was
+            ∙ ap (λ (past : List (List ℕ)). (own_submission c m.own.descriptor past 2).inner_ciphertext) (sym (past_same (submit_stage m.log.shape 2) was));
+      };
+    })
+  where
+    silent : IsSilent m
+    silent = silent-here m r asked
+
+    others : IsOthers m.log (m.seat.number + 1) (slot_here m)
+    others = here-others m asked silent
+
+    log : Log
+    log = filled m.log (slot_here m) post
+
+    own : IsOwnOf start c (asked_at (holdings_of m) Spoken)
+    own = s.own
+
+    same : post ≡ signed_at c a.stand.at post.content
+    same = post-is c a m post f r asked signed s.entered s.at.stage
+
+    made : posts_made (holdings_of (posted m post)) ≡ posts_made (holdings_of m) ++ post ∷ []
+    made = posted-made m post f asked silent
+
+    next : Actor
+    next = record a {
+      log = filled a.log (record { stage = a.stand.at; sender = c.number }) (signed_at c a.stand.at post.content);
+      mood = Spoken;
+      made = a.made ++ signed_at c a.stand.at post.content ∷ [];
+    }
+
+    behind : actor_behind_post c a (signed_at c a.stand.at post.content) ≡ next
+    behind = cond-true (is_ok (content_read (shape_in c) post.content)) _ _ (ap (λ (shape : Shape). is_ok (content_read shape post.content)) (sym (round-shape c m f s.entered)) ∙ reads)
+
+    log_is : log ≡ filled a.log (record { stage = a.stand.at; sender = c.number }) (signed_at c a.stand.at post.content)
+    log_is = ap (λ (l : Log). filled l (slot_here m) post) s.at.log
+        ∙ ap (λ (stage : ℕ). filled a.log (record { stage = stage; sender = m.seat.number }) post) s.at.stage
+        ∙ ap (λ (number : ℕ). filled a.log (record { stage = a.stand.at; sender = number }) post) s.entered.number
+        ∙ ap (λ (p : Post). filled a.log (record { stage = a.stand.at; sender = c.number }) p) same
+
+    past_same : (stage : ℕ) → was_asked m.stage Spoken stage ≡ true → past_of log stage ≡ past_of m.log stage
+    past_same stage was = past-stays m.log (m.seat.number + 1) (slot_here m) post stage m.stage others r.past (asked-within m.stage Spoken stage was)
+
+-- and behind one that it does not keep for the mute one
+pub strayed-stands : (now start : Replies) (c : Configuration) (a : Actor) (m : Machine) (post : Post) → IsFormed m → IsReady m → IsToBeAsked m
+    → IsSigned m post → is_ok (content_read m.log.shape post.content) ≡ false → StandsAsked now start c a (holdings_of m)
+    → StandsFor now start c (actor_behind_post c a (signed_at c a.stand.at post.content)) (holdings_of (strayed m post))
+strayed-stands now start c a m post f r asked signed outside s =
+    subst (λ (x : Actor). StandsFor now start c x (holdings_of (strayed m post))) (sym behind) (record {
+      can_enter = s.can_enter;
+      entered = record {
+        roster = s.entered.roster;
+        number = s.entered.number;
+        round = s.entered.round;
+        message = s.entered.message;
+        key = s.entered.key;
+        next = (let used = s.entered.next in let longer = length-append (posts_made (holdings_of m)) (post ∷ []) in let more = ap length made in omega (arith, used, longer, more));
+        secrets = record { first = tt; bulk = tt; second = tt };
+      };
+      at = record {
+        log = s.at.log;
+        stage = s.at.stage;
+        past = s.at.past;
+        mood = refl;
+        made = made ∙ ap (λ (posts : List Post). posts ++ post ∷ []) s.at.made
+            ∙ ap (λ (p : Post). a.made ++ p ∷ []) (post-is c a m post f r asked signed s.entered s.at.stage);
+        ending = shows-open c a next m.ending asked.going refl s.at.ending;
+      };
+      conduct = tt;
+      own = tt;
+    })
+  where
+    made : posts_made (holdings_of (strayed m post)) ≡ posts_made (holdings_of m) ++ post ∷ []
+    made = strayed-made m post (silent-here m r asked)
+
+    next : Actor
+    next = record a { mood = Mute; made = a.made ++ signed_at c a.stand.at post.content ∷ [] }
+
+    behind : actor_behind_post c a (signed_at c a.stand.at post.content) ≡ next
+    behind = cond-false (is_ok (content_read (shape_in c) post.content)) _ _ (ap (λ (shape : Shape). is_ok (content_read shape post.content)) (sym (round-shape c m f s.entered)) ∙ outside)
+
+-- ---- as the code holds it
+
+-- what is said of the member behind a post is so of the code, which has these leaves and this log
+pub posted-so : (P : Machine → Type 0) (m : Machine) (post : Post) (leaves : RunState) (log : Log) → leaves ≡ leaf_spent m.leaves
+    → log ≡ filled m.log (slot_here m) post → P (posted m post) → P (record m { leaves = leaves; log = log; mood = Spoken })
+posted-so P m post leaves log spent filled_is so =
+    subst (λ (l : RunState). P (record m { leaves = l; log = log; mood = Spoken })) (sym spent)
+    (subst (λ (l : Log). P (record m { leaves = leaf_spent m.leaves; log = l; mood = Spoken })) (sym filled_is) so)
+
+pub strayed-so : (P : Machine → Type 0) (m n : Machine) (post : Post) (leaves : RunState) → leaves ≡ leaf_spent m.leaves
+    → n ≡ record m { leaves = leaves; stray = Some post; secrets = no_secrets; mood = Mute } → P (strayed m post) → P n
+strayed-so P m n post leaves spent e so =
+    subst P (sym e) (subst (λ (l : RunState). P (record m { leaves = l; stray = Some post; secrets = no_secrets; mood = Mute })) (sym spent) so)

@@ -228,7 +228,7 @@ formed-stays m slot post s f =
       handed = (let was = f.handed in omega (arith, made, was));
     }
 
-keys-stay : (log : Log) (slot : Slot) (post : Post) (stage : ℕ) (o : Option GroupKeys) → (IsSome o → past_of (filled log slot post) 1 ≡ past_of log 1)
+pub keys-stay : (log : Log) (slot : Slot) (post : Post) (stage : ℕ) (o : Option GroupKeys) → (IsSome o → past_of (filled log slot post) 1 ≡ past_of log 1)
     → CarriesKeys log stage o → CarriesKeys (filled log slot post) stage o
 keys-stay log slot post stage None same e = e
 keys-stay log slot post stage (Some keys) same e = record {
@@ -236,7 +236,7 @@ keys-stay log slot post stage (Some keys) same e = record {
   counts = e.counts;
 }
 
-opened-stay : (log : Log) (slot : Slot) (post : Post) (stage : ℕ) (o : Option (List (Option (List ℕ))))
+pub opened-stay : (log : Log) (slot : Slot) (post : Post) (stage : ℕ) (o : Option (List (Option (List ℕ))))
     → (IsSome o → past_of (filled log slot post) (stage_opened log) ≡ past_of log (stage_opened log))
     → CarriesOpened log stage o → CarriesOpened (filled log slot post) stage o
 opened-stay log slot post stage None same e = e
@@ -245,13 +245,13 @@ opened-stay log slot post stage (Some items) same e = record {
   count = e.count;
 }
 
-slots-stay : (log : Log) (slot : Slot) (post : Post) (stage : ℕ) (o : Option Slots)
+pub slots-stay : (log : Log) (slot : Slot) (post : Post) (stage : ℕ) (o : Option Slots)
     → (IsSome o → past_of (filled log slot post) (stage_found log) ≡ past_of log (stage_found log))
     → CarriesSlots log stage o → CarriesSlots (filled log slot post) stage o
 slots-stay log slot post stage None same e = e
 slots-stay log slot post stage (Some slots) same e = subst (λ (past : List (List ℕ)). AreSlotsSaid log.shape past slots) (sym (same refl)) e
 
-some-mapped : {A B : Type 0} (f : A → B) (o : Option A) → IsSome (option_map f o) → IsSome o
+pub some-mapped : {A B : Type 0} (f : A → B) (o : Option A) → IsSome (option_map f o) → IsSome o
 some-mapped f (Some x) is = refl
 some-mapped f None is = absurd cc
 
@@ -323,7 +323,7 @@ behind-most stage Mute = omega arith
 pub asked-within : (stage : ℕ) (mood : Mood) (other : ℕ) → was_asked stage mood other ≡ true → other ≤ stage
 asked-within stage mood other e = (let lt = ltb-true other (stages_behind stage mood) e in let most = behind-most stage mood in omega (arith, lt, most))
 
-answers-stay : (now start : Replies) (c : Configuration) (past other : List (List ℕ)) (b : Bool) → (b ≡ true → other ≡ past) → AnswersBy now start c past b
+pub answers-stay : (now start : Replies) (c : Configuration) (past other : List (List ℕ)) (b : Bool) → (b ≡ true → other ≡ past) → AnswersBy now start c past b
     → AnswersBy now start c other b
 answers-stay now start c past other true same e = subst (λ (said : List (List ℕ)). AnswersBy now start c said true) (sym (same refl)) e
 answers-stay now start c past other false same e = e

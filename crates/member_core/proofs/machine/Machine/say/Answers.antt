@@ -16,6 +16,7 @@ use Rattle.member_core.specs.Needs.{HoldsNeeded, no_secrets}
 use Rattle.member_core.specs.Shorts.{own_limit}
 use Rattle.member_core.specs.Sound.{IsFormed, IsPutOff, IsReady, IsSound, slot_here}
 use Rattle.member_core.specs.Stands.{StandsFor}
+use Rattle.member_core.proofs.Posting.{posted-sound, posted-stands, strayed-stands, posted-so, strayed-so, mute-ready, mute-needed, strayed-formed, leaf-left}
 use Rattle.member_core.proofs.machine.Machine.say.Goals as goal
 
 -- src/speaking.rt:45:25
