@@ -30,6 +30,3 @@ pub use speaking::content;
 pub use submitting::{accusation_item, make_descriptor, submit};
 pub use turning::turn_body;
 pub use voting::{check_body, go_body};
-
-#[cfg(test)]
-mod tests;

@@ -164,13 +164,13 @@ places-room c places some whole reads =
 -- ---- the law
 
 -- what a log of the round keeps has room, if it reads in its slots
-log-room : (c : Configuration) (a : Actor) → CanEnter c → IsLog a.log → a.log.shape ≡ shape_in c
-    → ((slot : Slot) (post : Post) → kept_in a.log slot ≡ Some post → ReadsIn c slot post) → KeepsAtMost c a
+log-room : (c : Configuration) (log : Log) → CanEnter c → IsLog log → log.shape ≡ shape_in c
+    → ((slot : Slot) (post : Post) → kept_in log slot ≡ Some post → ReadsIn c slot post) → KeepsAtMost c log
 unfolding bytes_kept
-log-room c a is log shape reads = record {
+log-room c log is form shape reads = record {
   each = λ slot post kind e kind_is. post-room c slot post kind (members-least c is) (reads slot post e) kind_is;
-  all = places-room c a.log.posts (members-least c is) (log.places ∙ ap slot_count shape)
-      (λ slot post e. reads slot post (ap (λ (s : Shape). kept_in (record { shape = s; posts = a.log.posts }) slot) shape ∙ e));
+  all = places-room c log.posts (members-least c is) (form.places ∙ ap slot_count shape)
+      (λ slot post e. reads slot post (ap (λ (s : Shape). kept_in (record { shape = s; posts = log.posts }) slot) shape ∙ e));
 }
 
 settled-shape : (c : Configuration) (others : Others) → (settled_log c others).shape ≡ shape_in c
@@ -184,5 +184,5 @@ plain_keeps_at_most replies c delivered plain is are =
     let others : Others = first_posts c (delivered_counted c delivered) in
     let log : a.log ≡ settled_log c others = (plain_comes_to_result replies c delivered plain is are).log in
     let check : OthersCheck c others = λ slot post e. (first_posts_delivered c (delivered_counted c delivered) slot post (counted-bytes c delivered are) e).checks in
-    log-room c a is (subst IsLog (sym log) (settled_is_log c others is check)) (ap (λ (l : Log). l.shape) log ∙ settled-shape c others)
+    log-room c a.log is (subst IsLog (sym log) (settled_is_log c others is check)) (ap (λ (l : Log). l.shape) log ∙ settled-shape c others)
     (λ slot post e. settled_posts_read c others is check slot post (sym (ap (λ (l : Log). kept_in l slot) log) ∙ e))

@@ -15,7 +15,7 @@ use Rattle.phase_message.specs.Header.{header_of}
 use Rattle.phase_message.specs.Offence.{content_read}
 use Rattle.phase_message.specs.Post.{post_spelling}
 use Rattle.phase_message.specs.Stages.{kind_of_stage}
-use Rattle.stage_log.specs.Table.{kept_in}
+use Rattle.stage_log.specs.Table.{Log, kept_in}
 use Rattle.shuffle_blame.specs.Replay.{outer_place}
 use Rattle.round_spec.specs.Slots.{final_stage, inner_place}
 use Rattle.round_spec.specs.Say.{Configuration, own_key_seed, own_opening, shape_in}
@@ -79,13 +79,13 @@ PlainEndsOnce = (replies : Replies) (c : Configuration) (delivered : List (List 
 
 -- ---- room
 
--- what is kept has at most the bytes of the greatest post in each slot, and of all of these in the log
-pub record KeepsAtMost (c : Configuration) (a : Actor) : Type 0 where
-  pub each : (slot : Slot) (post : Post) (kind : StageKind) → kept_in a.log slot ≡ Some post →
+-- what a log keeps has at most the bytes of the greatest post in each slot, and of all of these together
+pub record KeepsAtMost (c : Configuration) (log : Log) : Type 0 where
+  pub each : (slot : Slot) (post : Post) (kind : StageKind) → kept_in log slot ≡ Some post →
       kind_of_stage (shape_in c) slot.stage ≡ Some kind → length (post_spelling post) ≤ greatest_post (shape_in c) kind
-  pub all : bytes_kept a.log ≤ greatest_log (shape_in c)
+  pub all : bytes_kept log ≤ greatest_log (shape_in c)
 
--- so it is with every plain conduct
+-- so it is with the log of every plain conduct
 abbrev pub PlainKeepsAtMost : Type 0
 PlainKeepsAtMost = (replies : Replies) (c : Configuration) (delivered : List (List ℕ)) → IsPlain replies → CanEnter c →
-    All IsBytes delivered → KeepsAtMost c (actor_after replies c delivered)
+    All IsBytes delivered → KeepsAtMost c (actor_after replies c delivered).log
