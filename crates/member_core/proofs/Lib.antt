@@ -6,3 +6,4 @@ pub mod RowForms
 pub mod RowLengths
 mod Storing
 pub mod Posting
+pub mod Promised

@@ -5,5 +5,6 @@ pub mod Sound
 pub mod Concluding
 pub mod Stands
 pub mod Found
+pub mod Promises
 pub mod Limits
 pub mod Asking

@@ -29,16 +29,18 @@ impl<C: Conduct> Model for Member<C> {
 }
 
 impl<C: Conduct> Member<C> {
-    ghost use Rattle.std.specs.Prelude.{◌≡◌, ◌≤◌, ◌↔◌, ℕ, List, [], IfOk, IsErr, None, Some, length, option_map, slice_get};
+    ghost use Rattle.std.specs.Prelude.{◌≡◌, ◌≤◌, ◌↔◌, ℕ, List, [], IfOk, IfSome, IsErr, None, Some, length, option_map, slice_get};
     ghost use Rattle.bulk_descriptor.specs.declared.making.TheConstants.{MESSAGE_LIMIT};
     ghost use Rattle.phase_message.specs.Post.{post_spelling};
     ghost use Rattle.round_spec.specs.Result.{posts_of, result_of};
+    ghost use Rattle.round_spec.specs.Runs.{Run, posts_said, run_after};
     ghost use Rattle.round_spec.specs.Say.{Configuration};
     ghost use Rattle.member_spec.specs.Actor.{actor_after};
     ghost use Rattle.member_spec.specs.Outcomes.{evidence_shown, outcome_of, slots_shown, state_of};
     ghost use Rattle.member_spec.specs.Replies.{IsPlain, Replies};
     ghost use Rattle.member_core.specs.Membership.{IsOutOfMemory, IsRunning, evidence_held, handed_next, posts_made, slots_held, state_by};
     ghost use Rattle.member_core.specs.Needs.{HoldsNeeded};
+    ghost use Rattle.member_core.specs.Promises.{HasRosterKey, HoldsMessages, IsAllHonest, IsEvidence, IsOneList, IsPlainMember, KeepsPromise, KeepsRun, WaitsIfOpen};
     ghost use Rattle.member_core.specs.Stands.{Stands, configuration_of};
 
     /// Enters a round, with twelve leaves or more, and says what can be said before anything was delivered. Out of memory
@@ -49,6 +51,8 @@ impl<C: Conduct> Member<C> {
         requires short { length config.message ≤ MESSAGE_LIMIT }
         requires leaves { 12 ≤ leaves.left }
         ensures stands { IfOk result (Stands C.replies (C.replies conduct) (configuration_of config leaves) []) }
+        ensures plain_member { IsPlain (C.replies conduct) → IfOk result (IsPlainMember C.replies (configuration_of config leaves) []) }
+        ensures run { IsPlain (C.replies conduct) → IfOk result (λ member. KeepsRun (configuration_of config leaves) [] member.holds) }
         ensures handed { IfOk result (λ member. member.holds.handed ≡ 0) }
         ensures secrets { IfOk result (λ member. HoldsNeeded member.holds) }
         ensures runs { IfOk result (λ member. IsRunning member.holds.ending) }
@@ -74,6 +78,11 @@ impl<C: Conduct> Member<C> {
             option_map (λ bytes. bytes.items) post ≡ option_map post_spelling (slice_get (posts_of c delivered) self.old.holds.handed)) }
         ensures stands { IfOk result (λ post. (start : Replies) (c : Configuration) (delivered : List (List ℕ)) →
             Stands C.replies start c delivered self.old → Stands C.replies start c delivered self.new) }
+        ensures plain_member { IfOk result (λ post. (c : Configuration) (delivered : List (List ℕ)) →
+            IsPlainMember C.replies c delivered self.old → IsPlainMember C.replies c delivered self.new) }
+        ensures said { IfOk result (λ post. (c : Configuration) (delivered : List (List ℕ)) → IsPlainMember C.replies c delivered self.old →
+            option_map (λ bytes. bytes.items) post
+            ≡ option_map post_spelling (slice_get (posts_said (run_after c delivered)) self.old.holds.handed)) }
         ensures handed { IfOk result (λ post. self.new ≡ handed_next self.old post) }
         ensures room { self.old.holds.handed ≤ length (posts_made self.old.holds) }
         ensures none { slice_get (posts_made self.old.holds) self.old.holds.handed ≡ None → IsErr result → IsOutOfMemory self.old.holds.ending }
@@ -107,6 +116,12 @@ impl<C: Conduct> Member<C> {
             result ≡ state_of (outcome_of c (actor_after start c delivered)) }
         ensures plain { (start : Replies) (c : Configuration) (delivered : List (List ℕ)) → Stands C.replies start c delivered self.now →
             IsPlain start → result ≡ state_of (result_of c delivered) }
+        ensures promise { (c : Configuration) (delivered : List (List ℕ)) → IsPlainMember C.replies c delivered self.now →
+            HasRosterKey c → KeepsPromise c delivered result }
+        ensures waits { (c : Configuration) (delivered : List (List ℕ)) → IsPlainMember C.replies c delivered self.now →
+            WaitsIfOpen c delivered result }
+        ensures all_honest { (c : Configuration) (delivered : List (List ℕ)) (runs : List Run) →
+            IsPlainMember C.replies c delivered self.now → IsAllHonest c delivered runs → result ≡ State.Done }
         ensures stopped { (result ≡ State.Stopped) ↔ IsOutOfMemory self.now.holds.ending }
     {
         self.machine.state()
@@ -119,6 +134,10 @@ impl<C: Conduct> Member<C> {
             option_map (λ slots. slots.now.items) result ≡ slots_shown (outcome_of c (actor_after start c delivered)) }
         ensures plain { (start : Replies) (c : Configuration) (delivered : List (List ℕ)) → Stands C.replies start c delivered self.now →
             IsPlain start → option_map (λ slots. slots.now.items) result ≡ slots_shown (result_of c delivered) }
+        ensures messages { (c : Configuration) (delivered : List (List ℕ)) → IsPlainMember C.replies c delivered self.now →
+            IfSome result (λ slots. HoldsMessages c delivered slots.now.items) }
+        ensures one_list { (c : Configuration) (delivered : List (List ℕ)) → IsPlainMember C.replies c delivered self.now →
+            IfSome result (λ slots. IsOneList c delivered slots.now.items) }
     {
         self.machine.slots()
     }
@@ -130,6 +149,8 @@ impl<C: Conduct> Member<C> {
             option_map (λ bytes. bytes.now.items) result ≡ evidence_shown (outcome_of c (actor_after start c delivered)) }
         ensures plain { (start : Replies) (c : Configuration) (delivered : List (List ℕ)) → Stands C.replies start c delivered self.now →
             IsPlain start → option_map (λ bytes. bytes.now.items) result ≡ evidence_shown (result_of c delivered) }
+        ensures convicts { (c : Configuration) (delivered : List (List ℕ)) → IsPlainMember C.replies c delivered self.now → HasRosterKey c →
+            IfSome result (λ bytes. IsEvidence c delivered (state_by self.now.holds self.now.holds.ending) bytes.now.items) }
     {
         self.machine.evidence()
     }

@@ -255,6 +255,7 @@ impl<C: Conduct> Member<C> {
     ghost use Rattle.member_spec.specs.Taking.{LeavesAll, answer_to};
     ghost use Rattle.member_core.specs.Membership.{HasBlamed, HasEnded, IsOpen, IsOutOfMemory, IsRunning};
     ghost use Rattle.member_core.specs.Needs.{HoldsNeeded};
+    ghost use Rattle.member_core.specs.Promises.{IsPlainMember, KeepsRun};
     ghost use Rattle.member_core.specs.Stands.{Stands};
 
     /// Takes a delivered byte string. `Finished` exactly where the round had ended; else `Ignored` exactly where one of the
@@ -265,6 +266,10 @@ impl<C: Conduct> Member<C> {
     pub fn deliver(&mut self, alloc: Global, bytes: &[u8]) -> Mem<Taken>
         ensures stands { IfOk result (λ taken. (start : Replies) (c : Configuration) (delivered : List (List ℕ)) →
             Stands C.replies start c delivered self.old → Stands C.replies start c (delivered ++ bytes.now ∷ []) self.new) }
+        ensures plain_member { IfOk result (λ taken. (c : Configuration) (delivered : List (List ℕ)) →
+            IsPlainMember C.replies c delivered self.old → IsPlainMember C.replies c (delivered ++ bytes.now ∷ []) self.new) }
+        ensures run { IfOk result (λ taken. (c : Configuration) (delivered : List (List ℕ)) →
+            IsPlainMember C.replies c delivered self.old → KeepsRun c (delivered ++ bytes.now ∷ []) self.new.holds) }
         ensures answer { IfOk result (λ taken. (start : Replies) (c : Configuration) (delivered : List (List ℕ)) →
             Stands C.replies start c delivered self.old → taken ≡ answer_to start c (actor_after start c delivered) bytes.now) }
         ensures leaves { IfOk result (λ taken. LeavesAll taken → self.new ≡ self.old) }
