@@ -6,3 +6,5 @@ pub mod RowForms
 pub mod RowLengths
 mod Storing
 pub mod Posting
+mod Repeating
+mod Results
