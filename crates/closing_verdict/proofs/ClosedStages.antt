@@ -1,7 +1,7 @@
 -- A closing stage all posts of which a log has.
 use Rattle.std.proofs.Common.{◌≡◌, ◌⊎◌, ℕ, ◌+◌, ◌-◌, ◌<◌, ◌≤◌, Bool, true, false, List, [], length, Option, Some, None, Result, Ok, Err, ap, sym, ◌∙◌, refl, subst, arith, inl, inr}
-use Rattle.std.specs.Prelude.{◌==◌, IsSome, is_some, option_and_then, slice_index_or}
-use Rattle.std.proofs.lemmas.Bool.{cases_eq, cases_lt, eqb-false, eqb-true}
+use Rattle.std.specs.Prelude.{is_some, option_and_then}
+use Rattle.std.proofs.lemmas.Bool.{cases_eq, cases_lt}
 use Rattle.std.specs.List.{slice_get}
 use Rattle.std.proofs.lemmas.Option.{get_or_from_slice_get}
 use Rattle.phase_message.specs.declared.content.Content.{Content}
@@ -85,15 +85,15 @@ whole-stage c is =
 -- ---- where the ends stand
 
 -- the end of a shuffle is that of the first or the second
-pub end-first : (shape : Shape) (stage shuffle : ℕ) → kind_of_stage shape stage ≡ Some (AtFinal shuffle) → (shuffle == 1) ≡ true → (shuffle ≡ 1) × (stage ≡ final_stage shape 1)
+pub end-first : (shape : Shape) (stage shuffle : ℕ) → kind_of_stage shape stage ≡ Some (AtFinal shuffle) → shuffle ≡ 1 → stage ≡ final_stage shape 1
 end-first shape stage shuffle kind first = elim (ends_at shape stage shuffle kind) [
-  | inl a ↦ (let at = a.1 in let final : final_stage shape 1 ≡ 1 + (shape.members + 2) = refl in (a.0, omega (arith, at, final)))
-  | inr b ↦ absurd (let is = b.0 in let one = eqb-true shuffle 1 first in omega (arith, is, one))
+  | inl a ↦ (let at = a.1 in let final : final_stage shape 1 ≡ 1 + (shape.members + 2) = refl in omega (arith, at, final))
+  | inr b ↦ absurd (let is = b.0 in omega (arith, is, first))
 ]
 
-pub end-second : (shape : Shape) (stage shuffle : ℕ) → kind_of_stage shape stage ≡ Some (AtFinal shuffle) → (shuffle == 1) ≡ false → (shuffle ≡ 2) × (stage ≡ final_stage shape 2)
+pub end-second : (shape : Shape) (stage shuffle : ℕ) → kind_of_stage shape stage ≡ Some (AtFinal shuffle) → (shuffle ≡ 1 → ⊥) → (shuffle ≡ 2) × (stage ≡ final_stage shape 2)
 end-second shape stage shuffle kind second = elim (ends_at shape stage shuffle kind) [
-  | inl a ↦ absurd (eqb-false shuffle 1 second a.0)
+  | inl a ↦ absurd (second a.0)
   | inr b ↦ (let at = b.1 in let final : final_stage shape 2 ≡ shape.members + 7 + (shape.members + 2) = refl in (b.0, omega (arith, at, final)))
 ]
 
@@ -140,3 +140,17 @@ confirm-at shape stage e =
         ]
       ]
     ]
+
+-- a closing stage is behind the keys and the first shuffle, and there are few
+pub record IsLate (shape : Shape) (stage : ℕ) : Type 0 where
+  pub least : shape.members + 3 ≤ stage
+  pub most : stage ≤ shape.members + shape.members + 9
+
+pub closing-late : (shape : Shape) (stage : ℕ) → is_closing shape stage ≡ true → IsLate shape stage
+closing-late shape stage closing = elim (closing-end shape stage closing) [
+  | inl final ↦ elim (ends_at shape stage final.0 final.1) [
+    | inl a ↦ (let at = a.1 in record { least = omega arith; most = omega arith })
+    | inr b ↦ (let at = b.1 in record { least = omega arith; most = omega arith })
+  ]
+  | inr confirm ↦ (let at = confirm-at shape stage confirm in record { least = omega arith; most = omega arith })
+]

@@ -2,3 +2,4 @@ pub mod Charges
 pub mod ClosingPosts
 pub mod PadPosts
 pub mod ClosedStages
+pub mod Agreements

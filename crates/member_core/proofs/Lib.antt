@@ -7,3 +7,5 @@ pub mod RowLengths
 mod Storing
 pub mod Posting
 pub mod Promised
+mod Repeating
+mod Results

@@ -226,6 +226,7 @@ formed-stays m slot post s f =
       short = short-stays m.log m.seat.number slot post s.short f.short;
       leaves = (let was = f.leaves in omega (arith, made, was));
       handed = (let was = f.handed in omega (arith, made, was));
+      stray = f.stray;
     }
 
 pub keys-stay : (log : Log) (slot : Slot) (post : Post) (stage : ℕ) (o : Option GroupKeys) → (IsSome o → past_of (filled log slot post) 1 ≡ past_of log 1)
