@@ -8,3 +8,5 @@ mod Storing
 pub mod Posting
 mod Repeating
 mod Results
+pub mod Seeing
+pub mod Shown
