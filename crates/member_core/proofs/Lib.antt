@@ -10,3 +10,5 @@ mod Repeating
 mod Results
 pub mod Seeing
 pub mod Shown
+mod Belonging
+mod Due
