@@ -9,3 +9,7 @@ pub mod Posting
 pub mod Promised
 mod Repeating
 mod Results
+pub mod Seeing
+pub mod Shown
+mod Belonging
+mod Due

@@ -1,6 +1,7 @@
 -- What is true of each member between its calls.
-use Rattle.std.specs.Prelude.{◌≡◌, ℕ, ◌+◌, ◌≤◌, List, length, Option, Some, None, IsSome, IsTrue}
+use Rattle.std.specs.Prelude.{◌≡◌, ℕ, ◌+◌, ◌≤◌, ◌<◌, ◌^◌, List, length, Option, Some, None, IfSome, IsSome, IsTrue}
 use Rattle.std.specs.Option.{option_map}
+use Rattle.phase_message.specs.declared.post.Post.{Post}
 use Rattle.phase_message.specs.declared.stage.Slot.{Slot}
 use Rattle.phase_message.specs.Slots.{stage_count}
 use Rattle.phase_message.specs.Stages.{is_slot, kind_of_stage, shape_of}
@@ -38,7 +39,8 @@ pub record IsMachineOf (c : Configuration) (m : Machine) : Type 0 where
   pub pad : m.own.pad ≡ own_pad (own_pad_seeds c) c.number hidden
 
 -- some member entered so; the log is one of the round, with posts that stand in their slots and are not too long; there
--- is a leaf for each own slot without a post; and no post was handed out that was not made
+-- is a leaf for each own slot without a post; no post was handed out that was not made; and that which it does not keep can
+-- be written
 pub record IsFormed (m : Machine) : Type 0 where
   pub entered : (c : Configuration) × IsMachineOf c m
   pub message : length m.message ≤ MESSAGE_LIMIT
@@ -48,6 +50,7 @@ pub record IsFormed (m : Machine) : Type 0 where
   pub short : IsShortLog m.seat.number m.log
   pub leaves : 12 ≤ m.leaves.left + length (posts_made (holdings_of m))
   pub handed : m.handed ≤ length (posts_made (holdings_of m))
+  pub stray : IfSome m.stray (λ (post : Post). length post.content < 2 ^ 32)
 
 -- ---- while the round is open
 

@@ -33,6 +33,7 @@ use wire_core::{List, Mem};
 
 impl Machine {
     // Its five keys.
+    #[tactic(none)]
     pub(crate) fn keys_due(&self) -> Body
         requires formed { IsFormed self.now }
         requires ready { IsReady self.now }
@@ -54,6 +55,7 @@ impl Machine {
     }
 
     // The submission to shuffle A, for which the conduct is asked about the descriptor.
+    #[tactic(none)]
     pub(crate) fn first_submission_due<C: Conduct>(
         &mut self,
         alloc: Global,
@@ -87,6 +89,7 @@ impl Machine {
     }
 
     // The bytes of the descriptor that the conduct makes of its own one, and the pad that it sends itself.
+    #[tactic(none)]
     fn descriptor_due<C: Conduct>(
         &self,
         alloc: Global,
@@ -124,6 +127,7 @@ impl Machine {
     }
 
     // An item as it submits it to a shuffle.
+    #[tactic(none)]
     fn submission_of(&self, alloc: Global, shuffle: u8, item: &[u8]) -> Mem<Submission>
         requires formed { IsFormed self.now }
         requires ready { IsReady self.now }
@@ -160,6 +164,7 @@ impl Machine {
     }
 
     // The submission to shuffle B, behind which the secrets of the messages are not needed any more.
+    #[tactic(none)]
     pub(crate) fn second_submission_due(&mut self, alloc: Global) -> Mem<Body>
         requires formed { IsFormed self.old }
         requires ready { IsReady self.old }
@@ -185,6 +190,7 @@ impl Machine {
     }
 
     // What it accuses of.
+    #[tactic(none)]
     fn accusation_due(&self) -> [u8; 34]
         requires formed { IsFormed self.now }
         requires ready { IsReady self.now }
@@ -207,6 +213,7 @@ impl Machine {
     }
 
     // Its turn of a shuffle.
+    #[tactic(none)]
     pub(crate) fn turn_due(&self, alloc: Global, shuffle: u8) -> Mem<Body>
         requires formed { IsFormed self.now }
         requires ready { IsReady self.now }
@@ -220,6 +227,7 @@ impl Machine {
     }
 
     // Its vote on a shuffle.
+    #[tactic(none)]
     pub(crate) fn go_due(&self, alloc: Global, shuffle: u8) -> Mem<Body>
         requires formed { IsFormed self.now }
         requires ready { IsReady self.now }
@@ -232,6 +240,7 @@ impl Machine {
     }
 
     // The end of a shuffle, which takes its secrets.
+    #[tactic(none)]
     pub(crate) fn end_due(&mut self, alloc: Global, shuffle: u8) -> Mem<Body>
         requires formed { IsFormed self.old }
         requires ready { IsReady self.old }
@@ -252,6 +261,7 @@ impl Machine {
     }
 
     // Its pads.
+    #[tactic(none)]
     pub(crate) fn pads_due(&self, alloc: Global) -> Mem<Body>
         requires formed { IsFormed self.now }
         requires ready { IsReady self.now }
@@ -272,6 +282,7 @@ impl Machine {
     }
 
     // Its vote on what was seen.
+    #[tactic(none)]
     pub(crate) fn check_due(&self) -> Body
         requires formed { IsFormed self.now }
         requires ready { IsReady self.now }
@@ -283,6 +294,7 @@ impl Machine {
     }
 
     // What closes the votes on what was seen.
+    #[tactic(none)]
     pub(crate) fn confirm_due(&self, alloc: Global) -> Mem<Body>
         requires formed { IsFormed self.now }
         requires ready { IsReady self.now }
