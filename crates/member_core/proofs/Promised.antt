@@ -1,9 +1,8 @@
 -- A plain member keeps what is promised of its round.
-use Rattle.std.proofs.Common.{◌≡◌, ℕ, List, [], ◌∷◌, ◌++◌, Option, Some, None, ap, sym, ◌∙◌, refl, subst}
-use Rattle.std.specs.Prelude.{All, option_map, slice_get}
+use Rattle.std.proofs.Common.{◌≡◌, ℕ, List, [], Option, Some, None, Result, Ok, Err, ap, sym, ◌∙◌, refl, subst}
+use Rattle.std.specs.Prelude.{All, IfOk, IfSome, option_map}
 use Rattle.wire_core.specs.Bytes.{IsBytes}
 use Rattle.phase_message.specs.declared.post.Post.{Post}
-use Rattle.phase_message.specs.Post.{post_spelling}
 use Rattle.stage_log.specs.Table.{Log}
 use Rattle.transcript_form.specs.declared.claim.Claim.{Claim}
 use Rattle.transcript_form.specs.declared.transcript.Transcript.{Transcript}
@@ -25,17 +24,18 @@ use Rattle.member_spec.specs.declared.state.State.TheVariants.{Done, Blamed}
 use Rattle.member_spec.specs.Actor.{Actor, actor_after}
 use Rattle.member_spec.specs.Outcomes.{evidence_shown, slots_shown, state_of}
 use Rattle.member_spec.specs.Plain.{ComesTo, EndsOnce, KeepsAtMost}
-use Rattle.member_spec.specs.Replies.{Replies}
+use Rattle.member_spec.specs.Replies.{IsPlain, Replies}
 use Rattle.member_spec.proofs.PlainLaws.{plain_comes_to_result, plain_ends_once, plain_posts_are_said}
 use Rattle.member_spec.proofs.Room.{plain_keeps_at_most}
-use Rattle.member_core.specs.Membership.{Holdings, Membership, posts_made}
+use Rattle.member_core.specs.Membership.{Membership, posts_made, state_by}
 use Rattle.member_core.specs.Promises.{ConvictsFaulty, HasRosterKey, HoldsMessages, IsAllHonest, IsEvidence, IsOneList, IsPlainMember, KeepsPromise, KeepsRun, WaitsForMissed, WaitsIfOpen}
 use Rattle.member_core.specs.Stands.{Stands}
+use Rattle.member_core.proofs.Shown.{state-shown}
 
 -- ---- by the result
 
 -- a configuration with the roster's key
-configured : (c : Configuration) → CanEnter c → HasRosterKey c → IsConfiguration c
+pub configured : (c : Configuration) → CanEnter c → HasRosterKey c → IsConfiguration c
 configured c enters key = record { enter = enters; key = key }
 
 waits-for : (c : Configuration) (delivered : List (List ℕ)) (stage : ℕ) (named : List ℕ) → CanEnter c → All IsBytes delivered
@@ -74,7 +74,7 @@ waits c delivered enters are = by_result (result_of c delivered) refl
 pub all-done : (c : Configuration) (delivered : List (List ℕ)) (runs : List Run) → IsAllHonest c delivered runs
     → state_of (result_of c delivered) ≡ Done
 all-done c delivered runs is =
-    let done = all_honest c delivered runs is.among is.distinct is.runs is.heard in
+    let done = all_honest c delivered runs is.among is.distinct is.all is.heard in
     ap state_of done.1
 
 list-same : (a b : List SlotState) → (let told : List SlotState → Option (List SlotState) = λ x. Some x in told a ≡ told b) → a ≡ b
@@ -140,3 +140,43 @@ plain-run replies_of c delivered m is =
       room = subst (KeepsAtMost c) (sym at.log) (plain_keeps_at_most start c delivered is.plain enters are);
       honest = λ key. run_after_is_honest c delivered (configured c enters key) are;
     }
+
+-- so the posts that the definition of a round tells are those that the run of the deliveries said
+pub posts-said : {A : Type 0} (replies_of : A → Replies) (c : Configuration) (delivered : List (List ℕ)) (m : Membership A)
+    → IsPlainMember replies_of c delivered m → posts_of c delivered ≡ posts_said (run_after c delivered)
+posts-said replies_of c delivered m is =
+    let enters = is.stands.stands.can_enter in
+    let are = is.stands.strings in
+    let comes = plain_comes_to_result is.start c delivered is.plain enters are in
+    sym comes.posts ∙ said-after is.start c delivered (actor_after is.start c delivered) refl comes (plain_posts_are_said is.start c delivered is.plain enters are)
+
+-- ---- clauses
+
+-- what holds of all that is shown holds of what a call shows
+pub if-shown : {T X : Type 0} (f : T → X) (r : Option T) (shown : Option X) (P : X → Type 0) → option_map f r ≡ shown
+    → ((x : X) → Some x ≡ shown → P x) → IfSome r (λ t. P (f t))
+if-shown f None shown P e each = tt
+if-shown f (Some t) shown P e each = each (f t) e
+
+-- what follows of a value follows of what a call gives
+pub if-given : {T E : Type 0} (r : Result T E) (P Q : T → Type 0) → ((t : T) → P t → Q t) → IfOk r P → IfOk r Q
+if-given (Ok t) P Q each is = each t is
+if-given (Err e) P Q each is = tt
+
+pub state-is : {A : Type 0} (replies_of : A → Replies) (c : Configuration) (delivered : List (List ℕ)) (m : Membership A)
+    → IsPlainMember replies_of c delivered m → state_by m.holds m.holds.ending ≡ state_of (result_of c delivered)
+state-is replies_of c delivered m is =
+    state-shown is.start c delivered m.holds is.stands.stands.at
+    ∙ ap state_of (plain_comes_to_result is.start c delivered is.plain is.stands.stands.can_enter is.stands.strings).outcome
+
+-- a plain conduct at the start makes a plain member
+pub plain-start : {A : Type 0} (replies_of : A → Replies) (start : Replies) (c : Configuration) (m : Membership A) → IsPlain start
+    → Stands replies_of start c [] m → IsPlainMember replies_of c [] m
+plain-start replies_of start c m plain stands = record { start = start; plain = plain; stands = stands }
+
+-- where one stands for more deliveries than the other did by the same answers, it is plain if the other was
+pub plain-goes-on : {A : Type 0} (replies_of : A → Replies) (old new : Membership A) (more : List (List ℕ) → List (List ℕ))
+    → ((start : Replies) (c : Configuration) (delivered : List (List ℕ)) → Stands replies_of start c delivered old → Stands replies_of start c (more delivered) new)
+    → (c : Configuration) (delivered : List (List ℕ)) → IsPlainMember replies_of c delivered old → IsPlainMember replies_of c (more delivered) new
+plain-goes-on replies_of old new more stands c delivered is =
+    record { start = is.start; plain = is.plain; stands = stands is.start c delivered is.stands }

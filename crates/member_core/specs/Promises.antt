@@ -86,7 +86,7 @@ pub record IsEvidence (c : Configuration) (delivered : List (List ℕ)) (state :
 pub record IsAllHonest (c : Configuration) (delivered : List (List ℕ)) (runs : List Run) : Type 0 where
   pub among : IsAmong c delivered runs
   pub distinct : NoRunsCollide runs
-  pub runs : AllHaveRuns c runs
+  pub all : AllHaveRuns c runs
   pub heard : AllDelivered c delivered
 
 -- slots are those of each other member of the round that is done, whoever is faulty
