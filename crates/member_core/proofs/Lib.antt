@@ -13,3 +13,4 @@ pub mod Seeing
 pub mod Shown
 mod Belonging
 mod Due
+pub mod MadePosts
