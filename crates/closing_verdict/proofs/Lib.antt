@@ -3,3 +3,4 @@ pub mod ClosingPosts
 pub mod PadPosts
 pub mod ClosedStages
 pub mod Agreements
+pub mod SecondContents
