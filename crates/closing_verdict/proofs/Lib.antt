@@ -1,5 +1,6 @@
 pub mod Charges
 pub mod ClosingPosts
+pub mod ClosingSaid
 pub mod PadPosts
 pub mod ClosedStages
 pub mod Agreements

@@ -1,7 +1,7 @@
 -- Where a log that a closing content embeds differs from what was kept: the first such slot is the one that convicts.
 use Rattle.std.proofs.Common.{◌≡◌, ℕ, zero, suc, ◌+◌, ◌-◌, ◌<◌, ◌≤◌, Bool, true, false, List, [], ◌∷◌, ◌++◌, length, get_or, map, take, drop, replicate, Option, Some, None, Result, Ok, Err, refl, sym, ap, subst, ◌∙◌, arith, inl, inr}
-use Rattle.std.specs.Prelude.{◌⊎◌, bytes_eq, zip}
-use Rattle.std.specs.List.{slice_get, slice_range}
+use Rattle.std.specs.Prelude.{◌⊎◌, IsSome, bytes_eq, option_and_then, zip}
+use Rattle.std.specs.List.{AllByRecursion, slice_get, slice_range}
 use Rattle.std.specs.Option.{option_flatten}
 use Rattle.std.proofs.lemmas.Bool.{both_ways, cases_Bool, cases_lt, cond-false, cond-true, false_from_ne_true}
 use Rattle.std.proofs.lemmas.List.{length-map, length-take}
@@ -11,22 +11,32 @@ use Rattle.wire_core.proofs.Readings.{bind_ok, fault_as_ok}
 use Rattle.phase_message.specs.declared.content.Content.{Content}
 use Rattle.phase_message.specs.declared.post.Post.{Post}
 use Rattle.phase_message.specs.declared.stage.Slot.{Slot}
+use Rattle.phase_message.specs.declared.offence.Offence.{Offence}
+use Rattle.phase_message.specs.declared.content.Body.{Body}
+use Rattle.phase_message.specs.declared.content.Body.TheVariants.{Keys, Submit, Shuffled, Abort, Go, Reveal, Dispute, Pads, Check, Confirm, Differ as DiffersBody}
+use Rattle.phase_message.specs.Grammar.{ItemsAreShort, OfGrammar}
+use Rattle.phase_message.proofs.Written.{fits-short}
+use Rattle.phase_message.specs.Post.{post_spelling}
 use Rattle.phase_message.specs.Shape.{Shape}
 use Rattle.phase_message.specs.Slots.{slot_at, slot_count, slot_number, slots_before, slots_of}
-use Rattle.phase_message.specs.Stages.{is_slot}
+use Rattle.phase_message.specs.Stages.{is_slot, kind_of_stage, vote_of}
+use Rattle.phase_message.proofs.Closings.{closing-follows}
 use Rattle.phase_message.proofs.SlotLists.{slot_at-is, slot_at-number, slot_number-later, slot_number-rises, slot_number-within, slots_before-rises}
 use Rattle.group_roster.specs.Roster.{Roster, shape_of_roster}
 use Rattle.signed_post.specs.Frame.{frame_of}
 use Rattle.stage_log.specs.Table.{Log, kept_in}
-use Rattle.go_nogo.specs.Closing.{is_assent, slots_embedded}
+use Rattle.go_nogo.specs.Closing.{IsClosing, is_assent, posts_embedded, slots_embedded}
 use Rattle.go_nogo.specs.Differences.{Differ, HaveNoDifference, IsFirstDifference}
 use Rattle.go_nogo.proofs.LeastDifference.{kept-slot}
 use Rattle.transcript_form.specs.declared.claim.Claim.TheVariants.{Equivocation}
 use Rattle.round_spec.specs.Embedded.{BadPost, WhyNot, post_for_slot, posts_for}
-use Rattle.round_spec.specs.Verdict.{ClosedStage, Verdict, content_of_post, conviction, post_in, second_content, sent_in}
+use Rattle.round_spec.specs.Verdict.{ClosedStage, Verdict, closing_content, content_of_post, conviction, equivocation_in, pairs_read, post_in, second_content, sent_in}
 use Rattle.round_spec.proofs.Embedding.{post-for-slot}
-use Rattle.embedded_log.specs.Embedding.{first_embedded, places_of}
-use Rattle.embedded_log.proofs.EmbeddedLogs.{NumberedFrom}
+use Rattle.embedded_log.specs.Embedding.{KeepsEmbedded, first_embedded, places_of}
+use Rattle.embedded_log.proofs.EmbeddedLogs.{NumberedFrom, Spans, closing_kind, numbered, spans}
+use Rattle.closing_verdict.specs.declared.convicting.Conviction.{Conviction}
+use Rattle.closing_verdict.specs.Closed.{TellsSecond}
+use Rattle.closing_verdict.specs.Convicting.{TellsConviction}
 use Rattle.closing_verdict.specs.Judgement.{Completed, IsComplete, stage_closed}
 use Rattle.closing_verdict.proofs.ClosingPosts.{closed-kept}
 
@@ -280,3 +290,146 @@ second-found c is log d found there place first (slot ∷ slots) (one ∷ bytes)
   where
     slot-same : {a b : Slot} → (let some : Slot → Option Slot = λ z. Some z in some a ≡ some b) → a ≡ b
     slot-same {a} {b} e = cc
+
+-- ---- what a closing content embeds
+
+-- its slots stand before its stage
+slots-within : (shape : Shape) (content : Content) → 1 ≤ content.header.stage → first_embedded shape content + length (slots_embedded shape content) ≤ slots_before shape content.header.stage
+slots-within shape content least =
+    let stage : ℕ = content.header.stage in
+    let a : ℕ = slots_before shape (stage - 1) in
+    let b : ℕ = slots_before shape (stage - 1 + 1) in
+    let n : ℕ = slots_before shape stage in
+    let all : List Slot = slots_of shape in
+    let back : stage - 1 + 1 ≡ stage = omega (arith, least) in
+    let same : b ≡ n = ap (slots_before shape) back in
+    let rises : a ≤ b = slots_before-rises shape (stage - 1) (stage - 1 + 1) (omega arith) in
+    elim (cases_Bool (is_assent content.body)) [
+      | inl assents ↦
+          let first : first_embedded shape content ≡ a = cond-true (is_assent content.body) a 0 assents in
+          let slots = ap (λ (s : List Slot). length s) (cond-true (is_assent content.body) (slice_range all a b) (take n all) assents) in
+          let few = length-take (b - a) (drop a all) in
+          omega (arith, first, slots, few, rises, same)
+      | inr objects ↦
+          let first : first_embedded shape content ≡ 0 = cond-false (is_assent content.body) a 0 objects in
+          let slots = ap (λ (s : List Slot). length s) (cond-false (is_assent content.body) (slice_range all a b) (take n all) objects) in
+          let few = length-take n all in
+          omega (arith, first, slots, few)
+    ]
+
+-- a closing content of the stage, and the log that it embeds
+pub record IsEmbedded (c : Completed) (content : Content) (log : Log) : Type 0 where
+  pub grammar : OfGrammar c.log.shape content
+  pub stage_is : content.header.stage ≡ c.stage
+  pub keeps : KeepsEmbedded c.roster c.round content log
+
+is-closing : (c : Completed) → IsComplete c → (content : Content) → content.header.stage ≡ c.stage → IsClosing c.log.shape content
+is-closing c is content stage = subst (λ (s : ℕ). IsSome (option_and_then vote_of (kind_of_stage c.log.shape s))) (sym stage) is.closing
+
+pub closing-least : (c : Completed) → IsComplete c → 1 ≤ c.stage
+closing-least c is =
+    let kind = closing_kind (kind_of_stage c.log.shape c.stage) is.closing in
+    (closing-follows c.log.shape c.stage kind.0 kind.1 kind.2 kind.3).0
+
+pub spans-here : (c : Completed) → IsComplete c → (content : Content) → OfGrammar c.log.shape content → content.header.stage ≡ c.stage → Spans c.log.shape content
+spans-here c is content grammar stage = spans c.log.shape content grammar (is-closing c is content stage)
+
+-- the log keeps its posts from the first embedded slot on
+pub row-is : (c : Completed) → IsComplete c → (content : Content) (log : Log) (e : IsEmbedded c content log)
+    → IsRow c log (first_embedded c.log.shape content) (slots_embedded c.log.shape content) e.keeps.posts
+row-is c is content log e =
+    let shape : Shape = c.log.shape in
+    let first : ℕ = first_embedded shape content in
+    let span = spans-here c is content e.grammar e.stage_is in
+    let own : shape ≡ shape_of_roster c.roster = is.shape in
+    let least : 1 ≤ content.header.stage = omega (arith, closing-least c is, e.stage_is) in
+    let places : log.posts ≡ places_of first (slot_count shape) e.keeps.posts
+    = ap (λ (l : Log). l.posts) e.keeps.keeps ∙ ap (λ (s : Shape). places_of (first_embedded s content) (slot_count s) e.keeps.posts) (sym own) in
+    record {
+      shape_is = ap (λ (l : Log). l.shape) e.keeps.keeps ∙ sym own;
+      numbers = subst (λ (s : List Slot). NumberedFrom shape first s) (sym span.slots_are) (numbered shape span.count first span.within);
+      within = omega (arith, slots-within shape content least, slots_before-rises shape content.header.stage (c.stage + 1) (omega (arith, e.stage_is)));
+      stand = subst (λ (p : List (Option Post)). StandFrom p first e.keeps.posts) (sym places) (stand-from first (slot_count shape) e.keeps.posts);
+      count = omega (arith, span.slots_long, span.posts_long, e.keeps.long);
+    }
+
+-- a slot in which it keeps a post is one of those
+pub kept-within : (c : Completed) → IsComplete c → (content : Content) (log : Log) (e : IsEmbedded c content log) (slot : Slot) (post : Post) → kept_in log slot ≡ Some post
+    → (is_slot c.log.shape slot.stage slot.sender ≡ true) × (first_embedded c.log.shape content ≤ slot_number c.log.shape slot.stage slot.sender)
+    × (slot_number c.log.shape slot.stage slot.sender < first_embedded c.log.shape content + length (posts_embedded content.body))
+kept-within c is content log e slot post kept =
+    let shape : Shape = c.log.shape in
+    let first : ℕ = first_embedded shape content in
+    let own : shape ≡ shape_of_roster c.roster = is.shape in
+    let shape_is : log.shape ≡ shape = ap (λ (l : Log). l.shape) e.keeps.keeps ∙ sym own in
+    let places : log.posts ≡ places_of first (slot_count shape) e.keeps.posts
+    = ap (λ (l : Log). l.posts) e.keeps.keeps ∙ ap (λ (s : Shape). places_of (first_embedded s content) (slot_count s) e.keeps.posts) (sym own) in
+    let in_log : is_slot log.shape slot.stage slot.sender ≡ true = kept-slot log slot post kept in
+    let there : is_slot shape slot.stage slot.sender ≡ true = subst (λ (s : Shape). is_slot s slot.stage slot.sender ≡ true) shape_is in_log in
+    let at : at_place (places_of first (slot_count shape) e.keeps.posts) (slot_number shape slot.stage slot.sender) ≡ Some post
+    = ap (λ (p : List (Option Post)). at_place p (slot_number shape slot.stage slot.sender)) (sym places)
+    ∙ ap (λ (s : Shape). at_place log.posts (slot_number s slot.stage slot.sender)) (sym shape_is)
+    ∙ sym (cond-true (is_slot log.shape slot.stage slot.sender) (at_place log.posts (slot_number log.shape slot.stage slot.sender)) None in_log) ∙ kept in
+    let range = stand-only first (slot_count shape) e.keeps.posts (slot_number shape slot.stage slot.sender) post at in
+    (there, range.0, omega (arith, range.1, e.keeps.long))
+
+-- ---- what a member's closing content shows against the sender of a slot
+
+-- what is looked at is what was read
+pairs-here : (c : Completed) → IsComplete c → (content : Content) (member : ℕ) → closing_content (stage_closed c) member ≡ Ok content
+    → equivocation_in (stage_closed c) member ≡ first_some (map (second_content (stage_closed c)) (zip (slots_embedded c.log.shape content) (posts_embedded content.body)))
+pairs-here c is content member reads =
+    ap (λ (r : Result Content Offence). first_some (map (second_content (stage_closed c)) (pairs_read (stage_closed c) r))) reads
+    ∙ ap (λ (s : Shape). first_some (map (second_content (stage_closed c)) (zip (slots_embedded s content) (posts_embedded content.body)))) (sym is.shape)
+
+found-here : (c : Completed) → IsComplete c → (content : Content) (log : Log) (e : IsEmbedded c content log)
+    → posts_for c.roster c.round 0 (zip (slots_embedded c.log.shape content) (posts_embedded content.body)) ≡ Ok e.keeps.posts
+found-here c is content log e =
+    ap (λ (s : Shape). posts_for c.roster c.round 0 (zip (slots_embedded s content) (posts_embedded content.body))) is.shape ∙ e.keeps.found
+
+pub nothing-told : (c : Completed) → IsComplete c → (content : Content) (log : Log) → IsEmbedded c content log → HaveNoDifference log c.log
+    → (member : ℕ) → closing_content (stage_closed c) member ≡ Ok content → TellsSecond (equivocation_in (stage_closed c) member) None
+nothing-told c is content log e same member reads =
+    let none = pairs-here c is content member reads
+    ∙ no-second c is log same 0 (first_embedded c.log.shape content) (slots_embedded c.log.shape content) (posts_embedded content.body) e.keeps.posts (row-is c is content log e) (found-here c is content log e) in
+    subst (λ (o : Option Verdict). TellsSecond o None) (sym none) tt
+
+pub second-told : (c : Completed) → IsComplete c → (content : Content) (log : Log) → IsEmbedded c content log → (d : Slot) → IsFirstDifference log c.log d
+    → (kept : Post) (other : List ℕ) (conviction_told : Conviction) → kept_in c.log d ≡ Some kept
+    → other ≡ get_or (posts_embedded content.body) (slot_number c.log.shape d.stage d.sender - first_embedded c.log.shape content) []
+    → TellsConviction (conviction c.round d.sender Equivocation (post_spelling kept ∷ other ∷ [])) conviction_told
+    → (member : ℕ) → closing_content (stage_closed c) member ≡ Ok content → TellsSecond (equivocation_in (stage_closed c) member) (Some conviction_told)
+second-told c is content log e d first kept other told own bytes tells member reads =
+    let span = spans-here c is content e.grammar e.stage_is in
+    let range = kept-within c is content log e d first.differ.post first.differ.kept in
+    let found = pairs-here c is content member reads
+    ∙ second-found c is log d first range.0 0 (first_embedded c.log.shape content) (slots_embedded c.log.shape content) (posts_embedded content.body) e.keeps.posts (row-is c is content log e)
+        (omega (arith, span.slots_long, span.posts_long)) (found-here c is content log e) range.1 (omega (arith, range.2, span.slots_long, span.posts_long)) in
+    let within : d.stage ≤ c.stage = stage-within c.log.shape c.stage d range.0 (omega (arith, range.2, (row-is c is content log e).within, span.slots_long, span.posts_long)) in
+    let sent : sent_in (stage_closed c) d.stage d.sender ≡ post_spelling kept = ap post_spelling (post-is _ kept (sym (closed-kept c is d range.0 within) ∙ own)) in
+    subst (λ (o : Option Verdict). TellsSecond o (Some told)) (sym (found
+        ∙ ap (λ (s : List ℕ). Some (conviction c.round d.sender Equivocation (s ∷ get_or (posts_embedded content.body) (slot_number c.log.shape d.stage d.sender - first_embedded c.log.shape content) [] ∷ []))) sent
+        ∙ ap (λ (b : List ℕ). Some (conviction c.round d.sender Equivocation (post_spelling kept ∷ b ∷ []))) (sym bytes))) tells
+
+-- the posts that are embedded are short
+items-short : (body : Body) → ItemsAreShort body → AllByRecursion (λ item. length item < 2 ^ 32) (posts_embedded body)
+items-short (Reveal votes seed) short = short
+items-short (Dispute posts seed opening) short = short
+items-short (Confirm votes) short = short
+items-short (DiffersBody posts) short = short
+items-short (Keys keys) short = tt
+items-short (Submit ciphertext) short = tt
+items-short (Shuffled list) short = tt
+items-short Abort short = tt
+items-short (Go vote) short = tt
+items-short (Pads pads) short = tt
+items-short (Check vote) short = tt
+
+pub embedded-short : (shape : Shape) (content : Content) (place : ℕ) → OfGrammar shape content → length (get_or (posts_embedded content.body) place []) < 2 ^ 32
+embedded-short shape content place grammar =
+    each (posts_embedded content.body) place (items-short content.body (fits-short grammar.1.0 content.body grammar.1.2))
+  where
+    each : (items : List (List ℕ)) (place : ℕ) → AllByRecursion (λ item. length item < 2 ^ 32) items → length (get_or items place []) < 2 ^ 32
+    each [] place short = omega arith
+    each (item ∷ items) zero short = short.0
+    each (item ∷ items) (suc place) short = each items place short.1
