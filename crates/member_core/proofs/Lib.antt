@@ -14,3 +14,4 @@ pub mod Shown
 mod Belonging
 mod Due
 pub mod MadePosts
+mod Submitting
