@@ -5,3 +5,6 @@ pub mod PadPosts
 pub mod ClosedStages
 pub mod Agreements
 pub mod SecondContents
+pub mod Carrying
+pub mod Culprits
+pub mod SeedVerdicts
