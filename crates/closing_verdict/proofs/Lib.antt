@@ -1,5 +1,10 @@
 pub mod Charges
 pub mod ClosingPosts
+pub mod ClosingSaid
 pub mod PadPosts
 pub mod ClosedStages
 pub mod Agreements
+pub mod SecondContents
+pub mod Carrying
+pub mod Culprits
+pub mod SeedVerdicts

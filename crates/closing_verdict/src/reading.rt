@@ -1,18 +1,20 @@
 //! What the closing contents of all members come to, one by one: each is to be justified, and to embed what was kept.
 
-ghost use Rattle.std.specs.Prelude.{◌≡◌, ◌≤◌, ℕ, IfOk, Some, Ok};
-ghost use Rattle.phase_message.specs.declared.content.Content.{Content as GivenContent};
+ghost use Rattle.std.specs.Prelude.{◌≡◌, ◌≤◌, ◌<◌, ◌+◌, ◌-◌, [], ℕ, length, slice_index_or, IfOk, IsTrue, Some, Ok};
+ghost use Rattle.phase_message.specs.Slots.{slot_number};
+ghost use Rattle.phase_message.specs.Stages.{is_slot, shape_of};
+ghost use Rattle.go_nogo.specs.Closing.{posts_embedded};
+ghost use Rattle.embedded_log.specs.Embedding.{first_embedded};
 ghost use Rattle.group_roster.specs.Given.{roster_of};
 ghost use Rattle.round_spec.specs.Verdict.{Verdict};
 ghost use Rattle.closing_verdict.specs.Closed.{told_of};
 ghost use Rattle.closing_verdict.specs.Convicting.{TellsConviction};
-ghost use Rattle.closing_verdict.specs.Shorts.{KeepsShort};
 
 use crate::convicting::{Charge, Conviction, contradicted, post_written};
 use crate::judging::Closing;
-use embedded_log::justifying_log;
+use embedded_log::{first_embedded, justifying_log, posts_embedded};
 use go_nogo::compare_logs;
-use phase_message::{Body, Content, DecodeRefusal, Slot, decode};
+use phase_message::{Body, Content, DecodeRefusal, Shape, Slot, decode, slot_number};
 use shuffle_blame::Shown;
 use stage_log::StageLog;
 use std::alloc::{AllocError, Global};
@@ -53,9 +55,7 @@ enum Found {
 
 impl<'a> Closing<'a> {
     ghost use Rattle.phase_message.specs.Grammar.{OfGrammar};
-    ghost use Rattle.go_nogo.specs.Closing.{IsClosing};
     ghost use Rattle.embedded_log.specs.Embedding.{KeepsEmbedded};
-    ghost use Rattle.go_nogo.specs.Stands.{StandAll};
     ghost use Rattle.round_spec.specs.Verdict.{bad_log_of, closing_content, equivocation_in};
     ghost use Rattle.closing_verdict.specs.Closed.{FindsOf, ReadsClosing, TellsSecond};
     ghost use Rattle.closing_verdict.specs.Judgement.{IsToBeJudged, completed_of, stage_closed};
@@ -97,7 +97,7 @@ impl<'a> Closing<'a> {
         let Some(log) = justifying_log(alloc, self.roster, self.round, &content)? else {
             return Ok(Found::Bad);
         };
-        let second = self.second_content(alloc, &log)?;
+        let second = self.second_content(alloc, &content, &log)?;
         Ok(Found::Justified(told_of(&content.body), second))
     }
 
@@ -141,14 +141,14 @@ impl<'a> Closing<'a> {
         Charge::of(Claim::BadLog, member, self.round).shown_by(alloc, posts)
     }
 
-    // The first slot of an embedded log that embeds another content than was kept: both convict its sender.
-    fn second_content(self, alloc: Global, embedded: &StageLog) -> Mem<Option<Conviction>>
+    // The first slot for which a content embeds another content than was kept: both convict its sender.
+    fn second_content(self, alloc: Global, content: &Content, embedded: &StageLog) -> Mem<Option<Conviction>>
         requires closing { IsToBeJudged self }
-        requires stand { StandAll embedded.now }
-        requires short { KeepsShort embedded.now }
-        ensures { IfOk result (λ second. (content : GivenContent) (member : ℕ) →
-            closing_content (stage_closed (completed_of self.entry)) member ≡ Ok content →
-            KeepsEmbedded (roster_of self.entry.roster.now) self.entry.round content embedded.now →
+        requires grammar { OfGrammar self.log.now.shape content.now }
+        requires stage { content.now.header.stage ≡ self.stage }
+        requires embeds { KeepsEmbedded (roster_of self.roster.now) self.round content.now embedded.now }
+        ensures { IfOk result (λ second. (member : ℕ) →
+            closing_content (stage_closed (completed_of self.entry)) member ≡ Ok content.now →
             TellsSecond (equivocation_in (stage_closed (completed_of self.entry)) member) second) }
     {
         let Some(slot) = compare_logs(embedded, self.log) else {
@@ -157,10 +157,24 @@ impl<'a> Closing<'a> {
         let Some(kept) = self.log.kept(slot) else {
             unreachable!()
         };
-        let other = post_written(alloc, embedded, slot)?;
-        let conviction = contradicted(alloc, slot.sender, self.round, kept, other.items())?;
+        let other = embedded_for(self.roster.shape(), content, slot);
+        let conviction = contradicted(alloc, slot.sender, self.round, kept, other)?;
         Ok(Some(conviction))
     }
+}
+
+// The post that a closing content embeds for a slot.
+fn embedded_for(shape: Shape, content: &Content, slot: Slot) -> &[u8]
+    requires closing { 1 ≤ content.now.header.stage }
+    requires slot { IsTrue (is_slot (shape_of shape) slot.stage slot.sender) }
+    requires first { first_embedded (shape_of shape) content.now ≤ slot_number (shape_of shape) slot.stage slot.sender }
+    requires last { slot_number (shape_of shape) slot.stage slot.sender
+        < first_embedded (shape_of shape) content.now + length (posts_embedded content.now.body) }
+    ensures { result.now ≡ slice_index_or (posts_embedded content.now.body)
+        (slot_number (shape_of shape) slot.stage slot.sender - first_embedded (shape_of shape) content.now) [] }
+{
+    let place = slot_number(shape, slot) - first_embedded(shape, content);
+    posts_embedded(&content.body)[place as usize].items().as_slice()
 }
 
 // What a closing body tells.

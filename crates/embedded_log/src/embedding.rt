@@ -116,8 +116,8 @@ pub fn justifying_log(
     }
 }
 
-// The posts that a closing body embeds, as they were sent.
-fn posts_embedded(body: &Body) -> &[List<u8>]
+/// The posts that a closing body embeds, as they were sent, in their order; any other body embeds none.
+pub fn posts_embedded(body: &Body) -> &[List<u8>]
     ensures { result.now ≡ posts_embedded body.now }
 {
     match body {
@@ -127,8 +127,8 @@ fn posts_embedded(body: &Body) -> &[List<u8>]
     }
 }
 
-// The number of the first slot that a closing content embeds.
-fn first_embedded(shape: Shape, content: &Content) -> u32
+/// The number of the first slot that a closing content embeds: its posts are those of the slots from this one on.
+pub fn first_embedded(shape: Shape, content: &Content) -> u32
     requires { 1 ≤ content.now.header.stage }
     ensures { result ≡ first_embedded (shape_of shape) content.now }
 {

@@ -3,4 +3,4 @@
 
 mod embedding;
 
-pub use embedding::{EmbeddedRefusal, embedded, justifying_log};
+pub use embedding::{EmbeddedRefusal, embedded, first_embedded, justifying_log, posts_embedded};

@@ -86,6 +86,7 @@ formed-with m secrets own formed entered = record {
   short = formed.short;
   leaves = formed.leaves;
   handed = formed.handed;
+  stray = formed.stray;
 }
 
 -- a pad that is not made yet is that of no message

@@ -13,3 +13,5 @@ pub mod Seeing
 pub mod Shown
 mod Belonging
 mod Due
+pub mod MadePosts
+mod Submitting

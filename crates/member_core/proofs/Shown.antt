@@ -1,24 +1,26 @@
 -- What a member shows is what the pure machine comes to.
-use Rattle.std.proofs.Common.{◌≡◌, ℕ, List, true, ap, sym, ◌∙◌, refl, cc}
+use Rattle.std.proofs.Common.{◌≡◌, ℕ, List, true, Some, ap, sym, ◌∙◌, refl}
 use Rattle.std.specs.Prelude.{if◌then◌else◌}
 use Rattle.std.proofs.lemmas.Bool.{cond-true}
 use Rattle.stage_log.specs.Table.{Log, missing_bits}
 use Rattle.bulk_descriptor.specs.declared.slot_state.SlotState.{SlotState}
 use Rattle.closing_verdict.specs.declared.convicting.Conviction.{Conviction}
 use Rattle.round_spec.specs.Course.{is_open}
-use Rattle.round_spec.specs.Result.{Outcome, Waiting as WaitingFor, Blamed as BlamedBy, DoneWith, outcome_ended}
+use Rattle.round_spec.specs.Result.{Outcome, Waiting as WaitingFor, Blamed as BlamedBy, DoneWith, outcome_ended, posts_of, result_of}
 use Rattle.round_spec.specs.Say.{Configuration}
 use Rattle.round_spec.specs.Verdict.{Verdict, Goes, Done as DoneVerdict, Convicts}
 use Rattle.member_spec.specs.declared.state.State.{State}
 use Rattle.member_spec.specs.declared.state.State.TheVariants.{Waiting, Done as StateDone, Blamed as StateBlamed}
 use Rattle.member_spec.specs.Actor.{Actor, actor_after}
-use Rattle.member_spec.specs.Outcomes.{bits_of, members_missing, outcome_of, state_of}
-use Rattle.member_spec.specs.Replies.{Replies}
+use Rattle.member_spec.specs.Outcomes.{bits_of, evidence_shown, members_missing, outcome_of, slots_shown, state_of}
+use Rattle.member_spec.specs.Plain.{ComesTo}
+use Rattle.member_spec.specs.Replies.{IsPlain, Replies}
+use Rattle.member_spec.proofs.PlainLaws.{plain_comes_to_result}
 use Rattle.member_spec.proofs.Standing.{open_stand_at_first}
 use Rattle.member_core.specs.declared.ending.Ending.{Ending}
 use Rattle.member_core.specs.declared.ending.Ending.TheVariants.{Open, Done, Blamed, Stopped}
-use Rattle.member_core.specs.Membership.{Holdings, IsOpen, state_by}
-use Rattle.member_core.specs.Stands.{IsAt, ShowsOutcome}
+use Rattle.member_core.specs.Membership.{Holdings, IsOpen, Membership, evidence_held, posts_made, slots_held, state_by}
+use Rattle.member_core.specs.Stands.{IsAt, ShowsOutcome, Stands}
 
 -- ---- open
 
@@ -90,3 +92,57 @@ state-shown start c delivered h at = by_end h.ending at.ending
     by_end (Done slots) shows = done-shown slots (outcome_of c (actor_after start c delivered)) shows
     by_end (Blamed conviction) shows = blamed-shown conviction (outcome_of c (actor_after start c delivered)) shows
     by_end Stopped shows = absurd (stopped-shown (outcome_of c (actor_after start c delivered)) shows)
+
+-- ---- the slots and the transcript
+
+slots-when : (ending : Ending) (o : Outcome) → ShowsOutcome ending o → slots_held ending ≡ slots_shown o
+slots-when Open (WaitingFor stage members) shows = refl
+slots-when Open (BlamedBy transcript) shows = absurd shows
+slots-when Open (DoneWith states) shows = absurd shows
+slots-when (Done slots) (WaitingFor stage members) shows = absurd shows
+slots-when (Done slots) (BlamedBy transcript) shows = absurd shows
+slots-when (Done slots) (DoneWith states) shows = ap (λ (xs : List SlotState). Some xs) shows
+slots-when (Blamed conviction) (WaitingFor stage members) shows = absurd shows
+slots-when (Blamed conviction) (BlamedBy transcript) shows = refl
+slots-when (Blamed conviction) (DoneWith states) shows = absurd shows
+slots-when Stopped o shows = absurd (stopped-shown o shows)
+
+evidence-when : (ending : Ending) (o : Outcome) → ShowsOutcome ending o → evidence_held ending ≡ evidence_shown o
+evidence-when Open (WaitingFor stage members) shows = refl
+evidence-when Open (BlamedBy transcript) shows = absurd shows
+evidence-when Open (DoneWith states) shows = absurd shows
+evidence-when (Done slots) (WaitingFor stage members) shows = absurd shows
+evidence-when (Done slots) (BlamedBy transcript) shows = absurd shows
+evidence-when (Done slots) (DoneWith states) shows = refl
+evidence-when (Blamed conviction) (WaitingFor stage members) shows = absurd shows
+evidence-when (Blamed conviction) (BlamedBy transcript) shows = ap (λ (xs : List ℕ). Some xs) shows.2
+evidence-when (Blamed conviction) (DoneWith states) shows = absurd shows
+evidence-when Stopped o shows = absurd (stopped-shown o shows)
+
+-- ---- of a plain conduct
+
+-- what a member comes to that stands for deliveries with a plain conduct
+pub stands-comes : {A : Type 0} (replies_of : A → Replies) (start : Replies) (c : Configuration) (delivered : List (List ℕ)) (m : Membership A)
+    → Stands replies_of start c delivered m → IsPlain start → ComesTo c delivered (actor_after start c delivered)
+stands-comes replies_of start c delivered m is plain = plain_comes_to_result start c delivered plain is.stands.can_enter is.strings
+
+pub plain-state : {A : Type 0} (replies_of : A → Replies) (start : Replies) (c : Configuration) (delivered : List (List ℕ)) (m : Membership A)
+    → Stands replies_of start c delivered m → IsPlain start → state_by m.holds m.holds.ending ≡ state_of (result_of c delivered)
+plain-state replies_of start c delivered m is plain =
+    state-shown start c delivered m.holds is.stands.at ∙ ap state_of (stands-comes replies_of start c delivered m is plain).outcome
+
+pub plain-slots : {A : Type 0} (replies_of : A → Replies) (start : Replies) (c : Configuration) (delivered : List (List ℕ)) (m : Membership A)
+    → Stands replies_of start c delivered m → IsPlain start → slots_held m.holds.ending ≡ slots_shown (result_of c delivered)
+plain-slots replies_of start c delivered m is plain =
+    slots-when m.holds.ending (outcome_of c (actor_after start c delivered)) is.stands.at.ending
+    ∙ ap slots_shown (stands-comes replies_of start c delivered m is plain).outcome
+
+pub plain-evidence : {A : Type 0} (replies_of : A → Replies) (start : Replies) (c : Configuration) (delivered : List (List ℕ)) (m : Membership A)
+    → Stands replies_of start c delivered m → IsPlain start → evidence_held m.holds.ending ≡ evidence_shown (result_of c delivered)
+plain-evidence replies_of start c delivered m is plain =
+    evidence-when m.holds.ending (outcome_of c (actor_after start c delivered)) is.stands.at.ending
+    ∙ ap evidence_shown (stands-comes replies_of start c delivered m is plain).outcome
+
+pub plain-made : {A : Type 0} (replies_of : A → Replies) (start : Replies) (c : Configuration) (delivered : List (List ℕ)) (m : Membership A)
+    → Stands replies_of start c delivered m → IsPlain start → posts_made m.holds ≡ posts_of c delivered
+plain-made replies_of start c delivered m is plain = is.stands.at.made ∙ (stands-comes replies_of start c delivered m is plain).posts
