@@ -15,3 +15,4 @@ mod Belonging
 mod Due
 pub mod MadePosts
 mod Submitting
+mod Answering

@@ -1,27 +1,31 @@
 -- A post that a member makes: what is true of the member stays true, and it stands for the pure machine behind that post.
-use Rattle.std.proofs.Common.{◌≡◌, ◌⊎◌, ℕ, ◌+◌, ◌-◌, ◌*◌, ◌<◌, ◌≤◌, Bool, true, false, List, [], ◌∷◌, ◌++◌, length, Option, Some, None, ap, sym, ◌∙◌, refl, subst, arith, inl, inr, append-nil, append_assoc, length-append, eq-eqb}
+use Rattle.std.proofs.Common.{◌≡◌, ◌⊎◌, ℕ, ◌+◌, ◌-◌, ◌*◌, ◌<◌, ◌≤◌, ◌^◌, Bool, true, false, List, [], ◌∷◌, ◌++◌, length, Option, Some, None, ap, sym, ◌∙◌, refl, subst, arith, inl, inr, append-nil, append_assoc, length-append, eq-eqb}
 use Rattle.std.specs.Prelude.{◌==◌, ◌&&◌, IsSome, count_by, is_ok}
 use Rattle.std.specs.Int.{w32, to_be_bytes}
 use Rattle.std.specs.List.{range_with_len}
 use Rattle.std.specs.Option.{option_map, option_to_list}
 use Rattle.std.proofs.lemmas.Bool.{cases_Bool, cond-false, cond-true}
+use Rattle.wire_core.specs.Bytes.{IsBytes}
 use Rattle.lms_tree.specs.Secret.{SecretParts, lms_signature, own_public}
 use Rattle.lms_tree.specs.States.{RunState}
 use Rattle.lms_tree.specs.Tree.{LmsValid}
 use Rattle.phase_message.specs.declared.post.Post.{Post}
 use Rattle.phase_message.specs.declared.post.TheConstants.{POST_LIMIT}
 use Rattle.phase_message.specs.declared.stage.Slot.{Slot}
+use Rattle.phase_message.specs.declared.stage.StageKind.{StageKind}
+use Rattle.phase_message.specs.declared.stage.StageKind.TheVariants.{Keys, Submit, Shuffle, Go, Final, Pad, Check, Confirm}
 use Rattle.phase_message.specs.Offence.{content_read}
 use Rattle.phase_message.specs.Post.{post_spelling}
 use Rattle.phase_message.specs.Shape.{Shape}
 use Rattle.phase_message.specs.Slots.{stage_count}
-use Rattle.phase_message.specs.Stages.{is_slot, kind_of_stage}
+use Rattle.phase_message.specs.Stages.{is_slot, kind_of_stage, shape_of}
 use Rattle.phase_message.proofs.SlotBounds.{slot-bounds}
 use Rattle.group_roster.specs.Roster.{Roster, shape_of_roster}
 use Rattle.signed_post.specs.declared.post.TheConstants.{LONGEST_SIGNATURE}
 use Rattle.signed_post.proofs.Lengths.{valid-short}
 use Rattle.stage_log.specs.Log.{before, contents_of}
 use Rattle.stage_log.specs.Seen.{HasSeen}
+use Rattle.stage_log.specs.Put.{put_log}
 use Rattle.stage_log.specs.Table.{IsKept, Log, filled, kept_in}
 use Rattle.stage_log.proofs.Entries.{filled-is_log}
 use Rattle.stage_log.proofs.Fronts.{some_is}
@@ -36,7 +40,7 @@ use Rattle.member_spec.specs.declared.mood.Mood.{Mood}
 use Rattle.member_spec.specs.declared.mood.Mood.TheVariants.{Mute, PutOff, Spoken, Unasked}
 use Rattle.member_spec.specs.Actor.{Actor, actor_behind_post, descriptor_made}
 use Rattle.member_spec.specs.Outcomes.{outcome_of}
-use Rattle.member_spec.specs.Replies.{Replies}
+use Rattle.member_spec.specs.Replies.{KeepsSlot, Replies}
 use Rattle.member_core.specs.declared.ending.Ending.{Ending}
 use Rattle.member_core.specs.declared.ending.Ending.TheVariants.{Blamed, Done, Open, Stopped}
 use Rattle.member_core.specs.declared.machine.Machine.{Machine}
@@ -49,7 +53,7 @@ use Rattle.member_core.specs.Shorts.{IsShortLog, most_in, own_limit}
 use Rattle.member_core.specs.Sound.{IsEmptyFrom, IsFormed, IsMachineOf, IsMoodOf, IsReady, IsSound, slot_here}
 use Rattle.member_core.specs.Stands.{AnswersBy, HasEntered, IsOwnOf, ShowsOutcome, StandsFor}
 use Rattle.member_core.proofs.OwnPosts.{fewer-said, kept-cases, one-more, own-elsewhere, own-here, said-before}
-use Rattle.member_core.proofs.Saying.{filled-stands}
+use Rattle.member_core.proofs.Saying.{filled-stands, ok-read, put-fills, read-kept, read-stands}
 use Rattle.member_core.proofs.Storing.{answers-stay, asked-within, before-stays, keys-stay, open-shown, opened-stay, past-stays, posts-stay, shown-open, slots-stay, some-mapped}
 
 -- ---- where it speaks
@@ -101,6 +105,50 @@ pub record IsSigned (m : Machine) (post : Post) : Type 0 where
 pub record IsOwnContent (m : Machine) (post : Post) : Type 0 where
   pub kept : IsKept post.content
   pub stands : StandsIn m.log.shape (slot_here m) post.content
+
+-- so is a post of bytes that it signed
+pub signed-post : (m : Machine) (bytes told signature held : List ℕ) → told ≡ bytes → held ≡ signature
+    → signature ≡ lms_signature m.leaves.parts m.leaves.first told → LmsValid (own_public m.leaves.parts) told signature
+    → length bytes ≤ own_limit (kind_of_stage m.log.shape m.stage) → IsSigned m (record { content = bytes; signature = held })
+signed-post m bytes told signature held same held_is signed valid short = record {
+  signed = held_is ∙ signed ∙ ap (lms_signature m.leaves.parts m.leaves.first) same;
+  valid = subst (λ (b : List ℕ). LmsValid (own_public m.leaves.parts) b held) same
+      (subst (LmsValid (own_public m.leaves.parts) told) (sym held_is) valid);
+  short = short;
+}
+
+-- what is told of bytes is told of its content
+pub told-reads : (m : Machine) (bytes told : List ℕ) (b : Bool) → IsFormed m → told ≡ bytes → b ≡ is_ok (content_read (shape_of m.seat.shape) told)
+    → is_ok (content_read m.log.shape bytes) ≡ b
+told-reads m bytes told b f same value =
+    ap (λ (shape : Shape). is_ok (content_read shape bytes)) f.shape
+    ∙ ap (λ (t : List ℕ). is_ok (content_read (shape_of m.seat.shape) t)) (sym same) ∙ sym value
+
+-- the length of what it says stands in four bytes
+pub limit-small : (kind : Option StageKind) → own_limit kind < 2 ^ 32
+limit-small None = omega arith
+limit-small (Some Keys) = omega arith
+limit-small (Some (Submit shuffle)) = omega arith
+limit-small (Some (Shuffle shuffle k)) = omega arith
+limit-small (Some (Go shuffle)) = omega arith
+limit-small (Some (Final shuffle)) = elim (cases_Bool (shuffle == 1)) [
+  | inl first ↦ (let told = cond-true (shuffle == 1) (33 * POST_LIMIT) (209 * POST_LIMIT) first in omega (arith, told))
+  | inr second ↦ (let told = cond-false (shuffle == 1) (33 * POST_LIMIT) (209 * POST_LIMIT) second in omega (arith, told))
+]
+limit-small (Some Pad) = omega arith
+limit-small (Some Check) = omega arith
+limit-small (Some Confirm) = omega arith
+
+-- a content of the grammar for its slot can be kept there
+pub own-content : (m : Machine) (post : Post) → IsBytes post.content → is_ok (content_read m.log.shape post.content) ≡ true
+    → KeepsSlot m.log.shape (slot_here m) post.content → length post.content ≤ own_limit (kind_of_stage m.log.shape m.stage) → IsOwnContent m post
+own-content m post are reads keeps short =
+    let read = ok-read (content_read m.log.shape post.content) reads in
+    let small = limit-small (kind_of_stage m.log.shape m.stage) in
+    record {
+      kept = read-kept m.log.shape post.content read.0 are read.1 (omega (arith, short, small));
+      stands = read-stands m.log.shape (slot_here m) post.content read.0 are read.1 keeps;
+    }
 
 -- the member behind a post that it keeps
 abbrev pub posted : Machine → Post → Machine
@@ -260,6 +308,13 @@ mute-needed h bare mute = subst HoldsNeeded (sym same) (record {
     same : h ≡ record h { secrets = no_secrets; mood = Mute }
     same = ap (λ (s : Secrets). record h { secrets = s }) bare ∙ ap (λ (mood : Mood). record h { secrets = no_secrets; mood = mood }) mute
 
+pub strayed-sound : (m : Machine) (post : Post) → IsFormed m → IsReady m → IsToBeAsked m → IsSound (strayed m post)
+strayed-sound m post f r asked = record {
+  formed = strayed-formed m post f r asked;
+  ready = λ still. mute-ready m (leaf_spent m.leaves) (Some post) r asked;
+  needed = mute-needed (holdings_of (strayed m post)) refl refl;
+}
+
 -- ---- the pure machine
 
 -- the round of a member is that of what it entered with
@@ -267,6 +322,18 @@ pub round-shape : (c : Configuration) (m : Machine) → IsFormed m → HasEntere
 round-shape c m f entered =
     let e : IsMachineOf f.entered.0 m = f.entered.1 in
     f.shape ∙ e.seat.shape ∙ ap (λ (roster : Roster). shape_of_roster roster) (sym e.roster ∙ entered.roster)
+
+-- what it entered with does not hang on its mood
+pub entered-asked : (c : Configuration) (h : Holdings) (mood : Mood) → HasEntered c (asked_at h mood) → HasEntered c h
+entered-asked c h mood e = record {
+  roster = e.roster;
+  number = e.number;
+  round = e.round;
+  message = e.message;
+  key = e.key;
+  next = e.next;
+  secrets = e.secrets;
+}
 
 -- it has used as many leaves as it has spoken before
 leaf-is : (c : Configuration) (m : Machine) → IsFormed m → IsReady m → IsToBeAsked m → HasEntered c (holdings_of m)
@@ -322,12 +389,12 @@ posted-stands now start c a m post f r asked signed reads s =
       };
       conduct = answers-stay now start c (past_of m.log 1) (past_of log 1) (was_asked m.stage Spoken 1) (past_same 1) s.conduct;
       own = record {
-        descriptor = λ was. own.descriptor was
+        descriptor = λ was. made_own.descriptor was
             ∙ ap (descriptor_made start c) (sym (posts-stay m.log (m.seat.number + 1) (slot_here m) post 1 m.stage others r.past (asked-within m.stage Spoken 1 was)));
-        pad = own.pad;
-        first = λ was not_yet. own.first was not_yet
+        pad = made_own.pad;
+        first = λ was not_yet. made_own.first was not_yet
             ∙ ap (λ (past : List (List ℕ)). (own_submission c m.own.descriptor past 1).inner_ciphertext) (sym (past_same 1 was));
-        second = λ was. own.second was
+        second = λ was. made_own.second was
             ∙ ap (λ (past : List (List ℕ)). (own_submission c m.own.descriptor past 2).inner_ciphertext) (sym (past_same (submit_stage m.log.shape 2) was));
       };
     })
@@ -341,11 +408,11 @@ posted-stands now start c a m post f r asked signed reads s =
     log : Log
     log = filled m.log (slot_here m) post
 
-    own : IsOwnOf start c (asked_at (holdings_of m) Spoken)
-    own = s.own
+    made_own : IsOwnOf start c (asked_at (holdings_of m) Spoken)
+    made_own = s.own
 
     same : post ≡ signed_at c a.stand.at post.content
-    same = post-is c a m post f r asked signed s.entered s.at.stage
+    same = post-is c a m post f r asked signed (entered-asked c (holdings_of m) Spoken s.entered) s.at.stage
 
     made : posts_made (holdings_of (posted m post)) ≡ posts_made (holdings_of m) ++ post ∷ []
     made = posted-made m post f asked silent
@@ -358,7 +425,7 @@ posted-stands now start c a m post f r asked signed reads s =
     }
 
     behind : actor_behind_post c a (signed_at c a.stand.at post.content) ≡ next
-    behind = cond-true (is_ok (content_read (shape_in c) post.content)) _ _ (ap (λ (shape : Shape). is_ok (content_read shape post.content)) (sym (round-shape c m f s.entered)) ∙ reads)
+    behind = cond-true (is_ok (content_read (shape_in c) post.content)) _ _ (ap (λ (shape : Shape). is_ok (content_read shape post.content)) (sym (round-shape c m f (entered-asked c (holdings_of m) Spoken s.entered))) ∙ reads)
 
     log_is : log ≡ filled a.log (record { stage = a.stand.at; sender = c.number }) (signed_at c a.stand.at post.content)
     log_is = ap (λ (l : Log). filled l (slot_here m) post) s.at.log
@@ -391,7 +458,7 @@ strayed-stands now start c a m post f r asked signed outside s =
         past = s.at.past;
         mood = refl;
         made = made ∙ ap (λ (posts : List Post). posts ++ post ∷ []) s.at.made
-            ∙ ap (λ (p : Post). a.made ++ p ∷ []) (post-is c a m post f r asked signed s.entered s.at.stage);
+            ∙ ap (λ (p : Post). a.made ++ p ∷ []) (post-is c a m post f r asked signed (entered-asked c (holdings_of m) Spoken s.entered) s.at.stage);
         ending = shows-open c a next m.ending asked.going refl s.at.ending;
       };
       conduct = tt;
@@ -405,9 +472,15 @@ strayed-stands now start c a m post f r asked signed outside s =
     next = record a { mood = Mute; made = a.made ++ signed_at c a.stand.at post.content ∷ [] }
 
     behind : actor_behind_post c a (signed_at c a.stand.at post.content) ≡ next
-    behind = cond-false (is_ok (content_read (shape_in c) post.content)) _ _ (ap (λ (shape : Shape). is_ok (content_read shape post.content)) (sym (round-shape c m f s.entered)) ∙ outside)
+    behind = cond-false (is_ok (content_read (shape_in c) post.content)) _ _ (ap (λ (shape : Shape). is_ok (content_read shape post.content)) (sym (round-shape c m f (entered-asked c (holdings_of m) Spoken s.entered))) ∙ outside)
 
 -- ---- as the code holds it
+
+-- the log that the code puts the post into
+pub put-here : (m : Machine) (post : Post) (slot : Slot) (log : Log) → IsReady m → IsToBeAsked m → slot ≡ slot_here m → log ≡ put_log m.log slot post
+    → log ≡ filled m.log (slot_here m) post
+put-here m post slot log r asked here put =
+    put ∙ ap (λ (s : Slot). put_log m.log s post) here ∙ put-fills m.log (slot_here m) post ((silent-here m r asked).empty m.stage (omega arith))
 
 -- what is said of the member behind a post is so of the code, which has these leaves and this log
 pub posted-so : (P : Machine → Type 0) (m : Machine) (post : Post) (leaves : RunState) (log : Log) → leaves ≡ leaf_spent m.leaves

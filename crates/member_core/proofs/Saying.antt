@@ -1,7 +1,6 @@
 -- What a member says: bytes of a content of the grammar in its slot, or bytes that are none.
 use Rattle.std.proofs.Common.{◌≡◌, ◌⊎◌, ℕ, ◌<◌, ◌≤◌, ◌^◌, Bool, true, false, List, length, Option, None, Result, Ok, Err, ap, sym, ◌∙◌, refl, subst, arith}
-use Rattle.std.specs.Prelude.{is_none, is_ok}
-use Rattle.std.specs.Result.{result_err}
+use Rattle.std.specs.Prelude.{IfOk, IsErr, is_ok}
 use Rattle.wire_core.specs.Bytes.{IsBytes}
 use Rattle.phase_message.specs.declared.content.Content.{Content}
 use Rattle.phase_message.specs.declared.post.Post.{Post}
@@ -22,14 +21,9 @@ use Rattle.member_spec.specs.Replies.{HasSlot, KeepsSlot}
 
 -- ---- bytes that are read
 
--- where no offence is found a content is read
-pub read-sound : {A E : Type 0} (r : Result A E) → is_none (result_err r) ≡ true → (x : A) × (r ≡ Ok x)
-read-sound (Ok x) e = (x, refl)
-read-sound (Err x) e = absurd cc
-
-pub ok-sound : {A E : Type 0} (r : Result A E) → is_none (result_err r) ≡ is_ok r
-ok-sound (Ok x) = refl
-ok-sound (Err x) = refl
+pub ok-read : {A E : Type 0} (r : Result A E) → is_ok r ≡ true → (x : A) × (r ≡ Ok x)
+ok-read (Ok x) e = (x, refl)
+ok-read (Err x) e = absurd cc
 
 -- the spelling of a content names its slot
 pub text-slot : (shape : Shape) (content : Content) → OfGrammar shape content → HasSlot (slot_named content.header) (content_text content)
@@ -61,3 +55,10 @@ pub filled-stands : (log : Log) (slot : Slot) (post : Post) → is_slot log.shap
     → StandsIn log.shape slot post.content → StandAll log → StandAll (filled log slot post)
 filled-stands log slot post speaks none stands all =
     subst StandAll (put-fills log slot post none) (λ stage. stand-put log slot post stage speaks (all stage) (λ same. stands))
+
+-- ---- an answer
+
+-- nothing is asked of an answer where memory ran out
+pub if-err : {A E : Type 0} (r : Result A E) (P : A → Type 0) → IsErr r → IfOk r P
+if-err (Ok x) P is = absurd cc
+if-err (Err x) P is = tt

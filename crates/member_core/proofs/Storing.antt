@@ -48,7 +48,7 @@ use Rattle.member_core.specs.Found.{IsOthers, IsStorable}
 use Rattle.member_core.specs.Membership.{Holdings, IsOpen, holdings_of, own_posts_kept, posts_made}
 use Rattle.member_core.specs.Needs.{HoldsNeeded, stages_behind, was_asked}
 use Rattle.member_core.specs.Shorts.{IsShortLog, most_in, own_limit}
-use Rattle.member_core.specs.Sound.{CarriesKeys, IsFormed, IsMachineOf, IsMoodOf, IsReady}
+use Rattle.member_core.specs.Sound.{CarriesKeys, IsFormed, IsMachineOf, IsMoodOf, IsReady, IsSound}
 use Rattle.member_core.specs.Stands.{AnswersBy, GoesOn, HasEntered, IsAt, IsOwnOf, KeepsOwn, ShowsOutcome, StandsFor}
 use Rattle.member_core.proofs.Saying.{filled-stands, put-fills}
 
@@ -286,6 +286,13 @@ ready-stays m slot post s r =
 
 pub needed-stays : (h : Holdings) (slot : Slot) (post : Post) → HoldsNeeded h → HoldsNeeded (record h { log = filled h.log slot post })
 needed-stays h slot post n = record { first = n.first; bulk = n.bulk; second = n.second }
+
+pub sound-stays : (m : Machine) (slot : Slot) (post : Post) → IsStorable m slot post → IsSound m → IsSound (with_post m slot post)
+sound-stays m slot post s is = record {
+  formed = formed-stays m slot post s is.formed;
+  ready = λ going. ready-stays m slot post s (is.ready going);
+  needed = needed-stays (holdings_of m) slot post is.needed;
+}
 
 -- ---- the pure machine
 

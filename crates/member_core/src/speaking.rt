@@ -1,9 +1,11 @@
 //! Asking the conduct, and posting what it says.
 
-ghost use Rattle.std.specs.Prelude.{◌≡◌, ◌≤◌, IfOk, IsOk, IsTrue, Some, length};
+ghost use Rattle.std.specs.Prelude.{◌≡◌, ◌<◌, ◌≤◌, ◌^◌, IfOk, IsTrue, Some, is_ok, length};
+ghost use Rattle.wire_core.specs.Bytes.{IsBytes};
 ghost use Rattle.phase_message.specs.declared.stage.StageKind.{StageKind as Kind};
 ghost use Rattle.phase_message.specs.Grammar.{IsBody, content_text};
-ghost use Rattle.phase_message.specs.Stages.{is_slot, kind_of_stage};
+ghost use Rattle.phase_message.specs.Offence.{content_read};
+ghost use Rattle.phase_message.specs.Stages.{is_slot, kind_of_stage, shape_of};
 ghost use Rattle.stage_log.specs.Log.{view_of};
 ghost use Rattle.shuffle_blame.specs.Asked.{past_of};
 ghost use Rattle.round_spec.specs.Say.{Configuration};
@@ -21,7 +23,9 @@ ghost use Rattle.member_core.specs.Stands.{StandsFor};
 
 use crate::machine::Machine;
 use member_spec::{Conduct, Mood, Speech};
-use phase_message::{Body, Content, Header, Post, StageKind, encode, first_offence, stage_kind};
+use phase_message::{
+    Body, Content, Header, Post, Shape, StageKind, encode, first_offence, stage_kind,
+};
 use std::alloc::Global;
 use wire_core::{List, Mem};
 
@@ -43,7 +47,7 @@ impl Machine {
             StandsFor now start c (actor_behind_answer c a (Says bytes)) (holdings_of self.new)) }
     {
         let signature = self.leaves.sign(alloc, bytes.items())?;
-        let is_content = first_offence(self.seat.shape, bytes.items()).is_none();
+        let is_content = is_of_grammar(self.seat.shape, bytes.items());
         let post = Post {
             content: bytes,
             signature: List::of(signature),
@@ -186,4 +190,13 @@ impl Machine {
         let bytes = self.content_of(alloc, body)?;
         self.ask(alloc, conduct, bytes)
     }
+}
+
+// Whether bytes are a content of the grammar.
+fn is_of_grammar(shape: Shape, bytes: &[u8]) -> bool
+    requires { length bytes.now < 2 ^ 32 }
+    ensures value { result ≡ is_ok (content_read (shape_of shape) bytes.now) }
+    ensures bytes { IsBytes bytes.now }
+{
+    first_offence(shape, bytes).is_none()
 }
