@@ -2,6 +2,7 @@
 use Rattle.std.proofs.Common.{◌≡◌, ◌⊎◌, ℕ, ◌+◌, ◌-◌, ◌<◌, ◌≤◌, Bool, true, false, List, [], length, Option, Some, None, Result, Ok, Err, ap, sym, ◌∙◌, refl, subst, arith, inl, inr}
 use Rattle.std.specs.Prelude.{is_some, option_and_then}
 use Rattle.std.proofs.lemmas.Bool.{cases_eq, cases_lt}
+use Rattle.std.proofs.lemmas.Option.{none-some}
 use Rattle.std.specs.List.{slice_get}
 use Rattle.std.proofs.lemmas.Option.{get_or_from_slice_get}
 use Rattle.phase_message.specs.declared.content.Content.{Content}
@@ -25,6 +26,7 @@ use Rattle.round_spec.specs.Slots.{final_stage}
 use Rattle.round_spec.specs.Verdict.{ClosedStage, closing_content, is_closing, no_post, post_in, shape_at}
 use Rattle.round_spec.specs.Cases.{IsMemberOf, IsWhole}
 use Rattle.closing_verdict.specs.Judgement.{Completed, IsComplete, stage_closed}
+use Rattle.closing_verdict.specs.Telling.{shuffle_ended}
 use Rattle.closing_verdict.proofs.ClosingPosts.{closed-kept, closed-long, closing-slot}
 
 -- ---- kinds
@@ -153,4 +155,11 @@ closing-late shape stage closing = elim (closing-end shape stage closing) [
     | inr b ↦ (let at = b.1 in record { least = omega arith; most = omega arith })
   ]
   | inr confirm ↦ (let at = confirm-at shape stage confirm in record { least = omega arith; most = omega arith })
+]
+
+-- one that ends no shuffle is behind the checks
+pub none-ended : (shape : Shape) (stage : ℕ) → is_closing shape stage ≡ true → shuffle_ended (kind_of_stage shape stage) ≡ None → kind_of_stage shape stage ≡ Some AtConfirm
+none-ended shape stage closing none = elim (closing-end shape stage closing) [
+  | inl final ↦ absurd (none-some final.0 (sym none ∙ ap shuffle_ended final.1))
+  | inr confirm ↦ confirm
 ]

@@ -8,3 +8,4 @@ pub mod SecondContents
 pub mod Carrying
 pub mod Culprits
 pub mod SeedVerdicts
+pub mod Accusings
