@@ -16,3 +16,4 @@ mod Due
 pub mod MadePosts
 mod Submitting
 mod Answering
+pub mod Judging
