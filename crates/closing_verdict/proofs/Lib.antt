@@ -2,6 +2,7 @@ pub mod Charges
 pub mod ClosingPosts
 pub mod ClosingSaid
 pub mod PadPosts
+pub mod Readings
 pub mod ClosedStages
 pub mod Agreements
 pub mod SecondContents
