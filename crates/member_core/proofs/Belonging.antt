@@ -1,6 +1,6 @@
 -- What a member's code has of what the member entered with.
 use Rattle.std.proofs.Common.{◌≡◌, ℕ, ◌+◌, ◌-◌, ◌<◌, ◌≤◌, List, [], ◌∷◌, length, Option, Some, None, ap, sym, ◌∙◌, refl, subst, arith, rules, inl, inr, true, false, Bool}
-use Rattle.std.specs.Prelude.{IfSome, IsSome, is_some, nat_lt, not, unwrap_or, ◌&&◌, ◌==◌}
+use Rattle.std.specs.Prelude.{IfSome, IsSome, is_some, nat_lt, not, option_map, unwrap_or, ◌&&◌, ◌==◌}
 use Rattle.std.proofs.lemmas.Bool.{cases_eq, cond-false, cond-true, eq-eqb}
 use Rattle.phase_message.specs.declared.post.Post.{Post}
 use Rattle.phase_message.specs.Shape.{Shape}
@@ -20,13 +20,14 @@ use Rattle.round_spec.specs.Slots.{bulk_place, final_stage, inner_place, keys_sa
 use Rattle.honest_say.specs.declared.group_keys.GroupKeys.{GroupKeys}
 use Rattle.honest_say.specs.declared.group_keys.ShuffleKeys.{ShuffleKeys}
 use Rattle.honest_say.specs.declared.secrets.ShuffleSecrets.{ShuffleSecrets}
+use Rattle.honest_say.specs.declared.opening.Slots.{Slots}
 use Rattle.honest_say.specs.Own.{AreBulkSecrets, AreGroupKeys, AreShuffleKeys, AreShuffleSecrets}
 use Rattle.honest_say.specs.Pasts.{posts_before}
 use Rattle.honest_say.specs.Seats.{IsSeatOf}
 use Rattle.honest_say.specs.Stays.{AreReached}
 use Rattle.honest_say.proofs.PastLemmas.{posts-are}
 use Rattle.honest_say.proofs.Staying.{keys_stay}
-use Rattle.closing_verdict.specs.Carried.{AreKeysOf}
+use Rattle.closing_verdict.specs.Carried.{AreItemsOf, AreKeysOf, AreSlotsOf, CarriesOpened, CarriesSlots, stage_found, stage_opened}
 use Rattle.member_core.specs.declared.machine.Machine.{Machine}
 use Rattle.member_core.specs.declared.own.Own.{Own}
 use Rattle.member_core.specs.declared.secrets.Secrets.{Secrets}
@@ -36,7 +37,7 @@ use Rattle.member_core.specs.declared.ending.Ending.TheVariants.{Open, Done, Bla
 use Rattle.member_core.specs.Asking.{IsToBeAsked}
 use Rattle.member_core.specs.Membership.{IsOpen, holdings_of}
 use Rattle.member_core.specs.Needs.{AreSecretsOf, HoldsNeeded, is_going, is_mute, needs, shuffle_secrets, was_asked}
-use Rattle.member_core.specs.Sound.{IsFormed, IsMachineOf}
+use Rattle.member_core.specs.Sound.{CarriesKeys, IsFormed, IsMachineOf}
 use Rattle.member_core.specs.Stands.{HasEntered}
 
 -- ---- the member
@@ -190,3 +191,27 @@ keys-here log stage keys are least complete =
       bulk = are.said.bulk ∙ same bulk_place;
       second = record { inner = are.said.second.inner ∙ same (inner_place 2); outer = are.said.second.outer ∙ same (outer_place 2) };
     }
+
+-- ---- what it carries
+
+-- the items that it carries
+pub carried-items : {A : Type 0} (log : Log) (stage : ℕ) (f : A → List (Option (List ℕ))) (o : Option A) (x : A) → o ≡ Some x → CarriesOpened log stage (option_map f o) → AreItemsOf log (f x)
+carried-items log stage f o x is carries = subst (λ (q : Option _). CarriesOpened log stage (option_map f q)) is carries
+
+-- where it carries none, the end of shuffle A is not behind it
+pub carries-late : {A : Type 0} (log : Log) (stage : ℕ) (f : A → List (Option (List ℕ))) (o : Option A) → o ≡ None → CarriesOpened log stage (option_map f o) → stage + 1 ≤ stage_opened log
+carries-late log stage f o is carries = subst (λ (q : Option _). CarriesOpened log stage (option_map f q)) is carries
+
+-- the keys that it carries, and that it does where the first stage is behind it
+pub carried-keys : (log : Log) (stage : ℕ) (o : Option GroupKeys) (keys : GroupKeys) → o ≡ Some keys → CarriesKeys log stage o → AreKeysOf log keys
+carried-keys log stage o keys is carries = subst (CarriesKeys log stage) is carries
+
+pub carries-first : (log : Log) (stage : ℕ) (o : Option GroupKeys) → o ≡ None → CarriesKeys log stage o → stage ≡ 0
+carries-first log stage o is carries = subst (CarriesKeys log stage) is carries
+
+-- the slots that it carries, and that it does where the checks are behind it
+pub carried-slots : (log : Log) (stage : ℕ) (o : Option Slots) (slots : Slots) → o ≡ Some slots → CarriesSlots log stage o → AreSlotsOf log slots
+carried-slots log stage o slots is carries = subst (CarriesSlots log stage) is carries
+
+pub slots-late : (log : Log) (stage : ℕ) (o : Option Slots) → o ≡ None → CarriesSlots log stage o → stage + 1 ≤ stage_found log
+slots-late log stage o is carries = subst (CarriesSlots log stage) is carries
