@@ -17,3 +17,4 @@ pub mod MadePosts
 mod Submitting
 mod Answering
 pub mod Judging
+pub mod Passing
