@@ -18,3 +18,4 @@ mod Submitting
 mod Answering
 pub mod Judging
 pub mod Passing
+pub mod Answered

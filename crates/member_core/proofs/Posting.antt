@@ -207,6 +207,7 @@ posted-formed m post f r asked signed own =
       shape = f.shape;
       stand = filled-stands m.log (slot_here m) post asked.speaks (silent.empty m.stage (omega arith)) own.stands f.stand;
       short = short-posted m post f asked signed;
+      stray = f.stray;
       leaves = (let was = f.leaves in omega (arith, made, longer, was, left));
       handed = (let was = f.handed in omega (arith, made, longer, was));
     }
@@ -252,8 +253,8 @@ pub strayed-made : (m : Machine) (post : Post) → IsSilent m → posts_made (ho
 strayed-made m post silent =
     sym (ap (λ (posts : List Post). posts ++ post ∷ []) (made-kept m silent))
 
-pub strayed-formed : (m : Machine) (post : Post) → IsFormed m → IsReady m → IsToBeAsked m → IsFormed (strayed m post)
-strayed-formed m post f r asked =
+pub strayed-formed : (m : Machine) (post : Post) → IsFormed m → IsReady m → IsToBeAsked m → IsSigned m post → IsFormed (strayed m post)
+strayed-formed m post f r asked signed =
     let silent = silent-here m r asked in
     let left = leaf-left m f r asked in
     let e : IsMachineOf f.entered.0 m = f.entered.1 in
@@ -267,6 +268,7 @@ strayed-formed m post f r asked =
       shape = f.shape;
       stand = f.stand;
       short = f.short;
+      stray = (let short = signed.short in let small = limit-small (kind_of_stage m.log.shape m.stage) in omega (arith, short, small));
       leaves = (let was = f.leaves in omega (arith, made, longer, was, left));
       handed = (let was = f.handed in omega (arith, made, longer, was));
     }
@@ -308,9 +310,9 @@ mute-needed h bare mute = subst HoldsNeeded (sym same) (record {
     same : h ≡ record h { secrets = no_secrets; mood = Mute }
     same = ap (λ (s : Secrets). record h { secrets = s }) bare ∙ ap (λ (mood : Mood). record h { secrets = no_secrets; mood = mood }) mute
 
-pub strayed-sound : (m : Machine) (post : Post) → IsFormed m → IsReady m → IsToBeAsked m → IsSound (strayed m post)
-strayed-sound m post f r asked = record {
-  formed = strayed-formed m post f r asked;
+pub strayed-sound : (m : Machine) (post : Post) → IsFormed m → IsReady m → IsToBeAsked m → IsSigned m post → IsSound (strayed m post)
+strayed-sound m post f r asked signed = record {
+  formed = strayed-formed m post f r asked signed;
   ready = λ still. mute-ready m (leaf_spent m.leaves) (Some post) r asked;
   needed = mute-needed (holdings_of (strayed m post)) refl refl;
 }
@@ -356,7 +358,7 @@ post-is c a m post f r asked signed entered at =
     ∙ ap (λ (leaf : ℕ). lms_signature c.key leaf post.content) (leaf-is c m f r asked entered ∙ ap (λ (stage : ℕ). c.first + number_said_before c stage) at))
 
 -- what an open round shows hangs on nothing else
-shows-open : (c : Configuration) (a b : Actor) (ending : Ending) → IsOpen ending → b.ending ≡ a.ending → ShowsOutcome ending (outcome_of c a)
+pub shows-open : (c : Configuration) (a b : Actor) (ending : Ending) → IsOpen ending → b.ending ≡ a.ending → ShowsOutcome ending (outcome_of c a)
     → ShowsOutcome ending (outcome_of c b)
 shows-open c a b Open still same shows = shown-open c b (ap is_open same ∙ open-shown c a shows)
 shows-open c a b (Done slots) still same shows = absurd still

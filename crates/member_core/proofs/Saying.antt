@@ -62,3 +62,8 @@ filled-stands log slot post speaks none stands all =
 pub if-err : {A E : Type 0} (r : Result A E) (P : A → Type 0) → IsErr r → IfOk r P
 if-err (Ok x) P is = absurd cc
 if-err (Err x) P is = tt
+
+-- what is said of an answer with memory leads to another fact
+pub ok-so : {A E : Type 0} (r : Result A E) (P Q : A → Type 0) → ((x : A) → P x → Q x) → IfOk r P → IfOk r Q
+ok-so (Ok x) P Q leads is = leads x is
+ok-so (Err x) P Q leads is = tt

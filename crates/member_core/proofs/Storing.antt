@@ -144,7 +144,7 @@ posts-stay log number slot post stage later is complete le =
 
 -- ---- how long posts are
 
-own-least : (kind : Option StageKind) → POST_LIMIT ≤ own_limit kind
+pub own-least : (kind : Option StageKind) → POST_LIMIT ≤ own_limit kind
 own-least None = omega arith
 own-least (Some Keys) = omega arith
 own-least (Some (Submit shuffle)) = omega arith

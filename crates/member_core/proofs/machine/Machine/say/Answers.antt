@@ -134,11 +134,11 @@ so-strayed P c so = strayed-so P c.args.self.now c.fall_mute.new.self (post-stra
 
 pub returns-else-is_content-clause-formed : goal.returns-else-is_content-clause-formed
 returns-else-is_content-clause-formed c =
-    so-strayed IsFormed c (strayed-formed c.args.self.now (post-strayed c) c.requires.formed c.requires.ready c.requires.speakable.to_be_asked)
+    so-strayed IsFormed c (strayed-formed c.args.self.now (post-strayed c) c.requires.formed c.requires.ready c.requires.speakable.to_be_asked (signed-strayed c))
 
 pub returns-else-is_content-clause-sound : goal.returns-else-is_content-clause-sound
 returns-else-is_content-clause-sound c =
-    so-strayed IsSound c (strayed-sound c.args.self.now (post-strayed c) c.requires.formed c.requires.ready c.requires.speakable.to_be_asked)
+    so-strayed IsSound c (strayed-sound c.args.self.now (post-strayed c) c.requires.formed c.requires.ready c.requires.speakable.to_be_asked (signed-strayed c))
 
 pub returns-else-is_content-clause-going : goal.returns-else-is_content-clause-going
 returns-else-is_content-clause-going c = so-strayed (λ (n : Machine). IsOpen n.ending) c c.requires.speakable.to_be_asked.going
