@@ -1,6 +1,7 @@
 -- The first item of shuffle B that opened to an accusation that holds.
-use Rattle.std.proofs.Common.{◌≡◌, ℕ, ◌+◌, ◌<◌, ◌≤◌, Bool, true, false, List, [], ◌∷◌, ◌++◌, drop, length, map, Option, Some, None, Result, Ok, Err, refl, ap, sym, ◌∙◌, subst, arith, inl, inr}
+use Rattle.std.proofs.Common.{◌≡◌, ℕ, suc, ◌+◌, ◌<◌, ◌≤◌, Bool, true, false, List, [], ◌∷◌, ◌++◌, drop, length, map, Option, Some, None, Result, Ok, Err, refl, ap, sym, ◌∙◌, subst, arith, inl, inr}
 use Rattle.std.specs.Prelude.{is_none, is_ok, option_and_then, option_map, unwrap_or, if◌then◌else◌}
+use Rattle.std.specs.List.{slice_get}
 use Rattle.std.proofs.lemmas.Option.{none-some}
 use Rattle.wire_core.specs.Answers.{first_some, value_unless}
 use Rattle.phase_message.specs.Shape.{Shape}
@@ -11,6 +12,7 @@ use Rattle.accusation.specs.declared.holding.AccusationRefusal.{AccusationRefusa
 use Rattle.accusation.specs.Accusation.{HoldsOf, refusal_of}
 use Rattle.accusation.proofs.AccusationLemmas.{holds_exactly}
 use Rattle.honest_say.proofs.Members.{keys-count}
+use Rattle.round_spec.proofs.GoLists.{drop-here}
 use Rattle.round_spec.specs.Slots.{bulk_place, descriptors_opened, items_opened, keys_said, pads_sent}
 use Rattle.round_spec.specs.Verdict.{ClosedStage, Verdict, Goes, Done, bad_pad, bad_pad_by, bad_pad_if, first_bad_pad, is_held, past_at, shape_at}
 use Rattle.closing_verdict.specs.Telling.{held_at, held_by, is_held_at}
@@ -61,17 +63,12 @@ pad-by v (Some bytes) = by_accusation (accusation_of bytes)
 first-pad : (v : ClosedStage) (items : List (Option (List ℕ))) → first_some (map (bad_pad_by v) items) ≡ option_map (bad_pad v) (first_some (map (held_by v) items))
 first-pad v [] = refl
 first-pad v (item ∷ items) =
-    ap (λ (o : Option Verdict). first_some (o ∷ map (bad_pad_by v) items)) (pad-by v item)
-    ∙ ap (λ (o : Option Verdict). first_or (option_map (bad_pad v) (held_by v item)) o) (first-pad v items)
-    ∙ by_held (held_by v item)
+    ap (λ (o : Option Verdict). first_some (o ∷ map (bad_pad_by v) items)) (pad-by v item) ∙ by_held (held_by v item) (first-pad v items)
   where
-    first_or : Option Verdict → Option Verdict → Option Verdict
-    first_or (Some x) o = Some x
-    first_or None o = o
-
-    by_held : (o : Option Accusation) → first_or (option_map (bad_pad v) o) (option_map (bad_pad v) (first_some (map (held_by v) items))) ≡ option_map (bad_pad v) (first_some (o ∷ map (held_by v) items))
-    by_held None = refl
-    by_held (Some a) = refl
+    by_held : (o : Option Accusation) → first_some (map (bad_pad_by v) items) ≡ option_map (bad_pad v) (first_some (map (held_by v) items))
+        → first_some (option_map (bad_pad v) o ∷ map (bad_pad_by v) items) ≡ option_map (bad_pad v) (first_some (o ∷ map (held_by v) items))
+    by_held None later = later
+    by_held (Some a) later = refl
 
 -- what was found, as a verdict
 pub pad-told : (v : ClosedStage) (items : List (Option (List ℕ))) (found : Option Accusation) → items ≡ items_opened (shape_at v) (past_at v) 2 → found ≡ first_some (map (held_by v) items)
@@ -82,7 +79,7 @@ pad-told v items found are is =
 
 pub held-told : (v : ClosedStage) (items : List (Option (List ℕ))) (a : Accusation) → first_some (map (held_by v) items) ≡ Some a → is_held_at v a ≡ true
 held-told v [] a e = absurd (none-some a e)
-held-told v (item ∷ items) a e = by_item (held_by v item) refl e
+held-told v (item ∷ items) a e = by_item (held-told v items a) (held_by v item) refl e
   where
     held-some : (b : Accusation) → held_at v b ≡ Some a → is_held_at v a ≡ true
     held-some b is = by_test (is_held_at v b) refl is
@@ -95,6 +92,13 @@ held-told v (item ∷ items) a e = by_item (held_by v item) refl e
     by_read None is = absurd (none-some a is)
     by_read (Some b) is = held-some b is
 
-    by_item : (o : Option Accusation) → held_by v item ≡ o → first_some (o ∷ map (held_by v) items) ≡ Some a → is_held_at v a ≡ true
-    by_item None is got = held-told v items a got
-    by_item (Some b) is got = by_read (option_and_then accusation_of item) (is ∙ got)
+    by_item : (first_some (map (held_by v) items) ≡ Some a → is_held_at v a ≡ true) → (o : Option Accusation) → held_by v item ≡ o → first_some (o ∷ map (held_by v) items) ≡ Some a → is_held_at v a ≡ true
+    by_item later None is got = later got
+    by_item later (Some b) is got = by_read (option_and_then accusation_of item) (is ∙ got)
+
+-- the first of the items from a place on is at it
+pub first-at : (v : ClosedStage) (items : List (Option (List ℕ))) (k : ℕ) (item : Option (List ℕ)) (a : Accusation) → first_some (map (held_by v) items) ≡ first_some (map (held_by v) (drop k items))
+    → slice_get items k ≡ Some item → held_by v item ≡ Some a → Some a ≡ first_some (map (held_by v) items)
+first-at v items k item a so_far at held =
+    sym (so_far ∙ ap (λ (t : List (Option (List ℕ))). first_some (map (held_by v) t)) (drop-here items k item at)
+    ∙ ap (λ (o : Option Accusation). first_some (o ∷ map (held_by v) (drop (suc k) items))) held)

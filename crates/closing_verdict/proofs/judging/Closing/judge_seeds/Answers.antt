@@ -76,7 +76,7 @@ returns-then-shuffle-eq1 c =
       c.wrong_seed.ensures) c.in_default.is c.if-shuffle-eq1.true;
       opened = record {
         are = c.in_ok-items.ensures.value ∙ ap (λ (stage : ℕ). items_opened log.shape (past_of log (stage + 1)) 1) ends;
-        count = c.in_ok-items.ensures.count;
+        count = omega (arith, c.in_ok-items.items.ok.0, c.in_ok-items.ensures.count);
       };
     }
   where
