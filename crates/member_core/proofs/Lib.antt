@@ -19,3 +19,4 @@ mod Answering
 pub mod Judging
 pub mod Passing
 pub mod Answered
+mod BeingAsked

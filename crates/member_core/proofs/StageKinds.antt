@@ -94,3 +94,14 @@ kind-place shape stage kind e =
 -- who speaks at a turn is the member whose turn it is
 pub turn-own : (shape : Shape) (stage sender shuffle k : ℕ) → kind_of_stage shape stage ≡ Some (Shuffle shuffle k) → is_slot shape stage sender ≡ true → sender ≡ k
 turn-own shape stage sender shuffle k e there = eqb-true sender k (sym (ap (λ (o : Option StageKind). speaks shape o sender) e) ∙ there)
+
+-- the end of a shuffle is no stage of submissions
+pub final-apart : (shape : Shape) (stage shuffle : ℕ) → IsPlaced shape stage (Final shuffle) → (1 < stage) × (submit_stage shape 2 ≡ stage → ⊥)
+final-apart shape stage shuffle placed = elim (cases_eq shuffle 1) [
+  | inl one ↦ (let here : stage ≡ final_stage shape 1 = placed.at ∙ ap (final_stage shape) one in (omega (arith, here), λ e. omega (arith, e, here)))
+  | inr other ↦ (
+      let within = placed.kind_in in
+      let two : shuffle ≡ 2 = omega (arith, within.0, within.1) in
+      let here : stage ≡ final_stage shape 2 = placed.at ∙ ap (final_stage shape) two in
+      (omega (arith, here), λ e. omega (arith, e, here)))
+]
