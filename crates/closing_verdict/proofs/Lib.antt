@@ -10,3 +10,4 @@ pub mod Carrying
 pub mod Culprits
 pub mod SeedVerdicts
 pub mod Accusings
+pub mod Dissents
