@@ -20,3 +20,4 @@ pub mod Judging
 pub mod Passing
 pub mod Answered
 mod BeingAsked
+pub mod PassedStages
