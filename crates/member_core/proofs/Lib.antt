@@ -21,3 +21,4 @@ pub mod Passing
 pub mod Answered
 mod BeingAsked
 pub mod Handing
+pub mod PassedStages

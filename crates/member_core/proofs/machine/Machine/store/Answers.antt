@@ -44,3 +44,88 @@ advance-requires-clause-running g c = open-runs _ c.in_ok-ask_again.ensures.goin
 
 pub returns-in_err-advance-clause-formed : goal.returns-in_err-advance-clause-formed
 returns-in_err-advance-clause-formed g c = c.advance.ensures.formed
+
+pub returns-in_err-keep-clause-sound : goal.returns-in_err-keep-clause-sound
+returns-in_err-keep-clause-sound g c = if-err _ c.from_residual.result c.from_residual.ensures.0
+
+pub returns-in_err-keep-clause-runs : goal.returns-in_err-keep-clause-runs
+returns-in_err-keep-clause-runs g c = if-err _ c.from_residual.result c.from_residual.ensures.0
+
+pub returns-in_err-keep-clause-handed : goal.returns-in_err-keep-clause-handed
+returns-in_err-keep-clause-handed g c = if-err _ c.from_residual.result c.from_residual.ensures.0
+
+pub returns-in_err-keep-clause-answer : goal.returns-in_err-keep-clause-answer
+returns-in_err-keep-clause-answer g c = if-err _ c.from_residual.result c.from_residual.ensures.0
+
+pub returns-in_err-keep-clause-stands : goal.returns-in_err-keep-clause-stands
+returns-in_err-keep-clause-stands g c = if-err _ c.from_residual.result c.from_residual.ensures.0
+
+pub returns-in_err-ask_again-clause-sound : goal.returns-in_err-ask_again-clause-sound
+returns-in_err-ask_again-clause-sound g c = if-err _ c.from_residual-in_err-ask_again.result c.from_residual-in_err-ask_again.ensures.0
+
+pub returns-in_err-ask_again-clause-runs : goal.returns-in_err-ask_again-clause-runs
+returns-in_err-ask_again-clause-runs g c = if-err _ c.from_residual-in_err-ask_again.result c.from_residual-in_err-ask_again.ensures.0
+
+pub returns-in_err-ask_again-clause-handed : goal.returns-in_err-ask_again-clause-handed
+returns-in_err-ask_again-clause-handed g c = if-err _ c.from_residual-in_err-ask_again.result c.from_residual-in_err-ask_again.ensures.0
+
+pub returns-in_err-ask_again-clause-answer : goal.returns-in_err-ask_again-clause-answer
+returns-in_err-ask_again-clause-answer g c = if-err _ c.from_residual-in_err-ask_again.result c.from_residual-in_err-ask_again.ensures.0
+
+pub returns-in_err-ask_again-clause-stands : goal.returns-in_err-ask_again-clause-stands
+returns-in_err-ask_again-clause-stands g c = if-err _ c.from_residual-in_err-ask_again.result c.from_residual-in_err-ask_again.ensures.0
+
+pub returns-in_err-advance-clause-sound : goal.returns-in_err-advance-clause-sound
+returns-in_err-advance-clause-sound g c = if-err _ c.from_residual-in_err-advance.result c.from_residual-in_err-advance.ensures.0
+
+pub returns-in_err-advance-clause-runs : goal.returns-in_err-advance-clause-runs
+returns-in_err-advance-clause-runs g c = if-err _ c.from_residual-in_err-advance.result c.from_residual-in_err-advance.ensures.0
+
+pub returns-in_err-advance-clause-handed : goal.returns-in_err-advance-clause-handed
+returns-in_err-advance-clause-handed g c = if-err _ c.from_residual-in_err-advance.result c.from_residual-in_err-advance.ensures.0
+
+pub returns-in_err-advance-clause-answer : goal.returns-in_err-advance-clause-answer
+returns-in_err-advance-clause-answer g c = if-err _ c.from_residual-in_err-advance.result c.from_residual-in_err-advance.ensures.0
+
+pub returns-in_err-advance-clause-stands : goal.returns-in_err-advance-clause-stands
+returns-in_err-advance-clause-stands g c = if-err _ c.from_residual-in_err-advance.result c.from_residual-in_err-advance.ensures.0
+
+pub returns-in-Blamed-clause-formed : goal.returns-in-Blamed-clause-formed
+returns-in-Blamed-clause-formed g c = c.advance.ensures.formed
+
+pub returns-in-Blamed-clause-sound : goal.returns-in-Blamed-clause-sound
+returns-in-Blamed-clause-sound g c = c.in_ok-advance.ensures.sound
+
+pub returns-in-Blamed-clause-runs : goal.returns-in-Blamed-clause-runs
+returns-in-Blamed-clause-runs g c = c.in_ok-advance.ensures.runs
+
+pub returns-in-Blamed-clause-handed : goal.returns-in-Blamed-clause-handed
+returns-in-Blamed-clause-handed g c = c.in_ok-advance.ensures.handed ∙ c.in_ok-ask_again.ensures.handed ∙ ap (λ (m : Machine). m.handed) c.in_ok-keep.ensures.kept
+
+pub returns-in-Blamed-clause-answer : goal.returns-in-Blamed-clause-answer
+returns-in-Blamed-clause-answer g c = sym (ap answer_behind c.in-Blamed.is)
+
+pub returns-in-Blamed-clause-stands : goal.returns-in-Blamed-clause-stands
+returns-in-Blamed-clause-stands g c = λ start c' a s.
+    let slot = slot_named c.args.header in
+    let post : Post = record { content = c.args.parts.content.now; signature = c.args.parts.signature.now } in
+    let b : Actor = record a { log = filled a.log slot post } in
+    let kept = stands-stays (g.C.Conduct.replies c.args.conduct.now) start c' a (holdings_of c.args.self.now) slot post c.requires.post.others c.requires.going s in
+    c.in_ok-advance.ensures.stands start c' _ (c.in_ok-ask_again.ensures.stands start c' b
+    (subst (λ (m : Machine). StandsFor (g.C.Conduct.replies c.args.conduct.now) start c' b (holdings_of m)) (sym c.in_ok-keep.ensures.kept) kept))
+
+pub returns-in_default : goal.returns-in_default
+returns-in_default g c = record {
+  formed = c.advance.ensures.formed;
+  sound = c.in_ok-advance.ensures.sound;
+  runs = c.in_ok-advance.ensures.runs;
+  handed = c.in_ok-advance.ensures.handed ∙ c.in_ok-ask_again.ensures.handed ∙ ap (λ (m : Machine). m.handed) c.in_ok-keep.ensures.kept;
+  answer = answer-stored c.advance.new.self.ending (λ conviction e. c.in_default.not-Blamed conviction e);
+  stands = λ start c' a s.
+      let slot = slot_named c.args.header in
+      let post : Post = record { content = c.args.parts.content.now; signature = c.args.parts.signature.now } in
+      let b : Actor = record a { log = filled a.log slot post } in
+      let kept = stands-stays (g.C.Conduct.replies c.args.conduct.now) start c' a (holdings_of c.args.self.now) slot post c.requires.post.others c.requires.going s in
+      c.in_ok-advance.ensures.stands start c' _ (c.in_ok-ask_again.ensures.stands start c' b
+      (subst (λ (m : Machine). StandsFor (g.C.Conduct.replies c.args.conduct.now) start c' b (holdings_of m)) (sym c.in_ok-keep.ensures.kept) kept));
+}
