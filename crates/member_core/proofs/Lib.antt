@@ -23,3 +23,4 @@ mod BeingAsked
 pub mod Handing
 pub mod PassedStages
 pub mod Verdicts
+mod Describing
