@@ -1,0 +1,5 @@
+pub mod Alterations
+pub mod Faulty
+pub mod World
+pub mod Driver
+pub mod Scripts

@@ -1,0 +1,6 @@
+//! What a group of members comes to on one queue, with faults and with posts that do not arrive: definitions and their laws.
+#![tactic(auto)]
+
+mod laws;
+
+pub use laws::{honest_conducts, queue_empties, worlds_come_about};
