@@ -1,0 +1,4 @@
+mod Plainness
+pub mod Made
+pub mod Posts
+pub mod Queues

@@ -1,12 +1,12 @@
 -- What a group comes to: what is seen of each member when nothing is on its way any more.
-use Rattle.std.specs.Prelude.{◌≡◌, ℕ, ◌+◌, List, [], ◌∷◌, map, Bool, true, false, Option}
+use Rattle.std.specs.Prelude.{◌≡◌, ℕ, ◌+◌, List, [], map, Bool, true, false, Option}
 use Rattle.std.specs.Fn.{iterate}
 use Rattle.bulk_descriptor.specs.declared.slot_state.SlotState.{SlotState}
 use Rattle.member_spec.specs.declared.state.State.{State}
 use Rattle.member_spec.specs.Outcomes.{evidence_shown, outcome_of, slots_shown, state_of}
 use Rattle.round_script.specs.declared.fault.Fault.{Fault}
 use Rattle.round_script.specs.declared.fault.Fault.TheVariants.{None as Honest}
-use Rattle.group_spec.specs.World.{Carriage, Entry, Seat, World, actor_of, first_world, greatest_steps, last_world, world_behind_entry, world_behind_step}
+use Rattle.group_spec.specs.World.{Carriage, Seat, actor_of, first_world, greatest_steps, last_world, world_behind_step}
 
 -- what is seen of a member: its number, whether it has a fault, how the round stands for it, the slots where it is done, the
 -- transcript where it blames somebody, and what was delivered to it
@@ -48,15 +48,3 @@ QueuesEmpty = (carriage : Carriage) (seats : List Seat) → (last_world carriage
 abbrev pub RunsEndAlike : Type 0
 RunsEndAlike = (carriage : Carriage) (seats : List Seat) (more : ℕ) →
     iterate (world_behind_step carriage) (greatest_steps seats + more) (first_world seats) ≡ last_world carriage seats
-
--- ---- what holds all along
-
--- a property of worlds that the first one has and that stays behind each entry that is carried
-pub record Carried (carriage : Carriage) (seats : List Seat) (P : World → Type 0) : Type 0 where
-  pub start : P (first_world seats)
-  pub stays : (among : List Seat) (entry : Entry) (others : List Entry) →
-      P (record { seats = among; queue = entry ∷ others }) → P (world_behind_entry carriage among entry others)
-
--- the last world has it
-abbrev pub WorldsComeAbout : Type 1
-WorldsComeAbout = (carriage : Carriage) (seats : List Seat) (P : World → Type 0) → Carried carriage seats P → P (last_world carriage seats)

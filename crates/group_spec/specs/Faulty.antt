@@ -1,5 +1,5 @@
 -- A member with a fault: it forms its contents by the rules, alters what its fault alters, and says all else as it is.
-use Rattle.std.specs.Prelude.{◌≡◌, ℕ, ◌==◌, List, [], Option, Some, None, Result, Ok, Err, if◌then◌else◌}
+use Rattle.std.specs.Prelude.{ℕ, ◌==◌, List, [], Option, Some, None, Result, Ok, Err, if◌then◌else◌}
 use Rattle.std.specs.Option.{option_map_or}
 use Rattle.phase_message.specs.declared.content.Body.TheVariants.{Submit}
 use Rattle.phase_message.specs.declared.content.Content.{Content}

@@ -1,5 +1,5 @@
 -- The group of a script: its keys and all that is fresh are drawn from the seed of the script.
-use Rattle.std.specs.Prelude.{ℕ, ◌-◌, List, [], ◌∷◌, length, map, ◌==◌, slice_index_or, unwrap_or, Option, Some, None, if◌then◌else◌}
+use Rattle.std.specs.Prelude.{ℕ, ◌-◌, List, [], ◌∷◌, length, map, ◌==◌, slice_index_or, unwrap_or, if◌then◌else◌}
 use Rattle.std.specs.List.{range_with_len}
 use Rattle.wire_core.specs.declared.tag.Tag.TheVariants.{ScriptFresh, ScriptKey}
 use Rattle.wire_core.specs.Hash.{hash_of}

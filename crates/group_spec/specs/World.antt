@@ -1,5 +1,5 @@
 -- A group on one queue: members, faulty ones among them, and the posts that are on their way.
-use Rattle.std.specs.Prelude.{ℕ, ◌+◌, ◌-◌, ◌*◌, List, [], ◌∷◌, ◌++◌, length, map, drop, replicate, Bool, true, false, not, ◌&&◌, ◌==◌, nat_le, Option, Some, None, Result, Ok, Err, if◌then◌else◌}
+use Rattle.std.specs.Prelude.{ℕ, ◌+◌, ◌-◌, ◌*◌, List, [], ◌∷◌, ◌++◌, length, map, drop, replicate, Bool, false, not, ◌&&◌, ◌==◌, nat_le, Option, Some, None, Result, Ok, Err, if◌then◌else◌}
 use Rattle.std.specs.List.{flat_map, list_any, sum_by}
 use Rattle.std.specs.Fn.{iterate}
 use Rattle.wire_core.specs.declared.cursor.Short.{Short}
@@ -143,12 +143,12 @@ world_behind_entry carriage seats entry others =
 -- ---- the whole run
 
 -- behind one step, as long as a post is on its way
-abbrev pub world_behind_queue : Carriage → List Seat → List Entry → World
-world_behind_queue carriage seats [] = record { seats = seats; queue = [] }
-world_behind_queue carriage seats (entry ∷ others) = world_behind_entry carriage seats entry others
+abbrev pub world_behind_queue : Carriage → World → List Entry → World
+world_behind_queue carriage world [] = world
+world_behind_queue carriage world (entry ∷ others) = world_behind_entry carriage world.seats entry others
 
 unfoldable pub world_behind_step : Carriage → World → World
-world_behind_step carriage world = world_behind_queue carriage world.seats world.queue
+world_behind_step carriage world = world_behind_queue carriage world world.queue
 
 -- at the start all members are asked for their posts in turn
 unfoldable pub first_world : List Seat → World

@@ -1,6 +1,6 @@
 //! Laws of groups. Nobody calls these functions: the contract of each states a law.
 
-ghost use Rattle.group_spec.specs.Driver.{QueuesEmpty, RunsEndAlike, WorldsComeAbout};
+ghost use Rattle.group_spec.specs.Driver.{QueuesEmpty, RunsEndAlike};
 ghost use Rattle.group_spec.specs.Faulty.{HonestConductsArePlain};
 
 /// A member without a fault says what the rules give it to say, and so does one of two votes.
@@ -13,9 +13,4 @@ pub fn honest_conducts()
 pub fn queue_empties()
     ensures empty { QueuesEmpty }
     ensures alike { RunsEndAlike }
-{}
-
-/// What holds of a group at the start, and behind each post that is carried, holds at the end.
-pub fn worlds_come_about()
-    ensures { WorldsComeAbout }
 {}

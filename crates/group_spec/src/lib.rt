@@ -3,4 +3,4 @@
 
 mod laws;
 
-pub use laws::{honest_conducts, queue_empties, worlds_come_about};
+pub use laws::{honest_conducts, queue_empties};
