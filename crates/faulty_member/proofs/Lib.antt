@@ -1,0 +1,6 @@
+mod Changes
+mod Forms
+mod KeysText
+mod Members
+mod Pads
+mod Slots
