@@ -1,5 +1,5 @@
 -- What a fault makes of a body of the grammar is of the grammar.
-use Rattle.std.proofs.Common.{◌≡◌, ◌≢◌, ℕ, zero, suc, ◌<◌, ◌^◌, ◌≤◌, Bool, true, false, List, [], ◌∷◌, Option, Some, None, length, ap, sym, ◌∙◌, refl, subst, absurd, arith}
+use Rattle.std.proofs.Common.{◌≡◌, ◌≢◌, ℕ, zero, suc, ◌<◌, ◌^◌, ◌≤◌, true, List, [], ◌∷◌, Option, Some, None, length, sym, ◌∙◌, refl, subst, arith}
 use Rattle.std.specs.Prelude.{slice_index_or}
 use Rattle.std.specs.List.{AllByRecursion, slice_set}
 use Rattle.std.proofs.lemmas.Bool.{false≢true}
@@ -41,12 +41,12 @@ changed-keeps P change same place items least all =
     set-keeps (λ (x : List ℕ). P (length x)) items place (change item) all
     (subst P (sym (same item)) (get-keeps (λ (x : List ℕ). P (length x)) items place [] all least))
 
-copied-keeps : (P : List ℕ → Type 0) (list : List (List ℕ)) → AllByRecursion P list → AllByRecursion P (with_last_copied list)
+pub copied-keeps : (P : List ℕ → Type 0) (list : List (List ℕ)) → AllByRecursion P list → AllByRecursion P (with_last_copied list)
 unfolding with_last_copied
 copied-keeps P [] all = all
 copied-keeps P (entry ∷ entries) all = set-keeps P (entry ∷ entries) _ entry all all.0
 
-length-copied : (list : List (List ℕ)) → length (with_last_copied list) ≡ length list
+pub length-copied : (list : List (List ℕ)) → length (with_last_copied list) ≡ length list
 unfolding with_last_copied
 length-copied list = length-set list _ _
 
@@ -60,7 +60,7 @@ pub submit-kind : (kind : Option StageKind) → is_altered_at CopySubmit kind �
 submit-kind (Some (AtSubmit shuffle)) is = (shuffle, refl)
 submit-kind _ is = absurd (false≢true is)
 
-drop-kind : (kind : Option StageKind) → is_altered_at DropEntry kind ≡ true → (shuffle : ℕ) × (k : ℕ) × (kind ≡ Some (AtShuffle shuffle k))
+pub drop-kind : (kind : Option StageKind) → is_altered_at DropEntry kind ≡ true → (shuffle : ℕ) × (k : ℕ) × (kind ≡ Some (AtShuffle shuffle k))
 drop-kind (Some (AtShuffle shuffle k)) is = (shuffle, k, refl)
 drop-kind _ is = absurd (false≢true is)
 
@@ -115,7 +115,7 @@ votes-form shape before shuffle (Reveal votes seed) at = (
 votes-form shape before shuffle (Dispute posts seed opening) at = at
 votes-form shape before shuffle _ at = absurd at
 
-flipped-form : (shape : Shape) (before : ℕ) (pads : List (List ℕ)) (place : Option ℕ) → IsBodyAt shape before AtPad (Pads pads) →
+pub flipped-form : (shape : Shape) (before : ℕ) (pads : List (List ℕ)) (place : Option ℕ) → IsBodyAt shape before AtPad (Pads pads) →
     IsBodyAt shape before AtPad (Pads (pads_changed pads place))
 flipped-form shape before pads None at = at
 flipped-form shape before pads (Some place) at =
@@ -136,17 +136,17 @@ pub altered-is_body : (fault : Fault) (shape : Shape) (stage : ℕ) (body : Body
 altered-is_body Malformed shape stage body not at is = absurd (not refl)
 altered-is_body DropEntry shape stage body not at is =
     let kind = drop-kind (kind_of_stage shape stage) at in
-    replaced shape stage (AtShuffle kind.0 kind.1.0) body _ kind.1.1 (drop-form shape _ kind.0 kind.1.0 body) is
+    replaced shape stage (AtShuffle kind.0 kind.1) body (body_altered DropEntry body) kind.2 (drop-form shape (slots_before shape stage) kind.0 kind.1 body) is
 altered-is_body FalseAbort shape stage body not at is =
     let kind = abort-kind (kind_of_stage shape stage) at in
-    replaced shape stage (AtShuffle kind.0 kind.1.0) body Abort kind.1.1 (λ form. tt) is
+    replaced shape stage (AtShuffle kind.0 kind.1) body Abort kind.2 (λ form. tt) is
 altered-is_body FalseNogo shape stage body not at is =
     let kind = nogo-kind (kind_of_stage shape stage) at in
-    replaced shape stage (AtGo kind.0) body _ kind.1 (nogo-form shape _ kind.0 body) is
+    replaced shape stage (AtGo kind.0) body (body_altered FalseNogo body) kind.1 (nogo-form shape (slots_before shape stage) kind.0 body) is
 altered-is_body WrongSeed shape stage body not at is =
     let kind = seed-kind (kind_of_stage shape stage) at in
-    replaced shape stage (AtFinal kind.0) body _ kind.1 (seed-form shape _ kind.0 body) is
+    replaced shape stage (AtFinal kind.0) body (body_altered WrongSeed body) kind.1 (seed-form shape (slots_before shape stage) kind.0 body) is
 altered-is_body BadVotes shape stage body not at is =
     let kind = votes-kind (kind_of_stage shape stage) at in
-    replaced shape stage (AtFinal kind.0) body _ kind.1 (votes-form shape _ kind.0 body) is
+    replaced shape stage (AtFinal kind.0) body (body_altered BadVotes body) kind.1 (votes-form shape (slots_before shape stage) kind.0 body) is
 altered-is_body _ shape stage body not at is = is

@@ -1,5 +1,5 @@
 -- What a faulty member answers is of the slot that it was asked about.
-use Rattle.std.proofs.Common.{◌≡◌, ℕ, ◌==◌, Bool, true, false, List, [], ◌∷◌, ◌++◌, Option, Some, None, ap, sym, ◌∙◌, refl, subst, absurd}
+use Rattle.std.proofs.Common.{◌≡◌, ℕ, ◌==◌, List, [], ◌∷◌, ◌++◌, Option, Some, None, ap, ◌∙◌, refl}
 use Rattle.std.specs.Prelude.{Result, Ok, Err}
 use Rattle.wire_core.specs.Bytes.{IsBytes}
 use Rattle.wire_core.specs.declared.cursor.Short.{Short}
@@ -19,7 +19,7 @@ use Rattle.phase_message.proofs.Whole.{begins-header_of, content-header, content
 use Rattle.stage_log.specs.Table.{Log}
 use Rattle.round_spec.specs.Embedded.{slot_named}
 use Rattle.member_spec.specs.declared.conduct.Speech.{Speech}
-use Rattle.member_spec.specs.declared.conduct.Speech.TheVariants.{Say, Wait, Silent as Nothing}
+use Rattle.member_spec.specs.declared.conduct.Speech.TheVariants.{Say, Silent as Nothing}
 use Rattle.member_spec.specs.Replies.{HasSlot, IsForSlot, KeepsSlot}
 use Rattle.round_script.specs.declared.fault.Fault.{Fault}
 use Rattle.round_script.specs.declared.fault.Fault.TheVariants.{CopySubmit, FalseView, FlipPad, Silent}
@@ -44,9 +44,9 @@ written-slot shape slot h body widths named content read =
     ap slot_named (header-same content.header h (header_of text) (content-header shape text content read) (begins-header_of text h begins)) ∙ named
 
 -- bytes that name the slot
-same-slot : (shape : Shape) (slot : Slot) (bytes : List ℕ) → HasSlot slot bytes → KeepsSlot shape slot bytes
+pub same-slot : (shape : Shape) (slot : Slot) (bytes : List ℕ) → HasSlot slot bytes → KeepsSlot shape slot bytes
 same-slot shape slot bytes has content read =
-    ap slot_named (header-same content.header has.0 (header_of bytes) (content-header shape bytes content read) has.1.0) ∙ has.1.1
+    ap slot_named (header-same content.header has.0 (header_of bytes) (content-header shape bytes content read) has.1) ∙ has.2
 
 copy-slot : (shape : Shape) (slot : Slot) (bytes : List ℕ) (content : Content) (post : Option Post) → HasSlot slot bytes → HasWidths content.header →
     slot_named content.header ≡ slot → IsForSlot shape slot (says_copy shape bytes content post)
@@ -73,7 +73,7 @@ read-slot : (faulty : FaultyMember) (bytes : List ℕ) (log : Log) (slot : Slot)
 read-slot faulty bytes log slot (Ok content) e are has =
     let spelled = content-is_spelled log.shape bytes content are e in
     let named : slot_named content.header ≡ slot
-    = ap slot_named (header-same content.header has.0 (header_of bytes) (content-header log.shape bytes content e) has.1.0) ∙ has.1.1 in
+    = ap slot_named (header-same content.header has.0 (header_of bytes) (content-header log.shape bytes content e) has.1) ∙ has.2 in
     choose (λ (s : Speech). IsForSlot log.shape slot s) (is_altered_at faulty.fault (kind_of_stage log.shape content.header.stage))
     (speech_in_place faulty faulty.fault bytes log content) (Say bytes)
     (λ _. place-slot faulty faulty.fault bytes log content slot has (widths-of log.shape content.header spelled.1.0) named)

@@ -1,10 +1,13 @@
 //! The conduct of a member with a fault.
 
-ghost use Rattle.std.specs.Prelude.{◌≡◌, ◌≢◌, ◌≤◌, ◌+◌, ◌*◌, ◌/◌, IfOk, length, slice_index_or, true};
+ghost use Rattle.std.specs.Prelude.{◌≡◌, ◌≢◌, ◌≤◌, ◌+◌, ◌*◌, ◌/◌, ℕ, IfOk, length, slice_index_or, true};
 ghost use Rattle.std.specs.List.{slice_set};
+ghost use Rattle.wire_core.specs.Bytes.{IsBytes};
+ghost use Rattle.phase_message.specs.declared.post.TheConstants.{POST_LIMIT};
 ghost use Rattle.phase_message.specs.Grammar.{OfGrammar, content_text, kind_number};
 ghost use Rattle.phase_message.specs.Offence.{content_read};
 ghost use Rattle.phase_message.specs.Stages.{kind_of_stage, shape_of};
+ghost use Rattle.member_spec.specs.Replies.{HasAtMost};
 ghost use Rattle.round_script.specs.declared.fault.Fault.TheVariants.{Malformed};
 ghost use Rattle.group_spec.specs.Alterations.{body_altered, is_altered_at, least_other, submission_kept};
 ghost use Rattle.group_spec.specs.Faulty.{faulty_member, faulty_replies, own_bytes, says_copy, says_false_view, speech_if_read, speech_in_place};
@@ -51,7 +54,9 @@ impl Faulty {
 
     // What it says about bytes: those of a stage at which its fault alters nothing are said as they are.
     fn speech(&self, alloc: Global, bytes: Vec<u8>, log: &StageLog) -> Mem<Speech>
-        ensures { IfOk result (λ speech. speech ≡ speech_if_read (faulty_of self.now) bytes.items log.now (content_read log.now.shape bytes.items)) }
+        ensures bytes { IsBytes bytes.items }
+        ensures told { IfOk result (λ speech. speech ≡ speech_if_read (faulty_of self.now) bytes.items log.now (content_read log.now.shape bytes.items)) }
+        ensures short { IfOk result (λ speech. (most : ℕ) → POST_LIMIT ≤ most → length bytes.items ≤ most → HasAtMost most speech) }
     {
         let shape = log.shape();
         if bytes.len() > u32::MAX as usize {
@@ -79,9 +84,11 @@ impl Faulty {
         content: Content,
     ) -> Mem<Speech>
         requires spelled { bytes.items ≡ content_text content }
+        requires bytes { IsBytes bytes.items }
         requires grammar { OfGrammar log.now.shape content }
         requires altered { is_altered_at self.now.fault (kind_of_stage log.now.shape content.header.stage) ≡ true }
-        ensures { IfOk result (λ speech. speech ≡ speech_in_place (faulty_of self.now) self.now.fault bytes.items log.now content) }
+        ensures told { IfOk result (λ speech. speech ≡ speech_in_place (faulty_of self.now) self.now.fault bytes.items log.now content) }
+        ensures short { IfOk result (λ speech. (most : ℕ) → POST_LIMIT ≤ most → length bytes.items ≤ most → HasAtMost most speech) }
     {
         let shape = log.shape();
         match self.fault {
@@ -107,8 +114,9 @@ impl Faulty {
         requires spelled { bytes.items ≡ content_text content.now }
         requires grammar { OfGrammar log.now.shape content.now }
         requires submits { kind_number content.now.body ≡ 2 }
-        ensures { IfOk result (λ speech. speech ≡ says_copy log.now.shape bytes.items content.now
+        ensures told { IfOk result (λ speech. speech ≡ says_copy log.now.shape bytes.items content.now
             (submission_kept log.now (least_other self.now.member))) }
+        ensures short { IfOk result (λ speech. (most : ℕ) → POST_LIMIT ≤ most → length bytes.items ≤ most → HasAtMost most speech) }
     {
         let slot = Slot {
             stage: 1,

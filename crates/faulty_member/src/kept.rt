@@ -1,9 +1,10 @@
 //! What a log keeps, as bodies.
 
-ghost use Rattle.std.specs.Prelude.{◌≡◌, ◌<◌, ◌^◌, IfOk, length};
+ghost use Rattle.std.specs.Prelude.{◌≡◌, ◌<◌, ◌≤◌, ◌+◌, ◌^◌, IfOk, length};
+ghost use Rattle.phase_message.specs.declared.post.TheConstants.{LEAST_CONTENT, POST_LIMIT};
 ghost use Rattle.phase_message.specs.Offence.{content_read};
 ghost use Rattle.phase_message.specs.Stages.{shape_of};
-ghost use Rattle.shuffle_blame.specs.Replay.{body_of};
+ghost use Rattle.shuffle_blame.specs.Replay.{body_of, ciphertext_of};
 ghost use Rattle.shuffle_blame.specs.Rules.{IsShort, body_kept};
 ghost use Rattle.group_spec.specs.Alterations.{ciphertext_in};
 
@@ -17,6 +18,7 @@ fn body_of(alloc: Global, shape: Shape, content: &[u8]) -> Mem<Body>
     requires { length content.now < 2 ^ 32 }
     ensures value { IfOk result (λ body. body ≡ body_of (content_read (shape_of shape) content.now)) }
     ensures short { IfOk result IsShort }
+    ensures submitted { IfOk result (λ body. LEAST_CONTENT + length (ciphertext_of body) ≤ POST_LIMIT) }
 {
     match decode(alloc, shape, content) {
         Ok(content) => {
@@ -42,7 +44,8 @@ pub(crate) fn body_kept(alloc: Global, log: &StageLog, slot: Slot) -> Mem<Body>
 /// The ciphertext that a post submits: empty where it submits none.
 pub(crate) fn ciphertext_in(alloc: Global, shape: Shape, post: &Post) -> Mem<List<u8>>
     requires { length post.now.content < 2 ^ 32 }
-    ensures { IfOk result (λ bytes. bytes ≡ ciphertext_in (shape_of shape) post.now) }
+    ensures value { IfOk result (λ bytes. bytes ≡ ciphertext_in (shape_of shape) post.now) }
+    ensures short { IfOk result (λ bytes. LEAST_CONTENT + length bytes ≤ POST_LIMIT) }
 {
     match body_of(alloc, shape, post.content.items())? {
         Body::Submit { ciphertext } => Ok(ciphertext),

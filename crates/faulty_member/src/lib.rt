@@ -13,4 +13,3 @@ pub use member_spec::{Conduct, Speech};
 pub use round_script::Fault;
 pub use stage_log::StageLog;
 pub use wire_core::{List, Mem};
-

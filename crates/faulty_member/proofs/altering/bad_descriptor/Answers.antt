@@ -1,4 +1,4 @@
-use Rattle.std.proofs.Common.{◌≡◌, ℕ, ◌-◌, List, sym, ap, ◌∙◌, subst}
+use Rattle.std.proofs.Common.{ℕ, ◌-◌, List, sym, ap, ◌∙◌, subst}
 use Rattle.bulk_descriptor.specs.Descriptor.{IsDescriptor}
 use Rattle.group_spec.specs.Alterations.{with_bit_changed, with_changed}
 use Rattle.faulty_member.proofs.Changes.{form-changed}

@@ -1,4 +1,4 @@
-use Rattle.std.proofs.Common.{◌≡◌, ◌+◌, ◌-◌, map, ℕ}
+use Rattle.std.proofs.Common.{◌≡◌, ◌-◌, map, ℕ}
 use Rattle.std.specs.List.{range_with_len}
 use Rattle.shuffle_blame.specs.Rules.{body_kept}
 use Rattle.round_spec.specs.Slots.{final_stage}

@@ -1,4 +1,4 @@
-use Rattle.std.proofs.Common.{◌≡◌, ℕ, Bool, true, false, None, [], length, ap, sym, ◌∙◌, arith}
+use Rattle.std.proofs.Common.{Bool, [], length, ap, sym, ◌∙◌, arith}
 use Rattle.std.specs.Bool.{then_some}
 use Rattle.std.proofs.lemmas.List.{get_or_read}
 use Rattle.phase_message.specs.Stages.{shape_of}
