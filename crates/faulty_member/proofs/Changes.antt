@@ -23,7 +23,8 @@ pub length-bit : (place : ℕ) (bytes : List ℕ) → length (with_bit_changed p
 unfolding with_bit_changed
 length-bit place bytes = length-set bytes place (bit_changed (slice_index_or bytes place 0))
 
-pub length-changed : (change : List ℕ → List ℕ) (place : ℕ) (items : List (List ℕ)) → length (with_changed change place items) ≡ length items
+pub length-changed : (change : List ℕ → List ℕ) (place : ℕ) (items : List (List ℕ))
+    → length (with_changed change place items) ≡ length items
 unfolding with_changed
 length-changed change place items = length-set items place (change (slice_index_or items place []))
 
@@ -34,13 +35,15 @@ unfolding with_changed
 hashes-changed place hashes all =
     let hash : List ℕ = with_bit_changed 0 (slice_index_or hashes place []) in
     elim (cases_lt place (length hashes)) [
-      | inl within ↦ All-set (λ hash. length hash ≡ 32) hashes place hash (length-bit 0 (slice_index_or hashes place []) ∙ all place [] within) all
+      | inl within ↦ All-set (λ hash. length hash ≡ 32) hashes place hash
+          (length-bit 0 (slice_index_or hashes place []) ∙ all place [] within) all
       | inr past ↦ subst (λ (h : List (List ℕ)). All (λ hash. length hash ≡ 32) h) (sym (set_past hashes place hash past)) all
     ]
 
 -- a descriptor with a changed pad hash is one
 pub form-changed : (size place : ℕ) (message_hash : List ℕ) (hashes capsules : List (List ℕ)) →
-    IsDescriptor size message_hash hashes capsules → IsDescriptor size message_hash (with_changed (with_bit_changed 0) place hashes) capsules
+    IsDescriptor size message_hash hashes capsules → IsDescriptor size message_hash (with_changed (with_bit_changed 0) place hashes)
+        capsules
 form-changed size place message_hash hashes capsules form =
     let same = length-changed (with_bit_changed 0) place hashes in
     record {

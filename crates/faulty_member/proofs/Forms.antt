@@ -60,11 +60,13 @@ pub submit-kind : (kind : Option StageKind) → is_altered_at CopySubmit kind �
 submit-kind (Some (AtSubmit shuffle)) is = (shuffle, refl)
 submit-kind _ is = absurd (false≢true is)
 
-pub drop-kind : (kind : Option StageKind) → is_altered_at DropEntry kind ≡ true → (shuffle : ℕ) × (k : ℕ) × (kind ≡ Some (AtShuffle shuffle k))
+pub drop-kind : (kind : Option StageKind) → is_altered_at DropEntry kind ≡ true → (shuffle : ℕ) × (k : ℕ)
+    × (kind ≡ Some (AtShuffle shuffle k))
 drop-kind (Some (AtShuffle shuffle k)) is = (shuffle, k, refl)
 drop-kind _ is = absurd (false≢true is)
 
-abort-kind : (kind : Option StageKind) → is_altered_at FalseAbort kind ≡ true → (shuffle : ℕ) × (k : ℕ) × (kind ≡ Some (AtShuffle shuffle k))
+abort-kind : (kind : Option StageKind) → is_altered_at FalseAbort kind ≡ true → (shuffle : ℕ) × (k : ℕ)
+    × (kind ≡ Some (AtShuffle shuffle k))
 abort-kind (Some (AtShuffle shuffle k)) is = (shuffle, k, refl)
 abort-kind _ is = absurd (false≢true is)
 
@@ -119,7 +121,8 @@ pub flipped-form : (shape : Shape) (before : ℕ) (pads : List (List ℕ)) (plac
     IsBodyAt shape before AtPad (Pads (pads_changed pads place))
 flipped-form shape before pads None at = at
 flipped-form shape before pads (Some place) at =
-    (changed-keeps (λ n. n ≤ 65536) (with_bit_changed 0) (length-bit 0) place pads (omega arith) at.0, length-changed (with_bit_changed 0) place pads ∙ at.1)
+    (changed-keeps (λ n. n ≤ 65536) (with_bit_changed 0) (length-bit 0) place pads (omega arith) at.0, length-changed (with_bit_changed 0)
+        place pads ∙ at.1)
 
 -- ---- bodies of the grammar
 
@@ -136,7 +139,8 @@ pub altered-is_body : (fault : Fault) (shape : Shape) (stage : ℕ) (body : Body
 altered-is_body Malformed shape stage body not at is = absurd (not refl)
 altered-is_body DropEntry shape stage body not at is =
     let kind = drop-kind (kind_of_stage shape stage) at in
-    replaced shape stage (AtShuffle kind.0 kind.1) body (body_altered DropEntry body) kind.2 (drop-form shape (slots_before shape stage) kind.0 kind.1 body) is
+    replaced shape stage (AtShuffle kind.0 kind.1) body (body_altered DropEntry body) kind.2
+        (drop-form shape (slots_before shape stage) kind.0 kind.1 body) is
 altered-is_body FalseAbort shape stage body not at is =
     let kind = abort-kind (kind_of_stage shape stage) at in
     replaced shape stage (AtShuffle kind.0 kind.1) body Abort kind.2 (λ form. tt) is
@@ -145,8 +149,10 @@ altered-is_body FalseNogo shape stage body not at is =
     replaced shape stage (AtGo kind.0) body (body_altered FalseNogo body) kind.1 (nogo-form shape (slots_before shape stage) kind.0 body) is
 altered-is_body WrongSeed shape stage body not at is =
     let kind = seed-kind (kind_of_stage shape stage) at in
-    replaced shape stage (AtFinal kind.0) body (body_altered WrongSeed body) kind.1 (seed-form shape (slots_before shape stage) kind.0 body) is
+    replaced shape stage (AtFinal kind.0) body (body_altered WrongSeed body) kind.1 (seed-form shape (slots_before shape stage) kind.0 body)
+        is
 altered-is_body BadVotes shape stage body not at is =
     let kind = votes-kind (kind_of_stage shape stage) at in
-    replaced shape stage (AtFinal kind.0) body (body_altered BadVotes body) kind.1 (votes-form shape (slots_before shape stage) kind.0 body) is
+    replaced shape stage (AtFinal kind.0) body (body_altered BadVotes body) kind.1 (votes-form shape (slots_before shape stage) kind.0 body)
+        is
 altered-is_body _ shape stage body not at is = is

@@ -48,7 +48,8 @@ prefixed-set (first ∷ items) (suc place) item same =
     let others = prefixed-set items place item same in
     omega (arith, new, old, others)
 
-prefixed-changed : (change : List ℕ → List ℕ) → ((bytes : List ℕ) → length (change bytes) ≡ length bytes) → (place : ℕ) (items : List (List ℕ)) →
+prefixed-changed : (change : List ℕ → List ℕ) → ((bytes : List ℕ) → length (change bytes) ≡ length bytes)
+    → (place : ℕ) (items : List (List ℕ)) →
     length (flat_map prefixed (with_changed change place items)) ≡ length (flat_map prefixed items)
 unfolding with_changed
 prefixed-changed change same place items =
@@ -94,14 +95,16 @@ pub altered-long : (fault : Fault) (shape : Shape) (stage : ℕ) (body : Body) �
 altered-long Malformed shape stage body not at is = absurd (not refl)
 altered-long DropEntry shape stage body not at is =
     let kind = drop-kind (kind_of_stage shape stage) at in
-    drop-long shape (slots_before shape stage) kind.0 kind.1 body ((bodies_are_of_kinds shape stage (AtShuffle kind.0 kind.1) body kind.2).0 is)
+    drop-long shape (slots_before shape stage) kind.0 kind.1 body
+        ((bodies_are_of_kinds shape stage (AtShuffle kind.0 kind.1) body kind.2).0 is)
 altered-long FalseAbort shape stage body not at is = omega arith
 altered-long FalseNogo shape stage body not at is = go-long body
 altered-long WrongSeed shape stage body not at is = seed-long body
 altered-long BadVotes shape stage body not at is = votes-long body
 altered-long _ shape stage body not at is = omega arith
 
-pub pads-long : (pads : List (List ℕ)) (place : Option ℕ) → length (body_text (Pads (pads_changed pads place))) ≤ length (body_text (Pads pads))
+pub pads-long : (pads : List (List ℕ)) (place : Option ℕ) → length (body_text (Pads (pads_changed pads place))) ≤ length
+    (body_text (Pads pads))
 pads-long pads None = omega arith
 pads-long pads (Some place) = let same = prefixed-changed (with_bit_changed 0) (length-bit 0) place pads in omega (arith, same)
 
@@ -130,7 +133,8 @@ no-form : (shape : Shape) (stage number : ℕ) → kind_of_stage shape stage ≡
 unfolding body_form
 no-form shape stage number e = rw e refl
 
-by-kind : (shape : Shape) (stage : ℕ) (body : Body) → IsShape shape.version shape.members → IsBody shape stage body → (kind : Option StageKind) →
+by-kind : (shape : Shape) (stage : ℕ) (body : Body) → IsShape shape.version shape.members → IsBody shape stage body
+    → (kind : Option StageKind) →
     kind_of_stage shape stage ≡ kind → LEAST_CONTENT + length (ciphertext_of body) ≤ POST_LIMIT
 by-kind shape stage body form is None e = absurd (let none = sym (no-form shape stage (kind_number body) e) ∙ is.1 in cc)
 by-kind shape stage body form is (Some kind) e =

@@ -4,7 +4,8 @@ use Rattle.std.specs.List.{range_with_len}
 use Rattle.std.proofs.lemmas.List.FromFn.{map-range_with_len_more}
 
 -- with what one more member says
-pub member-next : {A : Type 0} (f : ℕ → A) (sender : ℕ) (list : List A) (x : A) → 1 ≤ sender → list ≡ map f (range_with_len 1 (sender - 1)) → x ≡ f sender
+pub member-next : {A : Type 0} (f : ℕ → A) (sender : ℕ) (list : List A) (x : A) → 1 ≤ sender → list ≡ map f (range_with_len 1 (sender - 1))
+    → x ≡ f sender
     → list ++ x ∷ [] ≡ map f (range_with_len 1 (sender + 1 - 1))
 member-next {A} f sender list x least so_far is =
     let place : sender + 1 - 1 ≡ (sender - 1) + 1 = omega arith in

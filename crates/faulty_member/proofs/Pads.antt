@@ -8,14 +8,16 @@ use Rattle.group_spec.specs.Alterations.{holds_of_another}
 
 -- whether the pad of a slot may be flipped
 abbrev pub may-flip : Shape → List ℕ → List (Option (List ℕ)) → List (List ℕ) → ℕ → Bool
-may-flip shape own items pads place = holds_of_another shape own (slice_index_or items place None) && nat_lt 0 (length (slice_index_or pads place []))
+may-flip shape own items pads place = holds_of_another shape own (slice_index_or items place None) && nat_lt 0
+    (length (slice_index_or pads place []))
 
 -- the slot, if its pad may be flipped
 abbrev pub flipped-at : Shape → List ℕ → List (Option (List ℕ)) → List (List ℕ) → ℕ → Option ℕ
 flipped-at shape own items pads place = then_some (may-flip shape own items pads place) place
 
 -- what was tested of a slot
-pub tested : (shape : Shape) (own : List ℕ) (items : List (Option (List ℕ))) (pads : List (List ℕ)) (place : ℕ) (holds result : Bool) (pad : List ℕ) →
+pub tested : (shape : Shape) (own : List ℕ) (items : List (Option (List ℕ))) (pads : List (List ℕ)) (place : ℕ) (holds result : Bool)
+    (pad : List ℕ) →
     holds ≡ holds_of_another shape own (slice_index_or items place None) → slice_index_or pads place [] ≡ pad →
     result ≡ (holds && nat_lt 0 (length pad)) → flipped-at shape own items pads place ≡ then_some result place
 tested shape own items pads place holds result pad is read test =

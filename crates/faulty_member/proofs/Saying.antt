@@ -41,7 +41,8 @@ at-keys fault kind is at = keys-kind kind (subst (λ (f : Fault). is_altered_at 
 
 -- keys are at least 110 bytes, with what stands before them
 pub keys-least : (shape : Shape) (fault : Fault) (bytes : List ℕ) (content : Content) → fault ≡ Malformed →
-    is_altered_at fault (kind_of_stage shape content.header.stage) ≡ true → OfGrammar shape content → bytes ≡ content_text content → 110 ≤ length bytes
+    is_altered_at fault (kind_of_stage shape content.header.stage) ≡ true → OfGrammar shape content → bytes ≡ content_text content
+        → 110 ≤ length bytes
 keys-least shape fault bytes content is at of spelled =
     let long = fixed-length shape content AtKeys of (at-keys fault (kind_of_stage shape content.header.stage) is at) (omega arith) in
     let same : length bytes ≡ length (content_text content) = ap (λ (b : List ℕ). length b) spelled in
@@ -57,7 +58,8 @@ pub submits : (shape : Shape) (fault : Fault) (content : Content) → fault ≡ 
 submits shape fault content is at of =
     let stage : ℕ = content.header.stage in
     let kind = submit-kind (kind_of_stage shape stage) (subst (λ (f : Fault). is_altered_at f (kind_of_stage shape stage) ≡ true) is at) in
-    submits-at shape (slots_before shape stage) kind.0 content.body ((bodies_are_of_kinds shape stage (AtSubmit kind.0) content.body kind.1).0 of.1)
+    submits-at shape (slots_before shape stage) kind.0 content.body
+        ((bodies_are_of_kinds shape stage (AtSubmit kind.0) content.body kind.1).0 of.1)
 
 -- ---- bodies in place
 
@@ -69,14 +71,18 @@ in-place given shape content body is of fits =
 
 -- a flipped pad stays of the grammar
 flipped-body : (log : Log) (own : List ℕ) (stage : ℕ) (body : Body) → kind_of_stage log.shape stage ≡ Some AtPad →
-    IsBodyAt log.shape (slots_before log.shape stage) AtPad body → IsBodyAt log.shape (slots_before log.shape stage) AtPad (pads_altered log own body)
-flipped-body log own stage (Pads pads) e at = flipped-form log.shape (slots_before log.shape stage) pads (place_of_pad log.shape own (items_in log) pads) at
+    IsBodyAt log.shape (slots_before log.shape stage) AtPad body
+        → IsBodyAt log.shape (slots_before log.shape stage) AtPad (pads_altered log own body)
+flipped-body log own stage (Pads pads) e at = flipped-form log.shape (slots_before log.shape stage) pads
+    (place_of_pad log.shape own (items_in log) pads) at
 flipped-body log own stage _ e at = absurd at
 
 pub flipped-is_body : (log : Log) (own : List ℕ) (fault : Fault) (stage : ℕ) (body : Body) → fault ≡ FlipPad →
-    is_altered_at fault (kind_of_stage log.shape stage) ≡ true → IsBody log.shape stage body → IsBody log.shape stage (pads_altered log own body)
+    is_altered_at fault (kind_of_stage log.shape stage) ≡ true → IsBody log.shape stage body
+        → IsBody log.shape stage (pads_altered log own body)
 flipped-is_body log own fault stage body is at fits =
-    let kind = pads-kind (kind_of_stage log.shape stage) (subst (λ (f : Fault). is_altered_at f (kind_of_stage log.shape stage) ≡ true) is at) in
+    let kind = pads-kind (kind_of_stage log.shape stage) (subst (λ (f : Fault). is_altered_at f (kind_of_stage log.shape stage) ≡ true) is
+        at) in
     replaced log.shape stage AtPad body (pads_altered log own body) kind (flipped-body log own stage body kind) fits
 
 pub flipped-long : (log : Log) (own : List ℕ) (body : Body) → length (body_text (pads_altered log own body)) ≤ length (body_text body)
@@ -86,8 +92,10 @@ flipped-long log own _ = omega arith
 -- ---- what is chosen
 
 -- a fault that looks at nothing else alters the body by itself
-pub in-default : (faulty : FaultyMember) (fault : Fault) (bytes : List ℕ) (log : Log) (content : Content) → fault ≢ CopySubmit → fault ≢ FalseView → fault ≢ FlipPad →
-    speech_in_place faulty fault bytes log content ≡ Say (content_text (record { header = content.header; body = body_altered fault content.body }))
+pub in-default : (faulty : FaultyMember) (fault : Fault) (bytes : List ℕ) (log : Log) (content : Content) → fault ≢ CopySubmit
+    → fault ≢ FalseView → fault ≢ FlipPad →
+    speech_in_place faulty fault bytes log content ≡ Say (content_text
+        (record { header = content.header; body = body_altered fault content.body }))
 in-default faulty CopySubmit bytes log content a b d = absurd (a refl)
 in-default faulty FalseView bytes log content a b d = absurd (b refl)
 in-default faulty FlipPad bytes log content a b d = absurd (d refl)
@@ -109,7 +117,8 @@ pub silent-later : (faulty : FaultyMember) (stage : ℕ) (bytes : List ℕ) (log
     faulty_speech faulty stage bytes log ≡ SaysNothing
 unfolding faulty_speech
 silent-later faulty stage bytes log is later =
-    by-silence faulty faulty.fault stage bytes log is ∙ cond-false (stage == 0) (Say bytes) SaysNothing (false_from_ne_true (stage == 0) (λ e. later (eqb-true stage 0 e)))
+    by-silence faulty faulty.fault stage bytes log is ∙ cond-false (stage == 0) (Say bytes) SaysNothing
+        (false_from_ne_true (stage == 0) (λ e. later (eqb-true stage 0 e)))
 
 by-reading : (faulty : FaultyMember) (fault : Fault) (stage : ℕ) (bytes : List ℕ) (log : Log) → fault ≢ Silent →
     speech_by faulty fault stage bytes log ≡ speech_if_read faulty bytes log (content_read log.shape bytes)
@@ -135,7 +144,8 @@ append-front [] x rest = refl
 append-front (y ∷ front) x rest = ap (λ (s : List ℕ). y ∷ s) (append-front front x rest)
 
 -- the bytes of a submission with another ciphertext
-pub copied-text : (shape : Shape) (bytes : List ℕ) (content : Content) (ciphertext : List ℕ) → bytes ≡ content_text content → OfGrammar shape content →
+pub copied-text : (shape : Shape) (bytes : List ℕ) (content : Content) (ciphertext : List ℕ) → bytes ≡ content_text content
+    → OfGrammar shape content →
     kind_number content.body ≡ 2 → take 76 bytes ++ ciphertext ≡ content_text (record { header = content.header; body = Submit ciphertext })
 copied-text shape bytes content ciphertext spelled of submission =
     let front : List ℕ = header_text content.header in
@@ -149,17 +159,20 @@ copied-text shape bytes content ciphertext spelled of submission =
 
 -- ---- keys out of range
 
-keys-at : (shape : Shape) (before : ℕ) (h : Header) (body : Body) (bytes result : List ℕ) → length (header_text h) ≡ 75 → IsBodyAt shape before AtKeys body →
+keys-at : (shape : Shape) (before : ℕ) (h : Header) (body : Body) (bytes result : List ℕ) → length (header_text h) ≡ 75
+    → IsBodyAt shape before AtKeys body →
     bytes ≡ content_text (record { header = h; body = body }) → IsBytes bytes →
     result ≡ slice_set (slice_set bytes 108 1) 109 (slice_index_or bytes 109 0 / 64 * 64 + 48) →
     result ≡ content_text (record { header = h; body = body_altered Malformed body })
-keys-at shape before h (Keys (key ∷ keys)) bytes result size at spelled are made = changed-text h key keys bytes result size at.0.0 spelled are made
+keys-at shape before h (Keys (key ∷ keys)) bytes result size at spelled are made = changed-text h key keys bytes result size at.0.0 spelled
+    are made
 keys-at shape before h (Keys []) bytes result size at spelled are made = absurd (let none : 0 ≡ 5 = at.1 in cc)
 keys-at shape before h _ bytes result size at spelled are made = absurd at
 
 -- the bytes of keys with two bytes changed are what is said in place of them
 pub keys-said : (faulty : FaultyMember) (fault : Fault) (bytes result : List ℕ) (log : Log) (content : Content) → fault ≡ Malformed →
-    is_altered_at fault (kind_of_stage log.shape content.header.stage) ≡ true → OfGrammar log.shape content → bytes ≡ content_text content → IsBytes bytes →
+    is_altered_at fault (kind_of_stage log.shape content.header.stage) ≡ true → OfGrammar log.shape content → bytes ≡ content_text content
+        → IsBytes bytes →
     result ≡ slice_set (slice_set bytes 108 1) 109 (slice_index_or bytes 109 0 / 64 * 64 + 48) →
     Say result ≡ speech_in_place faulty fault bytes log content
 keys-said faulty fault bytes result log content is at of spelled are made =
@@ -173,7 +186,8 @@ keys-said faulty fault bytes result log content is at of spelled are made =
 -- ---- answers
 
 -- what is told of an answer is told of what is said
-pub told-as : {E : Type 0} (r : Result Speech E) (said wanted : Speech) → IfOk r (λ speech. speech ≡ said) → said ≡ wanted → IfOk r (λ speech. speech ≡ wanted)
+pub told-as : {E : Type 0} (r : Result Speech E) (said wanted : Speech) → IfOk r (λ speech. speech ≡ said) → said ≡ wanted
+    → IfOk r (λ speech. speech ≡ wanted)
 told-as (Ok speech) said wanted told same = told ∙ same
 told-as (Err e) said wanted told same = tt
 
@@ -181,20 +195,23 @@ short-text : (most : ℕ) (bytes text : List ℕ) → length text ≤ length byt
 short-text most bytes text shorter long = omega (arith, shorter, long)
 
 -- a content is no longer than bytes, so its answer is short
-pub said-short : {E : Type 0} (r : Result Speech E) (bytes text : List ℕ) → IfOk r (λ speech. speech ≡ Say text) → length text ≤ length bytes →
+pub said-short : {E : Type 0} (r : Result Speech E) (bytes text : List ℕ) → IfOk r (λ speech. speech ≡ Say text)
+    → length text ≤ length bytes →
     IfOk r (λ speech. (most : ℕ) → POST_LIMIT ≤ most → length bytes ≤ most → HasAtMost most speech)
 said-short (Ok speech) bytes text told shorter =
     λ most limit long. subst (λ (s : Speech). HasAtMost most s) (sym told) (short-text most bytes text shorter long)
 said-short (Err e) bytes text told shorter = tt
 
 -- what an answer is told to be for a slot
-pub told-slot : {E : Type 0} (r : Result Speech E) (wanted : Speech) (P : Speech → Type 0) → IfOk r (λ speech. speech ≡ wanted) → P wanted → IfOk r P
+pub told-slot : {E : Type 0} (r : Result Speech E) (wanted : Speech) (P : Speech → Type 0) → IfOk r (λ speech. speech ≡ wanted) → P wanted
+    → IfOk r P
 told-slot (Ok speech) wanted P told has = subst P (sym told) has
 told-slot (Err e) wanted P told has = tt
 
 -- a content with a false view is as long
 pub view-long : (shape : Shape) (content : Content) → OfGrammar shape content →
-    length (content_text (record { header = record content.header { view = with_last_bit_changed content.header.view }; body = content.body }))
+    length (content_text (record { header = record content.header { view = with_last_bit_changed content.header.view }; body = content.body
+        }))
     ≤ length (content_text content)
 view-long shape content of =
     let h : Header = content.header in
@@ -216,10 +233,12 @@ view-long shape content of =
 
 -- the same content with another body is no longer than the bytes of the content
 pub in-place-long : (bytes : List ℕ) (content : Content) (body other : Body) → bytes ≡ content_text content → body ≡ other →
-    length (body_text other) ≤ length (body_text content.body) → length (content_text (record { header = content.header; body = body })) ≤ length bytes
+    length (body_text other) ≤ length (body_text content.body) → length (content_text (record { header = content.header; body = body })) ≤
+        length bytes
 in-place-long bytes content body other spelled is shorter =
     let long = text-long content.header content.body other shorter in
     let same : length bytes ≡ length (content_text content) = ap (λ (b : List ℕ). length b) spelled in
-    let moved : length (content_text (record { header = content.header; body = body })) ≡ length (content_text (record { header = content.header; body = other }))
+    let moved : length (content_text (record { header = content.header; body = body })) ≡ length
+        (content_text (record { header = content.header; body = other }))
     = ap (λ (b : Body). length (content_text (record { header = content.header; body = b }))) is in
     omega (arith, long, same, moved)

@@ -41,17 +41,20 @@ written-slot : (shape : Shape) (slot : Slot) (h : Header) (body : Body) → HasW
 written-slot shape slot h body widths named content read =
     let text : List ℕ = content_text (record { header = h; body = body }) in
     let begins : BeginsWith h text = record { widths = widths; rest = (kind_number body ∷ []) ++ body_text body; spelled = refl } in
-    ap slot_named (header-same content.header h (header_of text) (content-header shape text content read) (begins-header_of text h begins)) ∙ named
+    ap slot_named (header-same content.header h (header_of text) (content-header shape text content read) (begins-header_of text h begins))
+        ∙ named
 
 -- bytes that name the slot
 pub same-slot : (shape : Shape) (slot : Slot) (bytes : List ℕ) → HasSlot slot bytes → KeepsSlot shape slot bytes
 same-slot shape slot bytes has content read =
     ap slot_named (header-same content.header has.0 (header_of bytes) (content-header shape bytes content read) has.1) ∙ has.2
 
-copy-slot : (shape : Shape) (slot : Slot) (bytes : List ℕ) (content : Content) (post : Option Post) → HasSlot slot bytes → HasWidths content.header →
+copy-slot : (shape : Shape) (slot : Slot) (bytes : List ℕ) (content : Content) (post : Option Post) → HasSlot slot bytes
+    → HasWidths content.header →
     slot_named content.header ≡ slot → IsForSlot shape slot (says_copy shape bytes content post)
 copy-slot shape slot bytes content None has widths named = has
-copy-slot shape slot bytes content (Some post) has widths named = written-slot shape slot content.header (Submit (ciphertext_in shape post)) widths named
+copy-slot shape slot bytes content (Some post) has widths named = written-slot shape slot content.header (Submit (ciphertext_in shape post))
+    widths named
 
 view-widths : (h : Header) → HasWidths h → HasWidths (record h { view = with_last_bit_changed h.view })
 view-widths h widths =
@@ -62,13 +65,15 @@ place-slot : (faulty : FaultyMember) (fault : Fault) (bytes : List ℕ) (log : L
 place-slot faulty CopySubmit bytes log content slot has widths named =
     copy-slot log.shape slot bytes content (submission_kept log (least_other faulty.member)) has widths named
 place-slot faulty FalseView bytes log content slot has widths named =
-    written-slot log.shape slot (record content.header { view = with_last_bit_changed content.header.view }) content.body (view-widths content.header widths) named
+    written-slot log.shape slot (record content.header { view = with_last_bit_changed content.header.view }) content.body
+        (view-widths content.header widths) named
 place-slot faulty FlipPad bytes log content slot has widths named =
     written-slot log.shape slot content.header (pads_altered log (own_bytes faulty) content.body) widths named
 place-slot faulty fault bytes log content slot has widths named =
     written-slot log.shape slot content.header (body_altered fault content.body) widths named
 
-read-slot : (faulty : FaultyMember) (bytes : List ℕ) (log : Log) (slot : Slot) (read : Result Content Offence) → content_read log.shape bytes ≡ read →
+read-slot : (faulty : FaultyMember) (bytes : List ℕ) (log : Log) (slot : Slot) (read : Result Content Offence)
+    → content_read log.shape bytes ≡ read →
     IsBytes bytes → HasSlot slot bytes → IsForSlot log.shape slot (speech_if_read faulty bytes log read)
 read-slot faulty bytes log slot (Ok content) e are has =
     let spelled = content-is_spelled log.shape bytes content are e in
@@ -80,7 +85,8 @@ read-slot faulty bytes log slot (Ok content) e are has =
     (λ _. same-slot log.shape slot bytes has)
 read-slot faulty bytes log slot (Err offence) e are has = same-slot log.shape slot bytes has
 
-by-slot : (faulty : FaultyMember) (fault : Fault) (stage : ℕ) (bytes : List ℕ) (log : Log) (slot : Slot) → IsBytes bytes → HasSlot slot bytes →
+by-slot : (faulty : FaultyMember) (fault : Fault) (stage : ℕ) (bytes : List ℕ) (log : Log) (slot : Slot) → IsBytes bytes
+    → HasSlot slot bytes →
     IsForSlot log.shape slot (speech_by faulty fault stage bytes log)
 by-slot faulty Silent stage bytes log slot are has =
     choose (λ (s : Speech). IsForSlot log.shape slot s) (stage == 0) (Say bytes) Nothing (λ _. same-slot log.shape slot bytes has) (λ _. tt)

@@ -55,8 +55,10 @@ impl Faulty {
     // What it says about bytes: those of a stage at which its fault alters nothing are said as they are.
     fn speech(&self, alloc: Global, bytes: Vec<u8>, log: &StageLog) -> Mem<Speech>
         ensures bytes { IsBytes bytes.items }
-        ensures told { IfOk result (λ speech. speech ≡ speech_if_read (faulty_of self.now) bytes.items log.now (content_read log.now.shape bytes.items)) }
-        ensures short { IfOk result (λ speech. (most : ℕ) → POST_LIMIT ≤ most → length bytes.items ≤ most → HasAtMost most speech) }
+        ensures told { IfOk result (λ speech. speech
+            ≡ speech_if_read (faulty_of self.now) bytes.items log.now (content_read log.now.shape bytes.items)) }
+        ensures short { IfOk result (λ speech. (most : ℕ) → POST_LIMIT ≤ most → length bytes.items ≤ most
+            → HasAtMost most speech) }
     {
         let shape = log.shape();
         if bytes.len() > u32::MAX as usize {
@@ -87,8 +89,10 @@ impl Faulty {
         requires bytes { IsBytes bytes.items }
         requires grammar { OfGrammar log.now.shape content }
         requires altered { is_altered_at self.now.fault (kind_of_stage log.now.shape content.header.stage) ≡ true }
-        ensures told { IfOk result (λ speech. speech ≡ speech_in_place (faulty_of self.now) self.now.fault bytes.items log.now content) }
-        ensures short { IfOk result (λ speech. (most : ℕ) → POST_LIMIT ≤ most → length bytes.items ≤ most → HasAtMost most speech) }
+        ensures told { IfOk result (λ speech. speech
+            ≡ speech_in_place (faulty_of self.now) self.now.fault bytes.items log.now content) }
+        ensures short { IfOk result (λ speech. (most : ℕ) → POST_LIMIT ≤ most → length bytes.items ≤ most
+            → HasAtMost most speech) }
     {
         let shape = log.shape();
         match self.fault {
@@ -116,7 +120,8 @@ impl Faulty {
         requires submits { kind_number content.now.body ≡ 2 }
         ensures told { IfOk result (λ speech. speech ≡ says_copy log.now.shape bytes.items content.now
             (submission_kept log.now (least_other self.now.member))) }
-        ensures short { IfOk result (λ speech. (most : ℕ) → POST_LIMIT ≤ most → length bytes.items ≤ most → HasAtMost most speech) }
+        ensures short { IfOk result (λ speech. (most : ℕ) → POST_LIMIT ≤ most → length bytes.items ≤ most
+            → HasAtMost most speech) }
     {
         let slot = Slot {
             stage: 1,

@@ -5,4 +5,5 @@ use Rattle.faulty_member.proofs.flipping.place_of_pad.Given as goal
 
 -- no earlier pad is flipped
 abbrev pub invariant-loop-place : goal.invariant-loop-place
-invariant-loop-place l = (earlier : ℕ) → earlier < l.place → flipped-at (shape_of l.fn.shape) l.fn.own l.fn.items.items l.fn.pads.items earlier ≡ None
+invariant-loop-place l = (earlier : ℕ) → earlier < l.place → flipped-at (shape_of l.fn.shape) l.fn.own l.fn.items.items l.fn.pads.items
+    earlier ≡ None

@@ -7,4 +7,5 @@ use Rattle.faulty_member.proofs.flipping.seeds_in.Given as goal
 
 -- all earlier ones reveal a seed
 abbrev pub invariant-loop-end : goal.invariant-loop-end
-invariant-loop-end l = (l.seeds.items ≡ map seed_in (take l.end-index l.ends.items)) × (list_all is_reveal (take l.end-index l.ends.items) ≡ true)
+invariant-loop-end l = (l.seeds.items ≡ map seed_in (take l.end-index l.ends.items))
+    × (list_all is_reveal (take l.end-index l.ends.items) ≡ true)
