@@ -55,4 +55,8 @@ pub record KeepsEmbedded (roster : Roster) (round : ℕ) (content : Content) (lo
   pub posts : List Post
   pub found : posts_in_content roster round content ≡ Ok posts
   pub long : length posts ≡ length (posts_embedded content.body)
-  pub keeps : log ≡ record { shape = shape_of_roster roster; posts = places_of (first_embedded (shape_of_roster roster) content) (slot_count (shape_of_roster roster)) posts }
+  pub keeps : log ≡ record {
+    shape = shape_of_roster roster;
+    posts = places_of (first_embedded (shape_of_roster roster) content)
+        (slot_count (shape_of_roster roster)) posts;
+  }

@@ -43,7 +43,7 @@ hashes-changed place hashes all =
 -- a descriptor with a changed pad hash is one
 pub form-changed : (size place : ℕ) (message_hash : List ℕ) (hashes capsules : List (List ℕ)) →
     IsDescriptor size message_hash hashes capsules → IsDescriptor size message_hash (with_changed (with_bit_changed 0) place hashes)
-        capsules
+    capsules
 form-changed size place message_hash hashes capsules form =
     let same = length-changed (with_bit_changed 0) place hashes in
     record {

@@ -120,9 +120,11 @@ votes-form shape before shuffle _ at = absurd at
 pub flipped-form : (shape : Shape) (before : ℕ) (pads : List (List ℕ)) (place : Option ℕ) → IsBodyAt shape before AtPad (Pads pads) →
     IsBodyAt shape before AtPad (Pads (pads_changed pads place))
 flipped-form shape before pads None at = at
-flipped-form shape before pads (Some place) at =
-    (changed-keeps (λ n. n ≤ 65536) (with_bit_changed 0) (length-bit 0) place pads (omega arith) at.0, length-changed (with_bit_changed 0)
-        place pads ∙ at.1)
+flipped-form shape before pads (Some place) at = (
+  changed-keeps (λ n. n ≤ 65536) (with_bit_changed 0) (length-bit 0) place pads (omega arith) at.0,
+  length-changed (with_bit_changed 0)
+      place pads ∙ at.1,
+)
 
 -- ---- bodies of the grammar
 
@@ -140,7 +142,7 @@ altered-is_body Malformed shape stage body not at is = absurd (not refl)
 altered-is_body DropEntry shape stage body not at is =
     let kind = drop-kind (kind_of_stage shape stage) at in
     replaced shape stage (AtShuffle kind.0 kind.1) body (body_altered DropEntry body) kind.2
-        (drop-form shape (slots_before shape stage) kind.0 kind.1 body) is
+    (drop-form shape (slots_before shape stage) kind.0 kind.1 body) is
 altered-is_body FalseAbort shape stage body not at is =
     let kind = abort-kind (kind_of_stage shape stage) at in
     replaced shape stage (AtShuffle kind.0 kind.1) body Abort kind.2 (λ form. tt) is
@@ -150,9 +152,9 @@ altered-is_body FalseNogo shape stage body not at is =
 altered-is_body WrongSeed shape stage body not at is =
     let kind = seed-kind (kind_of_stage shape stage) at in
     replaced shape stage (AtFinal kind.0) body (body_altered WrongSeed body) kind.1 (seed-form shape (slots_before shape stage) kind.0 body)
-        is
+    is
 altered-is_body BadVotes shape stage body not at is =
     let kind = votes-kind (kind_of_stage shape stage) at in
     replaced shape stage (AtFinal kind.0) body (body_altered BadVotes body) kind.1 (votes-form shape (slots_before shape stage) kind.0 body)
-        is
+    is
 altered-is_body _ shape stage body not at is = is

@@ -103,7 +103,7 @@ key-changed front a b c d e f g rest long others below =
 -- the first key behind what stands before it
 pub joined-keys : (head front : List ℕ) (x y : ℕ) (bytes : List ℕ) (keys : List (List ℕ)) →
     head ++ flat_map (λ (k : List ℕ). k) ((front ++ x ∷ y ∷ bytes) ∷ keys) ≡ (head ++ front)
-        ++ x ∷ y ∷ (bytes ++ flat_map (λ (k : List ℕ). k) keys)
+    ++ x ∷ y ∷ (bytes ++ flat_map (λ (k : List ℕ). k) keys)
 joined-keys head front x y bytes keys =
     let more : List ℕ = flat_map (λ (k : List ℕ). k) keys in
     ap (λ (s : List ℕ). head ++ s) (flat_map-cons (λ (k : List ℕ). k) (front ++ x ∷ y ∷ bytes) keys)
@@ -116,7 +116,7 @@ pub keys-changed : (head front : List ℕ) (a b c d e f g : ℕ) (rest : List �
     let key : List ℕ = front ++ a ∷ b ∷ c ∷ d ∷ e ∷ f ∷ g ∷ rest in
     head ++ flat_map (λ (k : List ℕ). k) (with_changed key_out_of_range 0 (key ∷ keys))
     ≡ slice_set (slice_set (head ++ flat_map (λ (k : List ℕ). k) (key ∷ keys)) (length (head ++ front)) 1) (length (head ++ front) + 1)
-        (b / 64 * 64 + 48)
+    (b / 64 * 64 + 48)
 unfolding with_changed
 keys-changed head front a b c d e f g rest keys long others below =
     let bytes : List ℕ = c ∷ d ∷ e ∷ f ∷ g ∷ rest in
@@ -125,7 +125,7 @@ keys-changed head front a b c d e f g rest keys long others below =
     ∙ joined-keys head front 1 (b / 64 * 64 + 48) bytes keys
     ∙ sym (set-two (head ++ front) a b 1 (b / 64 * 64 + 48) (bytes ++ more))
     ∙ ap (λ (s : List ℕ). slice_set (slice_set s (length (head ++ front)) 1) (length (head ++ front) + 1) (b / 64 * 64 + 48))
-        (sym (joined-keys head front a b bytes keys))
+    (sym (joined-keys head front a b bytes keys))
 
 -- ---- bytes
 
@@ -159,11 +159,11 @@ changed-text h key keys bytes result size is spelled are made =
     = λ ks. sym (append-front (header_text h) 1 (flat_map (λ (k : List ℕ). k) ks)) in
     let front_long : length front ≡ 32 = length-take-le 32 key (let long = is.length in omega (arith, long)) in
     let rest_long : length s.rest ≡ 7 * 255 = (let all : length (drop 32 key) ≡ length (s.a ∷ s.b ∷ tail) = ap (λ (r : List ℕ). length r)
-        s.is in
+    s.is in
     let long = is.length in omega (arith, all, dropped, long)) in
     let place : length (head ++ front) ≡ 108
     = (let one = length-append head front in let two = length-append (header_text h) (1 ∷ []) in omega (arith, one, two, size, front_long))
-        in
+    in
     let more : List ℕ = flat_map (λ (k : List ℕ). k) keys in
     let bytes_is : bytes ≡ head ++ flat_map (λ (k : List ℕ). k) ((front ++ s.a ∷ s.b ∷ tail) ∷ keys)
     = spelled ∙ text (key ∷ keys) ∙ ap (λ (k : List ℕ). head ++ flat_map (λ (j : List ℕ). j) (k ∷ keys)) split in
@@ -172,13 +172,13 @@ changed-text h key keys bytes result size is spelled are made =
     let second : slice_index_or bytes 109 0 ≡ s.b
     = ap (λ (t : List ℕ). get_or t 109 0) joined
     ∙ ap (λ (n : ℕ). get_or ((head ++ front) ++ s.a ∷ s.b ∷ (tail ++ more)) n 0) next
-        ∙ second-behind (head ++ front) s.a s.b (tail ++ more) in
+    ∙ second-behind (head ++ front) s.a s.b (tail ++ more) in
     let below : AreBelow 256 (s.a ∷ s.b ∷ tail) = below-in (head ++ front) (s.a ∷ s.b ∷ tail) more (subst IsBytes joined are) in
     made
     ∙ ap (λ (x : ℕ). slice_set (slice_set bytes 108 1) 109 (x / 64 * 64 + 48)) second
     ∙ ap (λ (t : List ℕ). slice_set (slice_set t 108 1) 109 (s.b / 64 * 64 + 48)) bytes_is
     ∙ ap (λ (n : ℕ). slice_set (slice_set (head ++ flat_map (λ (k : List ℕ). k) ((front ++ s.a ∷ s.b ∷ tail) ∷ keys)) n 1) (n + 1)
-        (s.b / 64 * 64 + 48)) (sym place)
+    (s.b / 64 * 64 + 48)) (sym place)
     ∙ sym (keys-changed head front s.a s.b s.c s.d s.e s.f s.g s.rest keys front_long rest_long below)
     ∙ ap (λ (k : List ℕ). head ++ flat_map (λ (j : List ℕ). j) (with_changed key_out_of_range 0 (k ∷ keys))) (sym split)
     ∙ sym (text (with_changed key_out_of_range 0 (key ∷ keys)))

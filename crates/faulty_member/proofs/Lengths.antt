@@ -96,7 +96,7 @@ altered-long Malformed shape stage body not at is = absurd (not refl)
 altered-long DropEntry shape stage body not at is =
     let kind = drop-kind (kind_of_stage shape stage) at in
     drop-long shape (slots_before shape stage) kind.0 kind.1 body
-        ((bodies_are_of_kinds shape stage (AtShuffle kind.0 kind.1) body kind.2).0 is)
+    ((bodies_are_of_kinds shape stage (AtShuffle kind.0 kind.1) body kind.2).0 is)
 altered-long FalseAbort shape stage body not at is = omega arith
 altered-long FalseNogo shape stage body not at is = go-long body
 altered-long WrongSeed shape stage body not at is = seed-long body

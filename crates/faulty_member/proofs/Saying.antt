@@ -42,7 +42,7 @@ at-keys fault kind is at = keys-kind kind (subst (λ (f : Fault). is_altered_at 
 -- keys are at least 110 bytes, with what stands before them
 pub keys-least : (shape : Shape) (fault : Fault) (bytes : List ℕ) (content : Content) → fault ≡ Malformed →
     is_altered_at fault (kind_of_stage shape content.header.stage) ≡ true → OfGrammar shape content → bytes ≡ content_text content
-        → 110 ≤ length bytes
+    → 110 ≤ length bytes
 keys-least shape fault bytes content is at of spelled =
     let long = fixed-length shape content AtKeys of (at-keys fault (kind_of_stage shape content.header.stage) is at) (omega arith) in
     let same : length bytes ≡ length (content_text content) = ap (λ (b : List ℕ). length b) spelled in
@@ -59,7 +59,7 @@ submits shape fault content is at of =
     let stage : ℕ = content.header.stage in
     let kind = submit-kind (kind_of_stage shape stage) (subst (λ (f : Fault). is_altered_at f (kind_of_stage shape stage) ≡ true) is at) in
     submits-at shape (slots_before shape stage) kind.0 content.body
-        ((bodies_are_of_kinds shape stage (AtSubmit kind.0) content.body kind.1).0 of.1)
+    ((bodies_are_of_kinds shape stage (AtSubmit kind.0) content.body kind.1).0 of.1)
 
 -- ---- bodies in place
 
@@ -72,17 +72,17 @@ in-place given shape content body is of fits =
 -- a flipped pad stays of the grammar
 flipped-body : (log : Log) (own : List ℕ) (stage : ℕ) (body : Body) → kind_of_stage log.shape stage ≡ Some AtPad →
     IsBodyAt log.shape (slots_before log.shape stage) AtPad body
-        → IsBodyAt log.shape (slots_before log.shape stage) AtPad (pads_altered log own body)
+    → IsBodyAt log.shape (slots_before log.shape stage) AtPad (pads_altered log own body)
 flipped-body log own stage (Pads pads) e at = flipped-form log.shape (slots_before log.shape stage) pads
     (place_of_pad log.shape own (items_in log) pads) at
 flipped-body log own stage _ e at = absurd at
 
 pub flipped-is_body : (log : Log) (own : List ℕ) (fault : Fault) (stage : ℕ) (body : Body) → fault ≡ FlipPad →
     is_altered_at fault (kind_of_stage log.shape stage) ≡ true → IsBody log.shape stage body
-        → IsBody log.shape stage (pads_altered log own body)
+    → IsBody log.shape stage (pads_altered log own body)
 flipped-is_body log own fault stage body is at fits =
     let kind = pads-kind (kind_of_stage log.shape stage) (subst (λ (f : Fault). is_altered_at f (kind_of_stage log.shape stage) ≡ true) is
-        at) in
+    at) in
     replaced log.shape stage AtPad body (pads_altered log own body) kind (flipped-body log own stage body kind) fits
 
 pub flipped-long : (log : Log) (own : List ℕ) (body : Body) → length (body_text (pads_altered log own body)) ≤ length (body_text body)
@@ -95,7 +95,7 @@ flipped-long log own _ = omega arith
 pub in-default : (faulty : FaultyMember) (fault : Fault) (bytes : List ℕ) (log : Log) (content : Content) → fault ≢ CopySubmit
     → fault ≢ FalseView → fault ≢ FlipPad →
     speech_in_place faulty fault bytes log content ≡ Say (content_text
-        (record { header = content.header; body = body_altered fault content.body }))
+    (record { header = content.header; body = body_altered fault content.body }))
 in-default faulty CopySubmit bytes log content a b d = absurd (a refl)
 in-default faulty FalseView bytes log content a b d = absurd (b refl)
 in-default faulty FlipPad bytes log content a b d = absurd (d refl)
@@ -118,7 +118,7 @@ pub silent-later : (faulty : FaultyMember) (stage : ℕ) (bytes : List ℕ) (log
 unfolding faulty_speech
 silent-later faulty stage bytes log is later =
     by-silence faulty faulty.fault stage bytes log is ∙ cond-false (stage == 0) (Say bytes) SaysNothing
-        (false_from_ne_true (stage == 0) (λ e. later (eqb-true stage 0 e)))
+    (false_from_ne_true (stage == 0) (λ e. later (eqb-true stage 0 e)))
 
 by-reading : (faulty : FaultyMember) (fault : Fault) (stage : ℕ) (bytes : List ℕ) (log : Log) → fault ≢ Silent →
     speech_by faulty fault stage bytes log ≡ speech_if_read faulty bytes log (content_read log.shape bytes)
@@ -172,7 +172,7 @@ keys-at shape before h _ bytes result size at spelled are made = absurd at
 -- the bytes of keys with two bytes changed are what is said in place of them
 pub keys-said : (faulty : FaultyMember) (fault : Fault) (bytes result : List ℕ) (log : Log) (content : Content) → fault ≡ Malformed →
     is_altered_at fault (kind_of_stage log.shape content.header.stage) ≡ true → OfGrammar log.shape content → bytes ≡ content_text content
-        → IsBytes bytes →
+    → IsBytes bytes →
     result ≡ slice_set (slice_set bytes 108 1) 109 (slice_index_or bytes 109 0 / 64 * 64 + 48) →
     Say result ≡ speech_in_place faulty fault bytes log content
 keys-said faulty fault bytes result log content is at of spelled are made =
@@ -210,8 +210,10 @@ told-slot (Err e) wanted P told has = tt
 
 -- a content with a false view is as long
 pub view-long : (shape : Shape) (content : Content) → OfGrammar shape content →
-    length (content_text (record { header = record content.header { view = with_last_bit_changed content.header.view }; body = content.body
-        }))
+    length (content_text (record {
+      header = record content.header { view = with_last_bit_changed content.header.view };
+      body = content.body;
+    }))
     ≤ length (content_text content)
 view-long shape content of =
     let h : Header = content.header in
@@ -234,11 +236,11 @@ view-long shape content of =
 -- the same content with another body is no longer than the bytes of the content
 pub in-place-long : (bytes : List ℕ) (content : Content) (body other : Body) → bytes ≡ content_text content → body ≡ other →
     length (body_text other) ≤ length (body_text content.body) → length (content_text (record { header = content.header; body = body })) ≤
-        length bytes
+    length bytes
 in-place-long bytes content body other spelled is shorter =
     let long = text-long content.header content.body other shorter in
     let same : length bytes ≡ length (content_text content) = ap (λ (b : List ℕ). length b) spelled in
     let moved : length (content_text (record { header = content.header; body = body })) ≡ length
-        (content_text (record { header = content.header; body = other }))
+    (content_text (record { header = content.header; body = other }))
     = ap (λ (b : Body). length (content_text (record { header = content.header; body = b }))) is in
     omega (arith, long, same, moved)

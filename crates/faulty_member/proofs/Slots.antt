@@ -42,7 +42,7 @@ written-slot shape slot h body widths named content read =
     let text : List ℕ = content_text (record { header = h; body = body }) in
     let begins : BeginsWith h text = record { widths = widths; rest = (kind_number body ∷ []) ++ body_text body; spelled = refl } in
     ap slot_named (header-same content.header h (header_of text) (content-header shape text content read) (begins-header_of text h begins))
-        ∙ named
+    ∙ named
 
 -- bytes that name the slot
 pub same-slot : (shape : Shape) (slot : Slot) (bytes : List ℕ) → HasSlot slot bytes → KeepsSlot shape slot bytes
@@ -66,7 +66,7 @@ place-slot faulty CopySubmit bytes log content slot has widths named =
     copy-slot log.shape slot bytes content (submission_kept log (least_other faulty.member)) has widths named
 place-slot faulty FalseView bytes log content slot has widths named =
     written-slot log.shape slot (record content.header { view = with_last_bit_changed content.header.view }) content.body
-        (view-widths content.header widths) named
+    (view-widths content.header widths) named
 place-slot faulty FlipPad bytes log content slot has widths named =
     written-slot log.shape slot content.header (pads_altered log (own_bytes faulty) content.body) widths named
 place-slot faulty fault bytes log content slot has widths named =

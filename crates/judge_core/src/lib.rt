@@ -2,24 +2,18 @@
 #![tactic(auto)]
 
 mod bad_log;
-#[cfg(test)]
-mod evidence;
 mod failed_check;
 mod hearing;
 mod judging;
 mod laws;
 mod listed_log;
-#[cfg(test)]
-mod made_evidence;
 mod pad;
-#[cfg(test)]
-mod pad_evidence;
 mod reading;
 mod replaying;
-#[cfg(test)]
-mod stored_evidence;
 mod wrong_seed;
 
 pub use failed_check::FailedCheck;
+pub use group_roster::Roster;
 pub use judging::{Accepted, judge};
 pub use laws::checks_are_exact;
+pub use transcript_form::{Claim, Refused};

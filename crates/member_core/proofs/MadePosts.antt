@@ -1,12 +1,12 @@
 -- The posts that a member made, one after the other.
-use Rattle.std.proofs.Common.{◌≡◌, ℕ, zero, suc, ◌+◌, ◌-◌, ◌<◌, ◌≤◌, List, [], ◌∷◌, ◌++◌, Option, Some, None, refl, ap, sym, ◌∙◌, arith}
+use Rattle.std.proofs.Common.{◌≡◌, ℕ, zero, suc, ◌+◌, ◌-◌, ◌<◌, ◌≤◌, List, ◌++◌, Option, Some, None, refl, ap, sym, ◌∙◌, arith}
 use Rattle.std.specs.Prelude.{filter_map}
 use Rattle.std.specs.List.{cons_option, range_with_len, slice_get}
 use Rattle.std.specs.Option.{option_to_list}
 use Rattle.phase_message.specs.declared.post.Post.{Post}
 use Rattle.phase_message.specs.Slots.{stage_count}
 use Rattle.stage_log.specs.Table.{Log}
-use Rattle.member_core.specs.Membership.{Holdings, own_posts_kept, posts_made}
+use Rattle.member_core.specs.Membership.{own_posts_kept}
 use Rattle.member_core.proofs.OwnPosts.{own_kept}
 
 -- those from a stage on, and behind them the one that it does not keep
@@ -14,7 +14,8 @@ unfoldable pub posts_from : Log → ℕ → Option Post → ℕ → List Post
 posts_from log number stray stage =
     filter_map (own_kept log number) (range_with_len stage (stage_count log.shape - stage)) ++ option_to_list stray
 
-pub from-first : (log : Log) (number : ℕ) (stray : Option Post) → own_posts_kept log number ++ option_to_list stray ≡ posts_from log number stray 0
+pub from-first : (log : Log) (number : ℕ) (stray : Option Post) → own_posts_kept log number
+    ++ option_to_list stray ≡ posts_from log number stray 0
 unfolding posts_from own_posts_kept
 from-first log number stray =
     let all : stage_count log.shape ≡ stage_count log.shape - 0 = omega arith in
@@ -31,7 +32,8 @@ from-next log number stray stage lt =
     let n : ℕ = stage_count log.shape in
     let split : n - stage ≡ suc (n - (stage + 1)) = omega (arith, lt) in
     ap (λ (k : ℕ). filter_map (own_kept log number) (range_with_len stage k) ++ option_to_list stray) split
-    ∙ cons-more (own_kept log number stage) (filter_map (own_kept log number) (range_with_len (stage + 1) (n - (stage + 1)))) (option_to_list stray)
+    ∙ cons-more (own_kept log number stage) (filter_map (own_kept log number) (range_with_len (stage + 1) (n - (stage + 1))))
+    (option_to_list stray)
 
 pub from-last : (log : Log) (number : ℕ) (stray : Option Post) (stage : ℕ) → stage_count log.shape ≤ stage
     → posts_from log number stray stage ≡ option_to_list stray

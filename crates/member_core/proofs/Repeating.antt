@@ -1,5 +1,5 @@
 -- Asking again about what was put off.
-use Rattle.std.proofs.Common.{◌≡◌, ℕ, ◌+◌, Bool, true, false, List, Option, Some, None, ap, sym, ◌∙◌, refl, subst}
+use Rattle.std.proofs.Common.{◌≡◌, ℕ, List, ap, sym, ◌∙◌, refl, subst}
 use Rattle.std.specs.Prelude.{IsTrue, not, ◌&&◌}
 use Rattle.shuffle_blame.specs.Asked.{past_of}
 use Rattle.round_spec.specs.Say.{Configuration}
@@ -23,7 +23,18 @@ pub formed-mood : (m : Machine) (mood : Mood) → IsFormed m → IsFormed (with_
 formed-mood m mood f =
     let e : IsMachineOf f.entered.0 m = f.entered.1 in
     record {
-      entered = (f.entered.0, record { roster = e.roster; seat = e.seat; message = e.message; secrets = e.secrets; hidden = e.hidden; hidden_short = e.hidden_short; pad = e.pad });
+      entered = (
+        f.entered.0,
+        record {
+          roster = e.roster;
+          seat = e.seat;
+          message = e.message;
+          secrets = e.secrets;
+          hidden = e.hidden;
+          hidden_short = e.hidden_short;
+          pad = e.pad;
+        },
+      );
       message = f.message;
       log = f.log;
       shape = f.shape;
@@ -80,7 +91,8 @@ speakable-again m bytes e going r n =
 
 -- ---- the pure machine
 
-pub stands-again : (now start : Replies) (c : Configuration) (a : Actor) (h : Holdings) (bytes : List ℕ) → h.mood ≡ PutOff bytes → StandsFor now start c a h
+pub stands-again : (now start : Replies) (c : Configuration) (a : Actor) (h : Holdings) (bytes : List ℕ) → h.mood ≡ PutOff bytes
+    → StandsFor now start c a h
     → StandsAsked now start c a (asked_at h Unasked)
 stands-again now start c a h bytes e s = record {
   can_enter = s.can_enter;
@@ -93,7 +105,7 @@ stands-again now start c a h bytes e s = record {
     next = s.entered.next;
     secrets = s.entered.secrets;
   };
-  at = record { log = s.at.log; stage = s.at.stage; past = s.at.past; mood = refl; made = s.at.made; ending = s.at.ending; };
+  at = record { log = s.at.log; stage = s.at.stage; past = s.at.past; mood = refl; made = s.at.made; ending = s.at.ending };
   conduct = subst (λ (mood : Mood). AnswersBy now start c (past_of h.log 1) (was_asked h.stage mood 1)) e
       (subst (λ (mood : Mood). GoesOn now start c h mood) e s.conduct);
   own = record {

@@ -1,5 +1,5 @@
 -- What a delivery is to a member, and what it takes it for.
-use Rattle.std.specs.Prelude.{◌≡◌, ℕ, ◌≤◌, ◌↔◌, List, [], ◌∷◌, Bool, true, false, ◌==◌, length, is_ok, Option, Some, None, Result, Ok, if◌then◌else◌}
+use Rattle.std.specs.Prelude.{◌≡◌, ℕ, ◌≤◌, ◌↔◌, List, [], ◌∷◌, true, false, ◌==◌, length, is_ok, Option, Some, None, Ok, if◌then◌else◌}
 use Rattle.phase_message.specs.declared.header.Header.{Header}
 use Rattle.phase_message.specs.declared.post.Post.{Post}
 use Rattle.phase_message.specs.declared.post.TheConstants.{POST_LIMIT}
@@ -98,6 +98,7 @@ pub record TellsEnding (taken : Taken) (ending : Ending) : Type 0 where
   pub going : taken ≡ Finished → ⊥
 
 -- a member stands for what becomes of the pure machine with a string, and the answer is that of the pure machine
-pub record TakesAs (now start : Replies) (c : Configuration) (delivered : List (List ℕ)) (bytes : List ℕ) (h : Holdings) (taken : Taken) : Type 0 where
+pub record TakesAs (now start : Replies) (c : Configuration) (delivered : List (List ℕ)) (bytes : List ℕ) (h : Holdings) (taken : Taken) :
+    Type 0 where
   pub stands : StandsFor now start c (actor_behind_delivery start c (actor_after start c delivered) bytes) h
   pub answer : taken ≡ answer_to start c (actor_after start c delivered) bytes

@@ -8,4 +8,4 @@ use Rattle.faulty_member.proofs.flipping.ends_in.Given as goal
 abbrev pub invariant-loop-sender : goal.invariant-loop-sender
 invariant-loop-sender l =
     l.ends.items ≡ map (λ (member : ℕ). body_kept l.fn.log (record { stage = final_stage l.fn.log.shape 1; sender = member }))
-        (range_with_len 1 (l.sender - 1))
+    (range_with_len 1 (l.sender - 1))

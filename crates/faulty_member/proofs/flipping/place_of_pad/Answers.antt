@@ -29,7 +29,7 @@ loop-place-preserved c =
     let here = tested shape c.args.own.now items pads place c.in_ok-holds.holds c.is_flipped.result c.index.result.now c.in_ok-holds.ensures
     (sym (get_or_read pads place c.index.result.now (omega (arith, c.loop-place-test.true)) c.index.ensures [])) c.is_flipped.ensures in
     none-more (flipped-at shape c.args.own.now items pads) place c.loop-place.invariant
-        (here ∙ ap (λ (b : Bool). then_some b place) c.if-is_flipped.false)
+    (here ∙ ap (λ (b : Bool). then_some b place) c.if-is_flipped.false)
 
 pub returns : goal.returns
 unfolding place_of_pad

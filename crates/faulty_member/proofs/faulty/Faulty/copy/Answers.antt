@@ -21,5 +21,5 @@ returns-clause-told c =
     ∙ ap (λ (t : List ℕ). Say (t ++ c.deref.result.now)) c.truncate.ensures.items
     ∙ ap (λ (t : List ℕ). Say (take 76 bytes ++ t)) written
     ∙ ap (λ (t : List ℕ). Say t) (copied-text log.shape bytes content (ciphertext_in log.shape c.in-Some.post.now) c.requires.spelled
-        c.requires.grammar c.requires.submits)
+    c.requires.grammar c.requires.submits)
     ∙ sym (ap (λ (p : Option Post). says_copy log.shape bytes content p) kept)

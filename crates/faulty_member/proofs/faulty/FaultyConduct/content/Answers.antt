@@ -13,12 +13,12 @@ use Rattle.faulty_member.proofs.faulty.FaultyConduct.content.Goals as goal
 pub returns-then-stage-eq0-clause-told : goal.returns-then-stage-eq0-clause-told
 returns-then-stage-eq0-clause-told c =
     ap (λ (t : List ℕ). Say t) c.of.ensures ∙ sym (silent-first (faulty_of c.args.self.now) c.args.stage c.args.bytes.items c.args.log.now
-        c.in-Silent.is c.if-stage-eq0.true)
+    c.in-Silent.is c.if-stage-eq0.true)
 
 pub returns-then-stage-eq0-clause-slot : goal.returns-then-stage-eq0-clause-slot
 returns-then-stage-eq0-clause-slot c =
     λ slot has. subst (λ (t : List ℕ). KeepsSlot c.args.log.now.shape slot t) (sym c.of.ensures)
-        (same-slot c.args.log.now.shape slot c.args.bytes.items has)
+    (same-slot c.args.log.now.shape slot c.args.bytes.items has)
 
 pub returns-else-stage-eq0-clause-told : goal.returns-else-stage-eq0-clause-told
 returns-else-stage-eq0-clause-told c =
@@ -32,7 +32,7 @@ returns-in_default c =
     let said : Speech = speech_if_read faulty bytes log (content_read log.shape bytes) in
     let wanted : Speech = faulty_speech faulty c.args.stage bytes log in
     let told = told-as c.speech.result said wanted c.speech.ensures.told
-        (sym (speaks-by_reading faulty c.args.stage bytes log c.in_default.not-Silent)) in
+    (sym (speaks-by_reading faulty c.args.stage bytes log c.in_default.not-Silent)) in
     record {
       told = told;
       same = refl;

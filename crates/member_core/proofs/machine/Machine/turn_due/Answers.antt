@@ -1,13 +1,11 @@
-use Rattle.std.proofs.Common.{◌≡◌, ℕ, ◌+◌, ◌≤◌, ap, sym, ◌∙◌, subst, arith, inl, inr}
+use Rattle.std.proofs.Common.{ℕ, ap, sym, ◌∙◌, subst, arith}
 use Rattle.std.specs.Prelude.{IsSome}
-use Rattle.std.proofs.lemmas.Bool.{cases_eq}
 use Rattle.std.proofs.lemmas.Result.{IfOk-weaker}
 use Rattle.phase_message.specs.declared.stage.StageKind.TheVariants.{Shuffle}
 use Rattle.shuffle_blame.specs.Asked.{past_of}
 use Rattle.stage_log.specs.Log.{before}
-use Rattle.round_spec.specs.Slots.{final_stage, submit_stage}
 use Rattle.round_spec.specs.Say.{turn_row}
-use Rattle.member_core.proofs.Belonging.{holds-shuffle, of-group, secrets-for}
+use Rattle.member_core.proofs.Belonging.{holds-shuffle, secrets-for}
 use Rattle.member_core.proofs.Due.{turn-due}
 use Rattle.member_core.proofs.StageKinds.{kind-place}
 use Rattle.member_core.proofs.machine.Machine.turn_due.Goals as goal
@@ -36,7 +34,8 @@ turn_body-requires-clause-last c =
 pub turn_body-requires-clause-complete : goal.turn_body-requires-clause-complete
 turn_body-requires-clause-complete c =
     let m = c.args.self.now in
-    subst (λ (s : ℕ). IsSome (before m.log s)) (kind-place m.log.shape m.stage (Shuffle c.args.shuffle m.seat.number) c.requires.kind).at c.requires.ready.past
+    subst (λ (s : ℕ). IsSome (before m.log s)) (kind-place m.log.shape m.stage (Shuffle c.args.shuffle m.seat.number) c.requires.kind).at
+    c.requires.ready.past
 
 pub returns : goal.returns
 returns c = IfOk-weaker c.turn_body.result _ _ (λ body said now.
@@ -44,5 +43,6 @@ returns c = IfOk-weaker c.turn_body.result _ _ (λ body said now.
     let placed = kind-place m.log.shape m.stage (Shuffle c.args.shuffle m.seat.number) c.requires.kind in
     let within = placed.kind_in in
     turn-due now m c.args.shuffle body c.requires.formed c.requires.ready c.requires.asked c.requires.kind (λ config seat secrets.
-    said config seat (secrets-for config m.secrets c.args.shuffle c.secrets_of-secrets.result.now secrets within.0 within.1 c.secrets_of-secrets.ensures)
+    said config seat (secrets-for config m.secrets c.args.shuffle c.secrets_of-secrets.result.now secrets within.0 within.1
+    c.secrets_of-secrets.ensures)
     ∙ ap (λ (s : ℕ). turn_row config (past_of m.log s) c.args.shuffle) (sym placed.at))) c.turn_body.ensures

@@ -3,8 +3,8 @@
 ghost use Rattle.std.specs.Prelude.{◌≡◌, ◌<◌, IfOk, length};
 
 use crate::stored_evidence::{roster_digits, transcript_digits};
-use crate::{Accepted, judge};
 use group_roster::{Roster, decode};
+use judge_core::{Accepted, judge};
 use lms_tree::{LmsSecret, MadeHeight, OtsType};
 use phase_message::Body;
 use signed_post::{check, check_header, read};
@@ -177,40 +177,22 @@ fn malformed_votes_are_judged(
     group: &[u8; 32],
 ) -> Result<(), AllocError> {
     let right = first_vote(group);
-    let other = Vote {
-        sender: 1,
-        yes: 2,
-        ..right
+    let wrong = Vote { yes: 2, ..right };
+    let other = Vote { sender: 1, ..wrong };
+    let accepted = Accepted {
+        accused: 3,
+        claim: Claim::Malformed,
     };
-    let cases = [
-        (
-            Vote { yes: 2, ..right }.post(alloc, 3, 0)?,
-            Ok(Accepted {
-                accused: 3,
-                claim: Claim::Malformed,
-            }),
-        ),
-        (
-            right.post(alloc, 3, 0)?,
-            Err(Refused::Check {
-                check: 9,
-                post: 1,
-                at: 0,
-            }),
-        ),
-        (
-            other.post(alloc, 1, 0)?,
-            Err(Refused::Check {
-                check: 5,
-                post: 1,
-                at: 6,
-            }),
-        ),
-    ];
-    for (post, judgement) in cases {
+    for (vote, judgement) in [
+        (wrong, Ok(accepted)),
+        (right, Err((9, 0))),
+        (other, Err((5, 6))),
+    ] {
+        let post = vote.post(alloc, vote.sender, 0)?;
         let bytes = accusation_of(alloc, &post)?;
         assert_eq!(rt; bytes.len(), 2452);
-        assert_eq!(rt; judge(alloc, roster, &bytes), judgement);
+        let want = judgement.map_err(|(check, at)| Refused::Check { check, post: 1, at });
+        assert_eq!(rt; judge(alloc, roster, &bytes), want);
     }
     Ok(())
 }

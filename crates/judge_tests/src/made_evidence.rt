@@ -1,7 +1,7 @@
 //! Evidence of the claims that look at bodies, made from keys: contents of the grammar, most of whose bytes are 0.
 
-use crate::{Accepted, judge};
 use group_roster::{Roster, decode};
+use judge_core::{Accepted, judge};
 use lms_tree::{LmsSecret, MadeHeight, OtsType};
 use ring_encrypt::public_of;
 use std::alloc::{AllocError, Global};
@@ -209,14 +209,11 @@ pub(crate) fn misviewed(stage: u8, sender: u8) -> Place {
     }
 }
 
-// Keys in which the first is that of the seed.
-fn right_keys(alloc: Global) -> Mem<Vec<u8>> {
-    let mut keys = Vec::new(alloc);
-    put_u8(&mut keys, 1)?;
-    put_bytes(&mut keys, public_of(&SEED).bytes())?;
-    for _ in 0..4 * 1824 {
-        put_u8(&mut keys, 0)?;
-    }
+// Keys in which the first is that of a seed.
+fn right_keys(alloc: Global, seed: &[u8; 32]) -> Mem<Vec<u8>> {
+    let mut keys = zeros(alloc, 1, 0)?;
+    put_bytes(&mut keys, public_of(seed).bytes())?;
+    put_bytes(&mut keys, &zeros(alloc, 0, 7295)?)?;
     Ok(keys)
 }
 
@@ -240,7 +237,7 @@ fn reveals_are_judged(rt: &impl Abort, alloc: Global) -> Result<(), Fail> {
         .make(alloc, misviewed(0, 1), &zeros(alloc, 1, 9120)?)?
         .post;
     let right = group
-        .make(alloc, misviewed(0, 1), &right_keys(alloc)?)?
+        .make(alloc, misviewed(0, 1), &right_keys(alloc, &SEED)?)?
         .post;
     let (bare, full) = (bare.as_slice(), full.as_slice());
     let (other, right) = (other.as_slice(), right.as_slice());

@@ -5,9 +5,9 @@ ghost use Rattle.std.specs.Prelude.{◌≡◌, vec_len, IfOk};
 use crate::made_evidence::{
     Group, Made, Place, accepted, failed, misviewed, put_sized, view_behind, zeros,
 };
-use crate::{Accepted, judge};
 use bulk_descriptor::make;
 use group_roster::Roster;
+use judge_core::{Accepted, judge};
 use ring_encrypt::{PublicKey, public_of};
 use shuffle_core::submission;
 use std::alloc::{AllocError, Global};
