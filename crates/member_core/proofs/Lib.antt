@@ -22,3 +22,4 @@ pub mod Answered
 mod BeingAsked
 pub mod Handing
 pub mod PassedStages
+pub mod Delivering
