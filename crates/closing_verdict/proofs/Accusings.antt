@@ -1,6 +1,6 @@
 -- The first item of shuffle B that opened to an accusation that holds.
-use Rattle.std.proofs.Common.{◌≡◌, ℕ, suc, ◌+◌, ◌<◌, ◌≤◌, Bool, true, false, List, [], ◌∷◌, ◌++◌, drop, length, map, Option, Some, None, Result, Ok, Err, refl, ap, sym, ◌∙◌, subst, arith, inl, inr}
-use Rattle.std.specs.Prelude.{is_none, is_ok, option_and_then, option_map, unwrap_or, if◌then◌else◌}
+use Rattle.std.proofs.Common.{◌≡◌, ℕ, suc, ◌≤◌, Bool, true, false, List, [], ◌∷◌, drop, map, Option, Some, None, Result, refl, ap, sym, ◌∙◌, arith}
+use Rattle.std.specs.Prelude.{is_none, is_ok, option_and_then, option_map, if◌then◌else◌}
 use Rattle.std.specs.List.{slice_get}
 use Rattle.std.proofs.lemmas.Option.{none-some}
 use Rattle.wire_core.specs.Answers.{first_some, value_unless}
@@ -9,12 +9,12 @@ use Rattle.bulk_descriptor.specs.Descriptor.{Description}
 use Rattle.transcript_form.specs.declared.accusation.Accusation.{Accusation}
 use Rattle.transcript_form.specs.Accusation.{accusation_of}
 use Rattle.accusation.specs.declared.holding.AccusationRefusal.{AccusationRefusal}
-use Rattle.accusation.specs.Accusation.{HoldsOf, refusal_of}
+use Rattle.accusation.specs.Accusation.{refusal_of}
 use Rattle.accusation.proofs.AccusationLemmas.{holds_exactly}
 use Rattle.honest_say.proofs.Members.{keys-count}
 use Rattle.round_spec.proofs.GoLists.{drop-here}
 use Rattle.round_spec.specs.Slots.{bulk_place, descriptors_opened, items_opened, keys_said, pads_sent}
-use Rattle.round_spec.specs.Verdict.{ClosedStage, Verdict, Goes, Done, bad_pad, bad_pad_by, bad_pad_if, first_bad_pad, is_held, past_at, shape_at}
+use Rattle.round_spec.specs.Verdict.{ClosedStage, Verdict, bad_pad, bad_pad_by, bad_pad_if, first_bad_pad, is_held, past_at, shape_at}
 use Rattle.closing_verdict.specs.Telling.{held_at, held_by, is_held_at}
 
 -- ---- whether it holds

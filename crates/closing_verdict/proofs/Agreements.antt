@@ -1,5 +1,5 @@
 -- What all members tell at a closing stage, and what that comes to.
-use Rattle.std.proofs.Common.{◌≡◌, ℕ, zero, suc, ◌+◌, ◌<◌, ◌≤◌, All, Bool, true, false, ◌&&◌, List, [], ◌∷◌, length, map, Option, Some, None, Result, Ok, Err, refl, ap, sym, ◌∙◌, subst, arith, inl, inr}
+use Rattle.std.proofs.Common.{◌≡◌, ℕ, zero, suc, ◌+◌, ◌<◌, ◌≤◌, All, Bool, true, false, ◌&&◌, List, [], ◌∷◌, length, map, Option, Some, None, refl, ap, sym, ◌∙◌, subst, arith, inl, inr}
 use Rattle.std.specs.Prelude.{unwrap_or, if◌then◌else◌}
 use Rattle.std.specs.List.{AllByRecursion, list_all, range_with_len}
 use Rattle.std.proofs.Math.ListN.{get_or-map}
@@ -9,10 +9,8 @@ use Rattle.std.proofs.lemmas.List.FromFn.{length-map-range_with_len}
 use Rattle.std.proofs.lemmas.Simd.{map-map}
 use Rattle.wire_core.specs.Answers.{first_some}
 use Rattle.phase_message.specs.declared.content.Body.{Body}
-use Rattle.phase_message.specs.declared.content.Body.TheVariants.{Reveal, Dispute, Confirm, Differ}
-use Rattle.phase_message.specs.declared.content.Content.{Content}
+use Rattle.phase_message.specs.declared.content.Body.TheVariants.{Reveal, Dispute, Confirm}
 use Rattle.phase_message.specs.declared.post.Post.{Post}
-use Rattle.phase_message.specs.declared.stage.StageKind.{StageKind}
 use Rattle.phase_message.specs.declared.stage.StageKind.TheVariants.{Final as AtFinal, Go as AtGo}
 use Rattle.phase_message.specs.Closing.{IsClosingBody}
 use Rattle.phase_message.specs.Offence.{content_read}
@@ -21,11 +19,10 @@ use Rattle.phase_message.specs.Slots.{slot_number}
 use Rattle.phase_message.specs.Stages.{kind_of_stage}
 use Rattle.phase_message.proofs.Read.{closings_are_read}
 use Rattle.go_nogo.specs.Closing.{is_assent}
-use Rattle.shuffle_blame.specs.declared.fault.Shown.{Shown}
 use Rattle.shuffle_blame.specs.Replay.{body_of}
 use Rattle.honest_say.proofs.OpeningLemmas.{all-of}
-use Rattle.round_spec.specs.Slots.{by_member, final_stage, said_in, seed_in, seeds_revealed}
-use Rattle.round_spec.specs.Verdict.{ClosedStage, Verdict, Goes, agreed_at, all_say, bad_log, closing_body, closing_content, concluded_at, dissented_at, equivocation, is_closing, is_dissent, no_post, past_at, post_in, shape_at, shown_in, verdict_of}
+use Rattle.round_spec.specs.Slots.{by_member, said_in, seed_in}
+use Rattle.round_spec.specs.Verdict.{ClosedStage, Verdict, Goes, agreed_at, all_say, bad_log, closing_body, closing_content, concluded_at, dissented_at, equivocation, is_closing, is_dissent, no_post, post_in, shape_at, shown_in, verdict_of}
 use Rattle.round_spec.specs.Cases.{AreFaithful, IsFaithful, IsMemberOf, agree_before}
 use Rattle.round_spec.proofs.Verdicts.{faithful}
 use Rattle.closing_verdict.specs.declared.reading.Told.{Told}

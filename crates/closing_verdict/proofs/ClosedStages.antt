@@ -1,10 +1,8 @@
 -- A closing stage all posts of which a log has.
-use Rattle.std.proofs.Common.{◌≡◌, ◌⊎◌, ℕ, ◌+◌, ◌-◌, ◌<◌, ◌≤◌, Bool, true, false, List, [], length, Option, Some, None, Result, Ok, Err, ap, sym, ◌∙◌, refl, subst, arith, inl, inr}
+use Rattle.std.proofs.Common.{◌≡◌, ◌⊎◌, ℕ, ◌+◌, ◌-◌, ◌<◌, ◌≤◌, true, Option, Some, None, Result, Ok, ap, sym, ◌∙◌, refl, subst, arith, inl, inr}
 use Rattle.std.specs.Prelude.{is_some, option_and_then}
 use Rattle.std.proofs.lemmas.Bool.{cases_eq, cases_lt}
 use Rattle.std.proofs.lemmas.Option.{none-some}
-use Rattle.std.specs.List.{slice_get}
-use Rattle.std.proofs.lemmas.Option.{get_or_from_slice_get}
 use Rattle.phase_message.specs.declared.content.Content.{Content}
 use Rattle.phase_message.specs.declared.offence.Offence.{Offence}
 use Rattle.phase_message.specs.declared.post.Post.{Post}
@@ -13,18 +11,16 @@ use Rattle.phase_message.specs.declared.stage.StageKind.{StageKind}
 use Rattle.phase_message.specs.declared.stage.StageKind.TheVariants.{Keys as AtKeys, Submit as AtSubmit, Shuffle as AtShuffle, Go as AtGo, Final as AtFinal, Pad as AtPad, Check as AtCheck, Confirm as AtConfirm}
 use Rattle.phase_message.specs.Offence.{content_read}
 use Rattle.phase_message.specs.Shape.{Shape}
-use Rattle.phase_message.specs.Slots.{slot_number, slots_before}
-use Rattle.phase_message.specs.Stages.{is_member, is_slot, kind_of_stage, speaks, vote_of}
-use Rattle.phase_message.proofs.Table.{check_is, confirm_is, final_a_is, final_b_is, go_a_is, go_b_is, keys_is, nothing_is, pad_is, submit_a_is, submit_b_is, turn_a, turn_b}
+use Rattle.phase_message.specs.Slots.{slots_before}
+use Rattle.phase_message.specs.Stages.{kind_of_stage, vote_of}
+use Rattle.phase_message.proofs.Table.{check_is, final_a_is, final_b_is, go_a_is, go_b_is, keys_is, nothing_is, pad_is, submit_a_is, submit_b_is, turn_a, turn_b}
 use Rattle.phase_message.proofs.Whole.{content-is_read}
 use Rattle.group_roster.specs.Roster.{shape_of_roster}
-use Rattle.stage_log.specs.Log.{before}
-use Rattle.stage_log.specs.Table.{Log, kept_in}
 use Rattle.go_nogo.specs.Stands.{StandsIn}
 use Rattle.shuffle_blame.proofs.Endings.{ends_at}
 use Rattle.round_spec.specs.Slots.{final_stage}
-use Rattle.round_spec.specs.Verdict.{ClosedStage, closing_content, is_closing, no_post, post_in, shape_at}
-use Rattle.round_spec.specs.Cases.{IsMemberOf, IsWhole}
+use Rattle.round_spec.specs.Verdict.{ClosedStage, closing_content, is_closing, post_in}
+use Rattle.round_spec.specs.Cases.{IsWhole}
 use Rattle.closing_verdict.specs.Judgement.{Completed, IsComplete, stage_closed}
 use Rattle.closing_verdict.specs.Telling.{shuffle_ended}
 use Rattle.closing_verdict.proofs.ClosingPosts.{closed-kept, closed-long, closing-slot}

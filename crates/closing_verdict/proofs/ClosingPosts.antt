@@ -1,7 +1,6 @@
 -- What a log keeps to the end of a closing stage, and what was sent.
-use Rattle.std.proofs.Common.{◌≡◌, ℕ, ◌+◌, ◌<◌, ◌≤◌, ◌^◌, true, List, [], length, get_or, Option, Some, None, Result, Ok, Err, refl, sym, ap, ◌∙◌, subst, arith}
+use Rattle.std.proofs.Common.{◌≡◌, ℕ, ◌+◌, ◌<◌, ◌≤◌, ◌^◌, true, List, length, get_or, Option, Some, None, Result, Ok, Err, refl, sym, ap, ◌∙◌, subst, arith}
 use Rattle.std.specs.Prelude.{IfOk, IsSome, is_some, option_and_then}
-use Rattle.std.specs.List.{slice_get}
 use Rattle.std.specs.Option.{option_map}
 use Rattle.std.proofs.lemmas.Option.{slice_get-get_or}
 use Rattle.phase_message.specs.declared.post.Post.{Post}
@@ -13,7 +12,6 @@ use Rattle.phase_message.specs.Shape.{Shape}
 use Rattle.phase_message.specs.Slots.{slot_number, slots_before}
 use Rattle.phase_message.specs.Stages.{is_slot, kind_of_stage, speaks, vote_of}
 use Rattle.phase_message.proofs.SlotLists.{slot_number-within, slots_before-rises}
-use Rattle.stage_log.specs.Log.{before}
 use Rattle.stage_log.specs.Table.{kept_in}
 use Rattle.stage_log.proofs.Fronts.{some_is}
 use Rattle.honest_say.specs.Pasts.{posts_before}

@@ -19,7 +19,7 @@ use Rattle.honest_say.specs.Pasts.{posts_before}
 use Rattle.honest_say.proofs.PastLemmas.{complete-posts, posts-are}
 use Rattle.round_spec.specs.Slots.{pad_stage}
 use Rattle.round_spec.specs.Verdict.{no_post}
-use Rattle.closing_verdict.specs.Judgement.{Completed, IsComplete, stage_closed}
+use Rattle.closing_verdict.specs.Judgement.{Completed, IsComplete}
 use Rattle.closing_verdict.proofs.ClosingPosts.{closed-long, closed-short}
 
 -- ---- how many

@@ -1,6 +1,6 @@
 -- What the closing contents of members come to, one after the other.
-use Rattle.std.proofs.Common.{◌≡◌, ℕ, ◌+◌, ◌-◌, ◌<◌, ◌≤◌, true, false, List, [], ◌∷◌, ◌++◌, get_or, map, Option, Some, None, Result, Ok, refl, sym, ap, subst, ◌∙◌, arith, inl, inr}
-use Rattle.std.specs.Prelude.{◌⊎◌, is_some, unwrap_or}
+use Rattle.std.proofs.Common.{◌≡◌, ℕ, ◌+◌, ◌-◌, ◌<◌, ◌≤◌, true, false, List, [], ◌∷◌, ◌++◌, map, Option, Some, None, Ok, refl, sym, ap, subst, ◌∙◌, arith, inl, inr}
+use Rattle.std.specs.Prelude.{unwrap_or}
 use Rattle.std.specs.List.{range_with_len}
 use Rattle.std.specs.Option.{option_or}
 use Rattle.std.proofs.Math.ListN.{get_or-map}
@@ -8,7 +8,6 @@ use Rattle.std.proofs.lemmas.Bool.{cases_lt, cond-false, cond-true}
 use Rattle.wire_core.specs.Answers.{first_below, first_some}
 use Rattle.wire_core.proofs.AnswerLemmas.{first_below-each, first_below-found, first_below-none, first_below-some, first_some-none, first_some-some}
 use Rattle.phase_message.specs.declared.content.Content.{Content}
-use Rattle.phase_message.specs.declared.offence.Offence.{Offence}
 use Rattle.phase_message.specs.declared.post.Post.{Post}
 use Rattle.phase_message.specs.Offence.{content_read}
 use Rattle.phase_message.specs.Shape.{Shape}
@@ -18,7 +17,7 @@ use Rattle.transcript_form.specs.declared.claim.Claim.TheVariants.{BadLog}
 use Rattle.honest_say.proofs.Members.{member-next}
 use Rattle.round_spec.specs.Slots.{said_in}
 use Rattle.round_spec.specs.Embedded.{is_content_justified}
-use Rattle.round_spec.specs.Verdict.{ClosedStage, Goes, Verdict, bad_log, bad_log_of, closing_body, closing_content, concluded_at, conviction, equivocation, equivocation_in, is_closing, is_read_justified, no_post, past_at, post_in, sent_in, shape_at, verdict_of}
+use Rattle.round_spec.specs.Verdict.{ClosedStage, Goes, Verdict, bad_log, bad_log_of, closing_body, closing_content, concluded_at, conviction, equivocation, equivocation_in, is_closing, is_read_justified, no_post, sent_in, shape_at, verdict_of}
 use Rattle.closing_verdict.specs.declared.convicting.Conviction.{Conviction}
 use Rattle.closing_verdict.specs.declared.reading.Told.{Told}
 use Rattle.closing_verdict.specs.Closed.{AreTold, IsJustifiedOf, TellsSecond, told_of}
@@ -91,15 +90,15 @@ next-read c member told now second next one other least so is e e' =
     let count : member + 1 - 1 ≡ place + 1 = omega (arith, least) in
     record {
       justified = λ x low high. elim (cases_lt place x) [
-          | inl last ↦ (let same : member ≡ x = omega (arith, last, high, least) in subst (λ (m : ℕ). is_read_justified (stage_closed c) (closing_content (stage_closed c) m) ≡ true) same is.justified)
-          | inr before ↦ so.justified x low before
+        | inl last ↦ (let same : member ≡ x = omega (arith, last, high, least) in subst (λ (m : ℕ). is_read_justified (stage_closed c) (closing_content (stage_closed c) m) ≡ true) same is.justified)
+        | inr before ↦ so.justified x low before
       ];
       told_are = e ∙ member-next (told_by c) member told one least so.told_are is.told_is;
       second_is = subst (λ (o : Option Conviction). TellsSecond (first_below (member + 1 - 1) (second_of c)) o) (sym e')
           (subst (λ (n : ℕ). TellsSecond (first_below n (second_of c)) (option_or second other)) (sym count)
-              (subst (λ (o : Option Verdict). TellsSecond o (option_or second other)) (sym (below-next (second_of c) place))
-                  (tells-or (first_below place (second_of c)) (second_of c place) second other so.second_is
-                      (subst (λ (m : ℕ). TellsSecond (equivocation_in (stage_closed c) m) other) (sym here) is.second_is))));
+          (subst (λ (o : Option Verdict). TellsSecond o (option_or second other)) (sym (below-next (second_of c) place))
+          (tells-or (first_below place (second_of c)) (second_of c place) second other so.second_is
+          (subst (λ (m : ℕ). TellsSecond (equivocation_in (stage_closed c) m) other) (sym here) is.second_is))));
     }
 
 -- ---- what they come to

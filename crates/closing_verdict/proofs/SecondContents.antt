@@ -1,10 +1,10 @@
 -- Where a log that a closing content embeds differs from what was kept: the first such slot is the one that convicts.
-use Rattle.std.proofs.Common.{◌≡◌, ℕ, zero, suc, ◌+◌, ◌-◌, ◌<◌, ◌≤◌, ◌^◌, Bool, true, false, List, [], ◌∷◌, ◌++◌, length, get_or, map, take, drop, replicate, Option, Some, None, Result, Ok, Err, refl, sym, ap, subst, ◌∙◌, arith, inl, inr}
+use Rattle.std.proofs.Common.{◌≡◌, ℕ, zero, suc, ◌+◌, ◌-◌, ◌<◌, ◌≤◌, ◌^◌, Bool, true, false, List, [], ◌∷◌, ◌++◌, length, get_or, map, take, drop, replicate, Option, Some, None, Result, Ok, refl, sym, ap, subst, ◌∙◌, arith, inl, inr}
 use Rattle.std.specs.Prelude.{◌⊎◌, IsSome, bytes_eq, option_and_then, zip}
 use Rattle.std.specs.List.{AllByRecursion, slice_get, slice_range}
 use Rattle.std.specs.Option.{option_flatten}
 use Rattle.std.proofs.lemmas.Bool.{both_ways, cases_Bool, cases_lt, cond-false, cond-true, false_from_ne_true}
-use Rattle.std.proofs.lemmas.List.{length-map, length-take}
+use Rattle.std.proofs.lemmas.List.{length-take}
 use Rattle.std.proofs.lemmas.Slice.Eq.{bytes_eq-Decides}
 use Rattle.wire_core.specs.Answers.{◌>>=◌, fault_as, first_some}
 use Rattle.wire_core.proofs.Readings.{bind_ok, fault_as_ok}
@@ -22,7 +22,7 @@ use Rattle.phase_message.specs.Slots.{slot_at, slot_count, slot_number, slots_be
 use Rattle.phase_message.specs.Stages.{is_slot, kind_of_stage, vote_of}
 use Rattle.phase_message.proofs.Closings.{closing-follows}
 use Rattle.phase_message.proofs.SlotLists.{slot_at-is, slot_at-number, slot_number-later, slot_number-rises, slot_number-within, slots_before-rises}
-use Rattle.group_roster.specs.Roster.{Roster, shape_of_roster}
+use Rattle.group_roster.specs.Roster.{shape_of_roster}
 use Rattle.signed_post.specs.Frame.{frame_of}
 use Rattle.stage_log.specs.Table.{Log, kept_in}
 use Rattle.go_nogo.specs.Closing.{IsClosing, is_assent, posts_embedded, slots_embedded}
@@ -128,12 +128,12 @@ alike : (v : ClosedStage) (log own : Log) (slot : Slot) (bytes : List ℕ) (post
 alike v log own slot bytes post spelled kept own_kept same = elim (cases_Bool (is_alike v slot bytes)) [
   | inl yes_same ↦ cond-true (is_alike v slot bytes) None (Some (other_told v slot bytes)) yes_same
   | inr other ↦ absurd (same (record {
-      post = post;
-      other_post = post_in v slot.stage slot.sender;
-      kept = kept;
-      other_kept = own_kept;
-      contents = λ e. both_ways (is_alike v slot bytes) other ((bytes_eq-Decides (content_of_post (frame_of bytes)) (post_in v slot.stage slot.sender).content).1 (ap content_of_post spelled ∙ e));
-    }))
+    post = post;
+    other_post = post_in v slot.stage slot.sender;
+    kept = kept;
+    other_kept = own_kept;
+    contents = λ e. both_ways (is_alike v slot bytes) other ((bytes_eq-Decides (content_of_post (frame_of bytes)) (post_in v slot.stage slot.sender).content).1 (ap content_of_post spelled ∙ e));
+  }))
 ]
 
 unlike : (v : ClosedStage) (log own : Log) (slot : Slot) (bytes : List ℕ) (post : Post) → frame_of bytes ≡ Ok post → kept_in log slot ≡ Some post
@@ -142,9 +142,9 @@ unlike v log own slot bytes post spelled kept own_kept differ =
     let one : differ.post ≡ post = post-is differ.post post (sym differ.kept ∙ kept) in
     let two : differ.other_post ≡ post_in v slot.stage slot.sender = post-is differ.other_post (post_in v slot.stage slot.sender) (sym differ.other_kept ∙ own_kept) in
     let other : is_alike v slot bytes ≡ false = false_from_ne_true (is_alike v slot bytes) (λ e. differ.contents (
-        ap (λ (p : Post). p.content) one ∙ sym (ap content_of_post spelled)
-        ∙ (bytes_eq-Decides (content_of_post (frame_of bytes)) (post_in v slot.stage slot.sender).content).0 e
-        ∙ sym (ap (λ (p : Post). p.content) two))) in
+    ap (λ (p : Post). p.content) one ∙ sym (ap content_of_post spelled)
+    ∙ (bytes_eq-Decides (content_of_post (frame_of bytes)) (post_in v slot.stage slot.sender).content).0 e
+    ∙ sym (ap (λ (p : Post). p.content) two))) in
     cond-false (is_alike v slot bytes) None (Some (other_told v slot bytes)) other
 
 -- ---- all of them, in the order of slots
@@ -269,8 +269,8 @@ second-found c is log d found there place first (slot ∷ slots) (one ∷ bytes)
     elim (cases_lt first number) [
       | inl behind ↦
           let apart : Differ log c.log slot → ⊥ = λ differ. (
-            let least = number-first shape d slot there head.there (found.first slot differ) in
-            let contrary : ⊥ = omega (arith, least, head.number, behind) in contrary) in
+          let least = number-first shape d slot there head.there (found.first slot differ) in
+          let contrary : ⊥ = omega (arith, least, head.number, behind) in contrary) in
           let none : second_content (stage_closed c) (slot, one) ≡ None = alike (stage_closed c) log c.log slot one pair.post pair.spelled head.kept head.own apart in
           let rest = second-found c is log d found there (place + 1) (first + 1) slots bytes pair.others (row-rest c log first slot slots pair.post pair.others here)
           (omega (arith, long)) pair.read (omega (arith, behind)) (omega (arith, high)) in
@@ -404,12 +404,12 @@ second-told c is content log e d first kept other told own bytes tells member re
     let range = kept-within c is content log e d first.differ.post first.differ.kept in
     let found = pairs-here c is content member reads
     ∙ second-found c is log d first range.0 0 (first_embedded c.log.shape content) (slots_embedded c.log.shape content) (posts_embedded content.body) e.keeps.posts (row-is c is content log e)
-        (omega (arith, span.slots_long, span.posts_long)) (found-here c is content log e) range.1 (omega (arith, range.2, span.slots_long, span.posts_long)) in
+    (omega (arith, span.slots_long, span.posts_long)) (found-here c is content log e) range.1 (omega (arith, range.2, span.slots_long, span.posts_long)) in
     let within : d.stage ≤ c.stage = stage-within c.log.shape c.stage d range.0 (omega (arith, range.2, (row-is c is content log e).within, span.slots_long, span.posts_long)) in
     let sent : sent_in (stage_closed c) d.stage d.sender ≡ post_spelling kept = ap post_spelling (post-is _ kept (sym (closed-kept c is d range.0 within) ∙ own)) in
     subst (λ (o : Option Verdict). TellsSecond o (Some told)) (sym (found
-        ∙ ap (λ (s : List ℕ). Some (conviction c.round d.sender Equivocation (s ∷ get_or (posts_embedded content.body) (slot_number c.log.shape d.stage d.sender - first_embedded c.log.shape content) [] ∷ []))) sent
-        ∙ ap (λ (b : List ℕ). Some (conviction c.round d.sender Equivocation (post_spelling kept ∷ b ∷ []))) (sym bytes))) tells
+    ∙ ap (λ (s : List ℕ). Some (conviction c.round d.sender Equivocation (s ∷ get_or (posts_embedded content.body) (slot_number c.log.shape d.stage d.sender - first_embedded c.log.shape content) [] ∷ []))) sent
+    ∙ ap (λ (b : List ℕ). Some (conviction c.round d.sender Equivocation (post_spelling kept ∷ b ∷ []))) (sym bytes))) tells
 
 -- the posts that are embedded are short
 items-short : (body : Body) → ItemsAreShort body → AllByRecursion (λ item. length item < 2 ^ 32) (posts_embedded body)

@@ -1,7 +1,6 @@
 -- The least member whose revealed seed is not that of its inner key.
-use Rattle.std.proofs.Common.{◌≡◌, ℕ, ◌+◌, ◌<◌, ◌≤◌, Bool, true, false, List, [], ◌∷◌, length, get_or, map, Option, Some, None, refl, ap, sym, ◌∙◌, subst, arith}
+use Rattle.std.proofs.Common.{◌≡◌, ℕ, ◌+◌, ◌<◌, ◌≤◌, Bool, true, false, List, [], get_or, map, Option, Some, None, refl, ap, sym, ◌∙◌, arith}
 use Rattle.std.specs.Prelude.{◌==◌, bytes_eq, option_map, unwrap_or, if◌then◌else◌}
-use Rattle.std.specs.List.{range_with_len}
 use Rattle.std.proofs.lemmas.Bool.{cond-false, cond-true, eq-eqb, ne_eqb}
 use Rattle.std.proofs.lemmas.List.FromFn.{get_or-map-range_with_len}
 use Rattle.wire_core.specs.Answers.{first_below}
@@ -9,13 +8,12 @@ use Rattle.wire_core.proofs.AnswerLemmas.{first_below-each, first_below-found, f
 use Rattle.ring_encrypt.specs.Capsule.{key_of_seed}
 use Rattle.phase_message.specs.declared.stage.StageKind.TheVariants.{Final as AtFinal}
 use Rattle.phase_message.specs.Shape.{Shape}
-use Rattle.phase_message.specs.Stages.{kind_of_stage}
 use Rattle.shuffle_blame.specs.Asked.{past_of}
 use Rattle.round_spec.specs.Slots.{by_member, final_stage, inner_place, key_said, keys_said, said_in, seed_in, seeds_revealed}
 use Rattle.round_spec.specs.Verdict.{ClosedStage, Verdict, Goes, Done, agreed_at, closing_body, first_bad_pad, is_inner_seed, past_at, shape_at, wrong_seed, wrong_seed_of}
 use Rattle.closing_verdict.specs.declared.reading.Told.{Told}
 use Rattle.closing_verdict.specs.Closed.{AreTold}
-use Rattle.closing_verdict.specs.Judgement.{Completed, IsComplete, stage_closed, verdict_in}
+use Rattle.closing_verdict.specs.Judgement.{Completed, IsComplete, stage_closed}
 use Rattle.closing_verdict.specs.Telling.{seed_conviction, seed_told, wrong_at}
 use Rattle.closing_verdict.proofs.Agreements.{seeds-told}
 use Rattle.closing_verdict.proofs.Carrying.{keys-now}

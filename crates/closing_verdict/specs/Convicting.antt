@@ -1,6 +1,5 @@
 -- What is written down against a member.
-use Rattle.std.specs.Prelude.{◌≡◌, ℕ, List, ◌<◌, ◌^◌, All, length}
-use Rattle.phase_message.specs.Shape.{Shape, IsShape}
+use Rattle.std.specs.Prelude.{◌≡◌, ℕ, List}
 use Rattle.transcript_form.specs.declared.transcript.Transcript.{Transcript}
 use Rattle.transcript_form.specs.Transcript.{IsTranscriptOfSome, transcript_spelling}
 use Rattle.round_spec.specs.Verdict.{Verdict, Goes, Done, Convicts}

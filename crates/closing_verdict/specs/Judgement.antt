@@ -1,9 +1,8 @@
 -- What a complete stage comes to, as a call tells it.
-use Rattle.std.specs.Prelude.{◌≡◌, ℕ, ◌+◌, List, Bool, false, IsSome, IsTrue, Option, Some, option_map, if◌then◌else◌}
+use Rattle.std.specs.Prelude.{◌≡◌, ℕ, ◌+◌, List, false, IsSome, IsTrue, Option, Some, option_map, if◌then◌else◌}
 use Rattle.std.specs.Option.{option_copied}
 use Rattle.std.specs.List.{list_any}
 use Rattle.phase_message.specs.declared.stage.StageKind.TheVariants.{Final, Confirm}
-use Rattle.phase_message.specs.Shape.{Shape}
 use Rattle.phase_message.specs.Stages.{kind_of_stage}
 use Rattle.group_roster.specs.Given.{roster_of}
 use Rattle.group_roster.specs.Roster.{Roster, shape_of_roster}

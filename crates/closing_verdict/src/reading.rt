@@ -142,7 +142,12 @@ impl<'a> Closing<'a> {
     }
 
     // The first slot for which a content embeds another content than was kept: both convict its sender.
-    fn second_content(self, alloc: Global, content: &Content, embedded: &StageLog) -> Mem<Option<Conviction>>
+    fn second_content(
+        self,
+        alloc: Global,
+        content: &Content,
+        embedded: &StageLog,
+    ) -> Mem<Option<Conviction>>
         requires closing { IsToBeJudged self }
         requires grammar { OfGrammar self.log.now.shape content.now }
         requires stage { content.now.header.stage ≡ self.stage }
@@ -174,7 +179,9 @@ fn embedded_for(shape: Shape, content: &Content, slot: Slot) -> &[u8]
         (slot_number (shape_of shape) slot.stage slot.sender - first_embedded (shape_of shape) content.now) [] }
 {
     let place = slot_number(shape, slot) - first_embedded(shape, content);
-    posts_embedded(&content.body)[place as usize].items().as_slice()
+    posts_embedded(&content.body)[place as usize]
+        .items()
+        .as_slice()
 }
 
 // What a closing body tells.

@@ -2,6 +2,8 @@
 use Rattle.std.proofs.Common.{◌≡◌, ℕ, ◌+◌, ◌-◌, ◌<◌, ◌≤◌, List, [], ◌∷◌, length, Option, Some, None, ap, sym, ◌∙◌, refl, subst, arith, rules, inl, inr, true, false, Bool}
 use Rattle.std.specs.Prelude.{IfSome, IsSome, is_some, nat_lt, not, option_map, unwrap_or, ◌&&◌, ◌==◌}
 use Rattle.std.proofs.lemmas.Bool.{cases_eq, cond-false, cond-true, eq-eqb}
+use Rattle.std.proofs.lemmas.List.FromFn.{length-map-range_with_len}
+use Rattle.wire_core.specs.Hash.{derived}
 use Rattle.phase_message.specs.declared.post.Post.{Post}
 use Rattle.phase_message.specs.Shape.{Shape}
 use Rattle.phase_message.specs.Stages.{shape_of}
@@ -19,6 +21,7 @@ use Rattle.round_spec.specs.Say.{Configuration, own_pad_seeds, shape_in}
 use Rattle.round_spec.specs.Slots.{bulk_place, final_stage, inner_place, keys_said, submit_stage}
 use Rattle.honest_say.specs.declared.group_keys.GroupKeys.{GroupKeys}
 use Rattle.honest_say.specs.declared.group_keys.ShuffleKeys.{ShuffleKeys}
+use Rattle.honest_say.specs.declared.secrets.BulkSecrets.{BulkSecrets}
 use Rattle.honest_say.specs.declared.secrets.ShuffleSecrets.{ShuffleSecrets}
 use Rattle.honest_say.specs.declared.opening.Slots.{Slots}
 use Rattle.honest_say.specs.Own.{AreBulkSecrets, AreGroupKeys, AreShuffleKeys, AreShuffleSecrets}
@@ -215,3 +218,18 @@ carried-slots log stage o slots is carries = subst (CarriesSlots log stage) is c
 
 pub slots-late : (log : Log) (stage : ℕ) (o : Option Slots) → o ≡ None → CarriesSlots log stage o → stage + 1 ≤ stage_found log
 slots-late log stage o is carries = subst (CarriesSlots log stage) is carries
+
+-- the keys of a shuffle are those of the shape of a member's round
+pub shuffle-keys : (c : Configuration) (m : Machine) (past : List (List ℕ)) (shuffle number : ℕ) (keys : ShuffleKeys) → IsFormed m → IsSeatOf c m.seat → number ≡ shuffle
+    → AreShuffleKeys m.log.shape past number keys → AreShuffleKeys (shape_in c) past shuffle keys
+shuffle-keys c m past shuffle number keys formed seat same are =
+    subst (λ (s : ℕ). AreShuffleKeys (shape_in c) past s keys) same (subst (λ (s : Shape). AreShuffleKeys s past number keys) (shape-is c m formed seat) are)
+
+-- there is a seed of a pad for each member
+pub seeds-count : (m : Machine) (bulk : BulkSecrets) → IsFormed m → m.secrets.bulk ≡ Some bulk → length bulk.pad_seeds ≡ m.log.shape.members
+seeds-count m bulk formed is =
+    let c : Configuration = formed.entered.0 in
+    let own : IsMachineOf c m = formed.entered.1 in
+    let seeds = (held-is m.secrets.bulk bulk (AreBulkSecrets c) is own.secrets.bulk).pad_seeds in
+    ap (λ (s : List (List ℕ)). length s) seeds ∙ length-map-range_with_len (derived c.fresh c.round 12) 1 (shape_in c).members
+    ∙ sym (ap (λ (s : Shape). s.members) (shape-is c m formed own.seat))

@@ -23,3 +23,5 @@ mod BeingAsked
 pub mod Handing
 pub mod PassedStages
 pub mod Delivering
+pub mod Verdicts
+mod Describing

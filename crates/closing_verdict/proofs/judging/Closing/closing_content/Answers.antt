@@ -1,4 +1,4 @@
-use Rattle.std.proofs.Common.{◌≡◌, ℕ, Bor, Option, ap, sym, ◌∙◌}
+use Rattle.std.proofs.Common.{◌≡◌, Bor, Option, ap, sym, ◌∙◌}
 use Rattle.std.specs.Option.{option_copied}
 use Rattle.phase_message.specs.Offence.{content_read}
 use Rattle.phase_message.specs.declared.post.Post.{Post}
@@ -26,11 +26,11 @@ returns-in-Ok-clause-value c =
     let of : Completed = completed_of c.args.self in
     let shape : shape_of c.shape.result ≡ of.log.shape = c.shape.ensures ∙ sym c.requires.closing.complete.shape in
     (closing-is of c.requires.closing.complete c.args.member c.requires.least c.requires.most (shape_of c.shape.result) c.in-Some.post.now c.deref.result.now c.in-Ok.content
-        c.in-Some.ensures.post (c.deref.ensures.value ∙ c.items.ensures) shape c.in-Ok.ensures.exact).0
+    c.in-Some.ensures.post (c.deref.ensures.value ∙ c.items.ensures) shape c.in-Ok.ensures.exact).0
 
 pub returns-in-Ok-clause-stage : goal.returns-in-Ok-clause-stage
 returns-in-Ok-clause-stage c =
     let of : Completed = completed_of c.args.self in
     let shape : shape_of c.shape.result ≡ of.log.shape = c.shape.ensures ∙ sym c.requires.closing.complete.shape in
     (closing-is of c.requires.closing.complete c.args.member c.requires.least c.requires.most (shape_of c.shape.result) c.in-Some.post.now c.deref.result.now c.in-Ok.content
-        c.in-Some.ensures.post (c.deref.ensures.value ∙ c.items.ensures) shape c.in-Ok.ensures.exact).1
+    c.in-Some.ensures.post (c.deref.ensures.value ∙ c.items.ensures) shape c.in-Ok.ensures.exact).1

@@ -1,10 +1,8 @@
-use Rattle.std.proofs.Common.{◌≡◌, ℕ, List, [], ◌∷◌, ◌++◌, ap, sym, ◌∙◌, arith, subst, length, ◌<◌, ◌^◌, All}
+use Rattle.std.proofs.Common.{◌≡◌, ℕ, List, [], ◌∷◌, ◌++◌, sym, ◌∙◌, arith, subst, length, ◌<◌, ◌^◌, All}
 use Rattle.std.proofs.lemmas.List.Elements.{All-push}
-use Rattle.phase_message.specs.Shape.{Shape}
 use Rattle.honest_say.proofs.Members.{member-next}
 use Rattle.round_spec.specs.Verdict.{sent_in}
 use Rattle.closing_verdict.specs.Judgement.{Completed, completed_of, stage_closed}
-use Rattle.closing_verdict.proofs.ClosingPosts.{closing-slot}
 use Rattle.closing_verdict.proofs.judging.Closing.closings_sent.Goals as goal
 
 pub loop-sender-preserved : goal.loop-sender-preserved

@@ -1,16 +1,14 @@
-use Rattle.std.proofs.Common.{◌≡◌, true, ℕ, ◌+◌, ◌≤◌, List, [], ◌∷◌, ◌++◌, Some, map, take, length, ap, sym, ◌∙◌, subst, arith, rules}
+use Rattle.std.proofs.Common.{◌≡◌, true, ℕ, ◌≤◌, List, [], ◌∷◌, ◌++◌, Some, map, take, ap, sym, ◌∙◌, subst, rules}
 use Rattle.phase_message.specs.Post.{post_spelling}
 use Rattle.phase_message.specs.Shape.{Shape}
 use Rattle.phase_message.specs.Slots.{slots_before}
-use Rattle.shuffle_blame.specs.Asked.{past_of}
 use Rattle.transcript_form.specs.declared.accusation.Accusation.{Accusation}
 use Rattle.transcript_form.specs.declared.claim.Claim.TheVariants.{Pad}
-use Rattle.transcript_form.specs.Transcript.{IsTranscript}
 use Rattle.round_spec.specs.Slots.{pad_stage}
-use Rattle.round_spec.specs.Verdict.{ClosedStage, Verdict, Convicts, bad_pad, past_at, sent_in, shape_at}
+use Rattle.round_spec.specs.Verdict.{ClosedStage, Verdict, bad_pad, past_at, sent_in, shape_at}
 use Rattle.round_spec.proofs.SealedBytes.{all-items}
 use Rattle.closing_verdict.specs.declared.convicting.Conviction.{Conviction}
-use Rattle.closing_verdict.specs.Convicting.{IsConvictionBy, TellsConviction, transcript_of}
+use Rattle.closing_verdict.specs.Convicting.{IsConvictionBy, TellsConviction}
 use Rattle.closing_verdict.specs.Judgement.{Completed, IsComplete, completed_of, stage_closed}
 use Rattle.closing_verdict.specs.Telling.{is_held_at}
 use Rattle.closing_verdict.proofs.Accusings.{held-member}

@@ -1,4 +1,4 @@
-use Rattle.std.proofs.Common.{◌≡◌, ℕ, ◌+◌, ◌≤◌, List, Option, length, map, ap, sym, ◌∙◌, arith}
+use Rattle.std.proofs.Common.{ℕ, ◌+◌, List, Option, length, map, ap, ◌∙◌, arith}
 use Rattle.std.specs.Option.{option_copied, option_map}
 use Rattle.std.proofs.lemmas.List.{length-map}
 use Rattle.phase_message.specs.Shape.{Shape}
@@ -9,9 +9,8 @@ use Rattle.honest_say.specs.declared.opening.Slots.{Slots}
 use Rattle.honest_say.proofs.OpeningLemmas.{pads-count}
 use Rattle.round_spec.specs.Slots.{bulk_place}
 use Rattle.round_spec.specs.Verdict.{is_held}
-use Rattle.closing_verdict.specs.declared.judging.Closing.{Closing}
-use Rattle.closing_verdict.specs.Carried.{AreSlotsOf, stage_found}
-use Rattle.closing_verdict.specs.Judgement.{Completed, IsToBeJudged, completed_of}
+use Rattle.closing_verdict.specs.Carried.{stage_found}
+use Rattle.closing_verdict.specs.Judgement.{Completed, completed_of}
 use Rattle.closing_verdict.proofs.Accusings.{held-is}
 use Rattle.closing_verdict.proofs.Carrying.{keys-now, slots-now, slots-there}
 use Rattle.closing_verdict.proofs.judging.Closing.is_held.Goals as goal
@@ -24,8 +23,18 @@ holds-requires-clause-keys c =
     let descriptors = ap (λ (t : List (Option Descriptor)). length t) c.items.ensures in
     let keys = ap (λ (t : List (List ℕ)). length t) c.items-keys.ensures in
     let pads = ap (λ (t : List (List (List ℕ))). length t) are.pads in
-    omega (arith, keys, descriptors, pads, are.fit.members, length-map slots.descriptors (option_map description_of), pads-count log.shape (past_of log (stage_found log)), c.requires.closing.keys.counts.bulk_keys,
-    c.items.result.now.ok.0, c.items-keys.result.now.ok.0)
+    omega (
+      arith,
+      keys,
+      descriptors,
+      pads,
+      are.fit.members,
+      length-map slots.descriptors (option_map description_of),
+      pads-count log.shape (past_of log (stage_found log)),
+      c.requires.closing.keys.counts.bulk_keys,
+      c.items.result.now.ok.0,
+      c.items-keys.result.now.ok.0,
+    )
 
 pub returns : goal.returns
 returns c =

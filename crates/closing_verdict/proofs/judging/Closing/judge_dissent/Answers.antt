@@ -1,4 +1,4 @@
-use Rattle.std.proofs.Common.{ap, sym, ◌∙◌, arith, rules}
+use Rattle.std.proofs.Common.{arith, rules}
 use Rattle.closing_verdict.specs.Judgement.{Completed, completed_of}
 use Rattle.closing_verdict.proofs.Dissents.{blamed-one, culprit-is, never-spared, replay-charge, replay-told}
 use Rattle.closing_verdict.proofs.PadPosts.{front-some}

@@ -1,4 +1,4 @@
-use Rattle.std.proofs.Common.{◌≡◌, ℕ, ◌+◌, ◌≤◌, All, true, List, length, map, Option, Some, None, ap, sym, ◌∙◌, subst, arith}
+use Rattle.std.proofs.Common.{◌≡◌, ℕ, ◌+◌, All, true, List, length, map, Option, Some, ap, sym, ◌∙◌, subst, arith}
 use Rattle.std.specs.Prelude.{option_map}
 use Rattle.std.specs.List.{list_all}
 use Rattle.std.proofs.lemmas.List.{length-map}
@@ -7,7 +7,7 @@ use Rattle.phase_message.specs.declared.stage.StageKind.{StageKind}
 use Rattle.phase_message.specs.declared.stage.StageKind.TheVariants.{Final as AtFinal}
 use Rattle.phase_message.specs.Stages.{kind_of_stage}
 use Rattle.shuffle_blame.specs.Asked.{past_of}
-use Rattle.round_spec.specs.Slots.{final_stage, inner_place, items_opened, keys_said}
+use Rattle.round_spec.specs.Slots.{inner_place, items_opened, keys_said}
 use Rattle.round_spec.specs.Verdict.{agreed_at, wrong_seed}
 use Rattle.closing_verdict.specs.declared.reading.Told.{Told}
 use Rattle.closing_verdict.specs.Closed.{AreTold}
@@ -71,9 +71,9 @@ returns-then-shuffle-eq1 c =
     record {
       at = c.requires.at ∙ ap (λ (s : ℕ). some_final s) c.if-shuffle-eq1.true;
       verdict = first-goes (stage_closed x) (verdict_in x) c.args.shuffle c.wrong_seed.result
-      (final-verdict x told c.args.shuffle is c.requires.told c.requires.agree c.requires.at)
-      (wrong-found x told c.deref-2.result.now c.in_ok-seeds.seeds.items c.inner_keys.result.now c.args.shuffle c.wrong_seed.result is c.requires.told c.deref-2.ensures.value seeds_are c.inner_keys.ensures.keys
-      c.wrong_seed.ensures) c.in_default.is c.if-shuffle-eq1.true;
+          (final-verdict x told c.args.shuffle is c.requires.told c.requires.agree c.requires.at)
+          (wrong-found x told c.deref-2.result.now c.in_ok-seeds.seeds.items c.inner_keys.result.now c.args.shuffle c.wrong_seed.result is c.requires.told c.deref-2.ensures.value seeds_are c.inner_keys.ensures.keys
+          c.wrong_seed.ensures) c.in_default.is c.if-shuffle-eq1.true;
       opened = record {
         are = c.in_ok-items.ensures.value ∙ ap (λ (stage : ℕ). items_opened log.shape (past_of log (stage + 1)) 1) ends;
         count = omega (arith, c.in_ok-items.items.ok.0, c.in_ok-items.ensures.count);

@@ -1,12 +1,10 @@
-use Rattle.std.proofs.Common.{◌≡◌, ℕ, All, List, Some, map, ap, sym, ◌∙◌, subst}
+use Rattle.std.proofs.Common.{Some, ap, sym, ◌∙◌}
 use Rattle.phase_message.specs.declared.stage.StageKind.{StageKind}
-use Rattle.phase_message.specs.declared.stage.StageKind.TheVariants.{Final as AtFinal}
 use Rattle.phase_message.specs.Shape.{Shape}
 use Rattle.phase_message.specs.Stages.{kind_of_stage}
 use Rattle.round_spec.specs.Slots.{by_member}
 use Rattle.round_spec.specs.Verdict.{closing_body, shown_at, shown_in}
 use Rattle.closing_verdict.specs.Judgement.{Completed, completed_of, stage_closed}
-use Rattle.closing_verdict.specs.Telling.{part_told}
 use Rattle.closing_verdict.proofs.Agreements.{all-parts, parts-told}
 use Rattle.closing_verdict.proofs.ClosingPosts.{if-ok}
 use Rattle.closing_verdict.proofs.judging.Closing.outer_shown.Goals as goal

@@ -1,4 +1,4 @@
-use Rattle.std.proofs.Common.{◌≡◌, ℕ, ◌+◌, List, [], ◌∷◌, ◌++◌, ap, sym, ◌∙◌, arith, subst, length, ◌<◌, ◌^◌, All, take, map, true}
+use Rattle.std.proofs.Common.{◌≡◌, ℕ, ◌+◌, List, [], ◌∷◌, ◌++◌, ap, sym, ◌∙◌, subst, length, ◌<◌, ◌^◌, All, take, map, true}
 use Rattle.std.specs.Prelude.{IsSome}
 use Rattle.std.proofs.lemmas.List.Elements.{All-push}
 use Rattle.phase_message.specs.Post.{post_spelling}
@@ -33,7 +33,7 @@ returns-clause-value c =
     let stage : c.shape-stage.result.members + 4 ≡ pad_stage of.log.shape = ap (λ (s : Shape). s.members + 4) (c.shape-stage.ensures ∙ sym c.requires.closing.complete.shape) in
     c.in_ok-push.ensures.items
     ∙ ap (λ (front : List (List ℕ)). front ++ c.in_ok-pads.pads ∷ [])
-        (c.in_ok-posts.ensures ∙ ap (λ (k : ℕ). map post_spelling (posts_before of.log k)) stage ∙ ap (map post_spelling) (front-is of c.requires.closing.complete (pad_stage of.log.shape) c.requires.later))
+    (c.in_ok-posts.ensures ∙ ap (λ (k : ℕ). map post_spelling (posts_before of.log k)) stage ∙ ap (map post_spelling) (front-is of c.requires.closing.complete (pad_stage of.log.shape) c.requires.later))
     ∙ ap (λ (last : List ℕ). map post_spelling (take (slots_before of.log.shape (pad_stage of.log.shape)) (posts_before of.log (of.stage + 1))) ++ last ∷ []) (c.in_ok-pads.ensures.value ∙ ap said stage)
 
 pub returns-clause-short : goal.returns-clause-short
@@ -43,8 +43,8 @@ returns-clause-short c =
     let front : c.in_ok-posts.posts.items ≡ map post_spelling (posts_before of.log (pad_stage of.log.shape)) = c.in_ok-posts.ensures ∙ ap (λ (k : ℕ). map post_spelling (posts_before of.log k)) stage in
     subst (λ (list : List (List ℕ)). All (λ entry. length entry < 2 ^ 32) list) (sym c.in_ok-push.ensures.items)
     (All-push (λ entry. length entry < 2 ^ 32) c.in_ok-posts.posts.items c.in_ok-pads.pads
-        (subst (λ (list : List (List ℕ)). All (λ entry. length entry < 2 ^ 32) list) (sym front) (front-short of c.requires.closing.complete (pad_stage of.log.shape) c.requires.later))
-        c.in_ok-pads.ensures.short)
+    (subst (λ (list : List (List ℕ)). All (λ entry. length entry < 2 ^ 32) list) (sym front) (front-short of c.requires.closing.complete (pad_stage of.log.shape) c.requires.later))
+    c.in_ok-pads.ensures.short)
 
 pub returns-clause-count : goal.returns-clause-count
 returns-clause-count c =

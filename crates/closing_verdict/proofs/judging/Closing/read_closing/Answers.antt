@@ -1,5 +1,4 @@
-use Rattle.std.proofs.Common.{◌≡◌, ℕ, ◌+◌, ◌-◌, ◌≤◌, List, Option, Some, None, ap, sym, ◌∙◌, subst, arith}
-use Rattle.std.specs.Prelude.{IsTrue}
+use Rattle.std.proofs.Common.{◌≡◌, ℕ, ◌-◌, ◌≤◌, Option, Some, None, ap, sym, ◌∙◌, subst, arith}
 use Rattle.phase_message.specs.Shape.{Shape}
 use Rattle.closing_verdict.specs.declared.convicting.Conviction.{Conviction}
 use Rattle.closing_verdict.specs.declared.reading.Found.{Found}

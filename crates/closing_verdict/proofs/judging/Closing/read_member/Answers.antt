@@ -1,4 +1,4 @@
-use Rattle.std.proofs.Common.{◌≡◌, Option, Some, true, ap, sym, ◌∙◌}
+use Rattle.std.proofs.Common.{◌≡◌, Option, true, ap, sym, ◌∙◌}
 use Rattle.std.specs.Prelude.{is_some}
 use Rattle.stage_log.specs.Table.{Log}
 use Rattle.round_spec.specs.Embedded.{is_content_justified}

@@ -1,5 +1,4 @@
-use Rattle.std.proofs.Common.{◌≡◌, ℕ, ◌+◌, ◌-◌, ◌<◌, ◌≤◌, ◌^◌, List, [], Option, Some, true, ap, sym, ◌∙◌, subst, arith, length, get_or}
-use Rattle.phase_message.specs.declared.post.Post.{Post}
+use Rattle.std.proofs.Common.{◌≡◌, ℕ, ◌+◌, ◌-◌, ◌<◌, ◌≤◌, ◌^◌, List, [], ap, sym, ◌∙◌, subst, arith, length, get_or}
 use Rattle.phase_message.specs.Shape.{Shape}
 use Rattle.phase_message.specs.Slots.{slot_number}
 use Rattle.phase_message.specs.Stages.{shape_of}

@@ -1,0 +1,130 @@
+use Rattle.std.proofs.Common.{◌≡◌, ℕ, ◌+◌, ◌*◌, ◌≤◌, List, length, refl, ap, sym, ◌∙◌, arith}
+use Rattle.std.proofs.lemmas.Result.{err_from_is_err_and}
+use Rattle.phase_message.specs.Shape.{Shape}
+use Rattle.bulk_descriptor.specs.Descriptor.{Description, descriptor_text}
+use Rattle.bulk_descriptor.specs.Fields.{description_of}
+use Rattle.shuffle_blame.specs.Asked.{past_of}
+use Rattle.round_spec.specs.Slots.{bulk_place, keys_said}
+use Rattle.round_spec.specs.Say.{own_description, shape_in}
+use Rattle.honest_say.specs.Own.{AreBulkSecrets}
+use Rattle.closing_verdict.specs.Carried.{AreKeysOf}
+use Rattle.member_core.specs.Sound.{IsMachineOf}
+use Rattle.member_core.proofs.Belonging.{carried-keys, carries-first, held-is, keys-here, not-missing, seeds-count, shape-is}
+use Rattle.member_core.proofs.Describing.{own-hashes, text-long}
+use Rattle.member_core.proofs.machine.Machine.descriptor_due.Goals as goal
+
+pub unreachable-requires : goal.unreachable-requires
+unreachable-requires g c =
+    let m = c.args.self.now in
+    let none = carries-first m.log m.stage m.keys c.in_default.is c.requires.ready.keys in
+    omega (arith, none, c.requires.behind)
+
+pub unreachable-unreachable : goal.unreachable-unreachable
+unreachable-unreachable g c = c.unreachable.type_inv
+
+pub unreachable-requires-in_default-bulk : goal.unreachable-requires-in_default-bulk
+unreachable-requires-in_default-bulk g c = not-missing c.args.self.now.secrets.bulk c.requires.held c.in_default-bulk.is
+
+pub unreachable-unreachable-in_default-bulk : goal.unreachable-unreachable-in_default-bulk
+unreachable-unreachable-in_default-bulk g c = c.unreachable-in_default-bulk.type_inv
+
+pub make_descriptor-requires-clause-keys : goal.make_descriptor-requires-clause-keys
+make_descriptor-requires-clause-keys g c =
+    let m = c.args.self.now in
+    let keys : AreKeysOf m.log c.in-Some.keys = carried-keys m.log m.stage m.keys c.in-Some.keys c.in-Some.is c.requires.ready.keys in
+    let members = ap (λ (s : Shape). s.members) c.requires.formed.shape in
+    let same = ap (λ (k : List (List ℕ)). length k) c.items.ensures in
+    omega (arith, c.items.result.now.ok.0, same, keys.counts.bulk_keys, members)
+
+pub make_descriptor-requires-clause-seeds : goal.make_descriptor-requires-clause-seeds
+make_descriptor-requires-clause-seeds g c =
+    let m = c.args.self.now in
+    seeds-count m c.in-Some-bulk.bulk c.requires.formed c.in-Some-bulk.is ∙ ap (λ (s : Shape). s.members) c.requires.formed.shape
+
+pub make_descriptor-requires-clause-short : goal.make_descriptor-requires-clause-short
+make_descriptor-requires-clause-short g c =
+    let same = ap (λ (t : List ℕ). length t) (c.deref.ensures.value ∙ c.items-message.ensures) in
+    let short = c.requires.formed.message in
+    omega (arith, same, short)
+
+pub same-own_pad : goal.same-own_pad
+same-own_pad g c = refl
+
+pub returns-clause-long : goal.returns-clause-long
+returns-clause-long g c =
+    let m = c.args.self.now in
+    let past : List (List ℕ) = past_of m.log m.stage in
+    let keys = keys-here m.log m.stage c.in-Some.keys (carried-keys m.log m.stage m.keys c.in-Some.keys c.in-Some.is c.requires.ready.keys) c.requires.behind c.requires.ready.past in
+    let own : length c.in_ok-made.made.descriptor.pad_hashes ≡ m.log.shape.members = own-hashes m (description_of c.in_ok-made.made.descriptor) c.requires.formed (λ config is.
+    c.in_ok-made.ensures.descriptor config past is.seat (held-is m.secrets.bulk c.in-Some-bulk.bulk (AreBulkSecrets config) c.in-Some-bulk.is is.secrets.bulk)
+    (c.deref.ensures.value ∙ c.items-message.ensures ∙ is.message)
+    (c.items.ensures ∙ keys.bulk ∙ ap (λ (s : Shape). keys_said s past bulk_place) (shape-is config m c.requires.formed is.seat))) in
+    let many : length c.in_ok-descriptor.descriptor.pad_hashes ≡ m.log.shape.members = c.in_ok-descriptor.ensures.members ∙ own in
+    ap (λ (t : List ℕ). length t) (c.of.ensures ∙ c.in_ok-bytes.ensures.value)
+    ∙ text-long (length c.in_ok-descriptor.descriptor.pad_hashes) (description_of c.in_ok-descriptor.descriptor) c.in_ok-bytes.ensures.grammar
+    ∙ ap (λ (n : ℕ). 36 + 2272 * n) many
+
+pub returns-clause-told : goal.returns-clause-told
+returns-clause-told g c = λ config seat secrets message.
+    let m = c.args.self.now in
+    let past : List (List ℕ) = past_of m.log m.stage in
+    let keys = keys-here m.log m.stage c.in-Some.keys (carried-keys m.log m.stage m.keys c.in-Some.keys c.in-Some.is c.requires.ready.keys) c.requires.behind c.requires.ready.past in
+    let own : description_of c.in_ok-made.made.descriptor ≡ own_description config past
+    = c.in_ok-made.ensures.descriptor config past seat (held-is m.secrets.bulk c.in-Some-bulk.bulk (AreBulkSecrets config) c.in-Some-bulk.is secrets.bulk)
+    (c.deref.ensures.value ∙ c.items-message.ensures ∙ message)
+    (c.items.ensures ∙ keys.bulk ∙ ap (λ (s : Shape). keys_said s past bulk_place) (shape-is config m c.requires.formed seat)) in
+    c.of.ensures ∙ c.in_ok-bytes.ensures.value
+    ∙ ap descriptor_text (c.in_ok-descriptor.ensures.told ∙ ap (g.C.Conduct.replies c.args.conduct.now).descriptor own)
+
+pub returns-clause-pad : goal.returns-clause-pad
+returns-clause-pad g c = λ config seat secrets message.
+    let m = c.args.self.now in
+    c.in_ok-made.ensures.pad config seat (held-is m.secrets.bulk c.in-Some-bulk.bulk (AreBulkSecrets config) c.in-Some-bulk.is secrets.bulk)
+    (c.deref.ensures.value ∙ c.items-message.ensures ∙ message)
+
+pub returns-clause-then : goal.returns-clause-then
+returns-clause-then g c = λ config seat secrets message.
+    let m = c.args.self.now in
+    let past : List (List ℕ) = past_of m.log m.stage in
+    let keys = keys-here m.log m.stage c.in-Some.keys (carried-keys m.log m.stage m.keys c.in-Some.keys c.in-Some.is c.requires.ready.keys) c.requires.behind c.requires.ready.past in
+    let own : description_of c.in_ok-made.made.descriptor ≡ own_description config past
+    = c.in_ok-made.ensures.descriptor config past seat (held-is m.secrets.bulk c.in-Some-bulk.bulk (AreBulkSecrets config) c.in-Some-bulk.is secrets.bulk)
+    (c.deref.ensures.value ∙ c.items-message.ensures ∙ message)
+    (c.items.ensures ∙ keys.bulk ∙ ap (λ (s : Shape). keys_said s past bulk_place) (shape-is config m c.requires.formed seat)) in
+    c.in_ok-descriptor.ensures.then ∙ ap (g.C.Conduct.replies c.args.conduct.now).speech_after own
+
+pub returns-in_err-made-clause-long : goal.returns-in_err-made-clause-long
+returns-in_err-made-clause-long g c = (let p = err_from_is_err_and c.from_residual.result c.from_residual.ensures.1 in rw p.1 tt)
+
+pub returns-in_err-made-clause-told : goal.returns-in_err-made-clause-told
+returns-in_err-made-clause-told g c = (let p = err_from_is_err_and c.from_residual.result c.from_residual.ensures.1 in rw p.1 tt)
+
+pub returns-in_err-made-clause-pad : goal.returns-in_err-made-clause-pad
+returns-in_err-made-clause-pad g c = (let p = err_from_is_err_and c.from_residual.result c.from_residual.ensures.1 in rw p.1 tt)
+
+pub returns-in_err-made-clause-then : goal.returns-in_err-made-clause-then
+returns-in_err-made-clause-then g c = (let p = err_from_is_err_and c.from_residual.result c.from_residual.ensures.1 in rw p.1 tt)
+
+pub returns-in_err-descriptor-clause-long : goal.returns-in_err-descriptor-clause-long
+returns-in_err-descriptor-clause-long g c = (let p = err_from_is_err_and c.from_residual-in_err-descriptor.result c.from_residual-in_err-descriptor.ensures.1 in rw p.1 tt)
+
+pub returns-in_err-descriptor-clause-told : goal.returns-in_err-descriptor-clause-told
+returns-in_err-descriptor-clause-told g c = (let p = err_from_is_err_and c.from_residual-in_err-descriptor.result c.from_residual-in_err-descriptor.ensures.1 in rw p.1 tt)
+
+pub returns-in_err-descriptor-clause-pad : goal.returns-in_err-descriptor-clause-pad
+returns-in_err-descriptor-clause-pad g c = (let p = err_from_is_err_and c.from_residual-in_err-descriptor.result c.from_residual-in_err-descriptor.ensures.1 in rw p.1 tt)
+
+pub returns-in_err-descriptor-clause-then : goal.returns-in_err-descriptor-clause-then
+returns-in_err-descriptor-clause-then g c = (let p = err_from_is_err_and c.from_residual-in_err-descriptor.result c.from_residual-in_err-descriptor.ensures.1 in rw p.1 tt)
+
+pub returns-in_err-bytes-clause-long : goal.returns-in_err-bytes-clause-long
+returns-in_err-bytes-clause-long g c = (let p = err_from_is_err_and c.from_residual-in_err-bytes.result c.from_residual-in_err-bytes.ensures.1 in rw p.1 tt)
+
+pub returns-in_err-bytes-clause-told : goal.returns-in_err-bytes-clause-told
+returns-in_err-bytes-clause-told g c = (let p = err_from_is_err_and c.from_residual-in_err-bytes.result c.from_residual-in_err-bytes.ensures.1 in rw p.1 tt)
+
+pub returns-in_err-bytes-clause-pad : goal.returns-in_err-bytes-clause-pad
+returns-in_err-bytes-clause-pad g c = (let p = err_from_is_err_and c.from_residual-in_err-bytes.result c.from_residual-in_err-bytes.ensures.1 in rw p.1 tt)
+
+pub returns-in_err-bytes-clause-then : goal.returns-in_err-bytes-clause-then
+returns-in_err-bytes-clause-then g c = (let p = err_from_is_err_and c.from_residual-in_err-bytes.result c.from_residual-in_err-bytes.ensures.1 in rw p.1 tt)
