@@ -14,7 +14,7 @@ use Rattle.round_spec.specs.Say.{Configuration}
 use Rattle.round_spec.specs.Verdict.{Verdict, Goes, Done as DoneVerdict, Convicts}
 use Rattle.member_spec.specs.declared.taken.Taken.{Taken}
 use Rattle.member_spec.specs.declared.taken.Taken.TheVariants.{Evidence, Finished}
-use Rattle.member_spec.specs.Actor.{Actor, actor_after, actor_at_start, actor_behind_delivery}
+use Rattle.member_spec.specs.Actor.{Actor, actor_after, actor_at_start, actor_behind_delivery, actor_behind_steps, first_actor}
 use Rattle.member_spec.specs.Outcomes.{members_missing, outcome_of}
 use Rattle.member_spec.specs.Replies.{Replies}
 use Rattle.member_spec.specs.Taking.{answer_to}
@@ -137,3 +137,20 @@ ok-same a b e = cc
 
 pub ended-not-evidence : Finished ≡ Evidence → ⊥
 ended-not-evidence e = cc
+
+-- ---- the start
+
+no-strings : All IsBytes []
+no-strings k d lt = absurd (omega (arith, lt))
+
+at-start : (start : Replies) (c : Configuration) → actor_after start c [] ≡ actor_behind_steps start c (first_actor c)
+unfolding actor_after
+at-start start c = refl
+
+-- a member that has entered and gone on stands for no deliveries
+pub started-stands : {A : Type 0} (replies_of : A → Replies) (start : Replies) (c : Configuration) (m : Membership A)
+    → StandsFor (replies_of m.conduct) start c (actor_behind_steps start c (first_actor c)) m.holds → Stands replies_of start c [] m
+started-stands replies_of start c m is = record {
+  strings = no-strings;
+  stands = subst (λ (a : Actor). StandsFor (replies_of m.conduct) start c a m.holds) (sym (at-start start c)) is;
+}
