@@ -25,3 +25,4 @@ pub mod PassedStages
 pub mod Delivering
 pub mod Verdicts
 mod Describing
+pub mod Dispatch
