@@ -26,3 +26,4 @@ pub mod Delivering
 pub mod Verdicts
 mod Describing
 pub mod Dispatch
+mod Hearing
