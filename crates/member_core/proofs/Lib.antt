@@ -27,3 +27,4 @@ pub mod Verdicts
 mod Describing
 pub mod Dispatch
 mod Hearing
+pub mod TurnSteps
