@@ -28,3 +28,4 @@ mod Describing
 pub mod Dispatch
 mod Hearing
 pub mod TurnSteps
+mod Submitted
