@@ -27,10 +27,10 @@ asked-other stage other apart = less stage other apart
     less : (a b : ℕ) → (b ≡ a → ⊥) → nat_lt b (a + 1) ≡ nat_lt b a
     less a b apart = search rules
 
-asked-here : (stage : ℕ) → was_asked stage Spoken stage ≡ true
+pub asked-here : (stage : ℕ) → was_asked stage Spoken stage ≡ true
 asked-here stage = search rules
 
-asked-same : (m : Machine) (other : ℕ) → IsToBeAsked m → (other ≡ m.stage → ⊥) → was_asked m.stage Spoken other ≡ was_asked m.stage m.mood other
+pub asked-same : (m : Machine) (other : ℕ) → IsToBeAsked m → (other ≡ m.stage → ⊥) → was_asked m.stage Spoken other ≡ was_asked m.stage m.mood other
 asked-same m other asked apart = asked-other m.stage other apart ∙ ap (λ (mood : Mood). was_asked m.stage mood other) (sym asked.unasked)
 
 -- ---- its secrets

@@ -53,7 +53,7 @@ pub posts-heard : (now start : Replies) (c : Configuration) (a : Actor) (m : Mac
 posts-heard now start c a m stands = posts-are m.log m.stage a.stand.past stands.at.past
 
 -- a body at a stage that closes nothing
-plain-due : (now : Replies) (m : Machine) (kind : StageKind) (body : Body) → IsFormed m → IsToBeAsked m → kind_of_stage m.log.shape m.stage ≡ Some kind → IsPlain kind
+pub plain-due : (now : Replies) (m : Machine) (kind : StageKind) (body : Body) → IsFormed m → IsToBeAsked m → kind_of_stage m.log.shape m.stage ≡ Some kind → IsPlain kind
     → IsBody m.log.shape m.stage body
     → ((start : Replies) (c : Configuration) (a : Actor) → StandsFor now start c a (holdings_of m) → body ≡ own_body_at c (descriptor_made start c a.stand.past) a.stand.past a.stand.at kind)
     → 76 + length (body_text body) ≤ POST_LIMIT

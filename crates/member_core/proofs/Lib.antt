@@ -25,3 +25,7 @@ pub mod PassedStages
 pub mod Delivering
 pub mod Verdicts
 mod Describing
+pub mod Dispatch
+mod Hearing
+pub mod TurnSteps
+mod Submitted

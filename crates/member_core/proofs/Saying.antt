@@ -67,3 +67,8 @@ if-err (Err x) P is = tt
 pub ok-so : {A E : Type 0} (r : Result A E) (P Q : A → Type 0) → ((x : A) → P x → Q x) → IfOk r P → IfOk r Q
 ok-so (Ok x) P Q leads is = leads x is
 ok-so (Err x) P Q leads is = tt
+
+-- nor where memory was there, of what holds anyway
+pub ok-all : {A E : Type 0} (r : Result A E) (Q : A → Type 0) → ((x : A) → Q x) → IfOk r Q
+ok-all (Ok x) Q all = all x
+ok-all (Err x) Q all = tt

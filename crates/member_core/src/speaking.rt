@@ -126,6 +126,7 @@ impl Machine {
     }
 
     // The body that the rules give it to say at a stage of a kind that changes nothing else.
+    #[tactic(none)]
     fn row_due(&self, alloc: Global, kind: StageKind) -> Mem<Body>
         requires formed { IsFormed self.now }
         requires ready { IsReady self.now }
@@ -162,12 +163,14 @@ impl Machine {
             StandsFor (C.replies conduct.old) start c a (holdings_of self.old) →
             StandsAsked (C.replies conduct.new) start c a (holdings_of self.new)) }
     {
-        match stage_kind(self.seat.shape, self.stage) {
-            Some(StageKind::Submit { shuffle: 1 }) => self.first_submission_due(alloc, conduct),
-            Some(StageKind::Submit { .. }) => self.second_submission_due(alloc),
-            Some(StageKind::Final { shuffle }) => self.end_due(alloc, shuffle),
-            Some(kind) => self.row_due(alloc, kind),
-            None => unreachable!(),
+        let Some(kind) = stage_kind(self.seat.shape, self.stage) else {
+            unreachable!()
+        };
+        match kind {
+            StageKind::Submit { shuffle: 1 } => self.first_submission_due(alloc, conduct),
+            StageKind::Submit { .. } => self.second_submission_due(alloc),
+            StageKind::Final { shuffle } => self.end_due(alloc, shuffle),
+            _ => self.row_due(alloc, kind),
         }
     }
 
