@@ -1,6 +1,7 @@
 -- Hearing a checked post of another member.
 use Rattle.std.proofs.Common.{◌≡◌, ◌⊎◌, ℕ, ◌+◌, ◌<◌, ◌≤◌, ◌^◌, Bool, true, false, List, [], ◌∷◌, ◌++◌, length, Option, Some, None, Result, Ok, Err, ap, sym, ◌∙◌, refl, subst, arith, inl, inr, length-append, eq-eqb}
 use Rattle.std.specs.Prelude.{◌==◌, IsSome, IsTrue, is_ok, if◌then◌else◌}
+use Rattle.std.proofs.lemmas.Bool.{eqb-true, false_from_ne_true}
 use Rattle.std.specs.Int.{w32, to_be_bytes}
 use Rattle.wire_core.specs.declared.cursor.Short.{Short}
 use Rattle.wire_core.specs.Bytes.{IsBytes}
@@ -18,6 +19,8 @@ use Rattle.phase_message.proofs.SlotBounds.{slot-bounds}
 use Rattle.phase_message.proofs.Whole.{content-header}
 use Rattle.group_roster.specs.Given.{roster_of}
 use Rattle.group_roster.specs.Roster.{Roster, shape_of_roster}
+use Rattle.signed_post.specs.declared.post.PostRefusal.{PostRefusal}
+use Rattle.signed_post.specs.declared.post.PostRefusal.TheVariants.{Frame}
 use Rattle.signed_post.specs.Admission.{Admitted, framed_admission_of}
 use Rattle.signed_post.specs.Frame.{FitsFrame, frame_of}
 use Rattle.signed_post.proofs.Admits.{admit-found}
@@ -35,7 +38,7 @@ use Rattle.closing_verdict.specs.Convicting.{TellsConviction}
 use Rattle.member_spec.specs.declared.mood.Mood.{Mood}
 use Rattle.member_spec.specs.declared.mood.Mood.TheVariants.{Unasked, PutOff, Spoken, Mute}
 use Rattle.member_spec.specs.declared.taken.Taken.{Taken}
-use Rattle.member_spec.specs.declared.taken.Taken.TheVariants.{Evidence, Same, Stored}
+use Rattle.member_spec.specs.declared.taken.Taken.TheVariants.{Evidence, Ignored, Own, Same}
 use Rattle.member_spec.specs.Actor.{Actor, actor_after, actor_behind_delivery, actor_behind_repeat, actor_behind_steps}
 use Rattle.member_spec.specs.Outcomes.{outcome_of}
 use Rattle.member_spec.specs.Replies.{Replies}
@@ -53,7 +56,7 @@ use Rattle.member_core.specs.Sound.{IsFormed, IsMachineOf, IsSound}
 use Rattle.member_core.specs.Stands.{GoesOn, IsOwnOf, KeepsOwn, ShowsOutcome, StandsFor}
 use Rattle.member_core.proofs.Answering.{answer-same}
 use Rattle.member_core.proofs.Belonging.{seat-of, shape-is}
-use Rattle.member_core.proofs.Comings.{ComesTo, IsNew, found-new, found-other, malformed-comes, new-comes, other-comes, same-comes}
+use Rattle.member_core.proofs.Comings.{ComesTo, IsNew, found-new, found-other, malformed-comes, new-comes, other-comes, own-comes, refused-comes, same-comes, unframed-comes}
 use Rattle.member_core.proofs.Passing.{needed-ended, no-secrets-of}
 use Rattle.member_core.proofs.Saying.{ok-read}
 use Rattle.member_core.proofs.Shown.{goes-on}
@@ -361,3 +364,50 @@ pub blame-busy : (now start : Replies) (c : Configuration) (delivered : List (Li
     → LeavesAll (answer_to start c (actor_after start c delivered) bytes) → ⊥
 blame-busy now start c delivered m bytes header post found kind f going is told s leaves =
     subst LeavesAll (blame-comes now start c delivered m bytes header post found kind f going is told s).answer leaves
+
+-- ---- what is no checked post of another
+
+pub takes-unframed : (now start : Replies) (c : Configuration) (delivered : List (List ℕ)) (m : Machine) (bytes : List ℕ) (at : ℕ) → IsOpen m.ending
+    → frame_of bytes ≡ Err at → StandsFor now start c (actor_after start c delivered) (holdings_of m)
+    → TakesAs now start c delivered bytes (holdings_of m) (Ignored (Frame at))
+takes-unframed now start c delivered m bytes at going e s =
+    let a : Actor = actor_after start c delivered in
+    let comes = unframed-comes start c a bytes at (goes-on c a (holdings_of m) s.at going) e in
+    record { stands = subst (λ (b : Actor). StandsFor now start c b (holdings_of m)) (sym comes.behind) s; answer = sym comes.answer; }
+
+admission-so : (now start : Replies) (c : Configuration) (a : Actor) (m : Machine) (post : Post) (answer : Result Header PostRefusal)
+    → StandsFor now start c a (holdings_of m) → answer ≡ framed_admission_of (roster_of m.roster) m.seat.round post
+    → framed_admission_of c.roster c.round post ≡ answer
+admission-so now start c a m post answer s e =
+    sym (ap (λ (roster : Roster). framed_admission_of roster m.seat.round post) s.entered.roster
+    ∙ ap (λ (round : ℕ). framed_admission_of c.roster round post) s.entered.round) ∙ sym e
+
+pub takes-refused : (now start : Replies) (c : Configuration) (delivered : List (List ℕ)) (m : Machine) (bytes : List ℕ) (post : Post)
+    (refusal : PostRefusal) → IsOpen m.ending → frame_of bytes ≡ Ok post → Err refusal ≡ framed_admission_of (roster_of m.roster) m.seat.round post
+    → StandsFor now start c (actor_after start c delivered) (holdings_of m)
+    → TakesAs now start c delivered bytes (holdings_of m) (Ignored refusal)
+takes-refused now start c delivered m bytes post refusal going framed e s =
+    let a : Actor = actor_after start c delivered in
+    let comes = refused-comes start c a bytes post refusal (goes-on c a (holdings_of m) s.at going) framed
+        (admission-so now start c a m post (Err refusal) s e) in
+    record { stands = subst (λ (b : Actor). StandsFor now start c b (holdings_of m)) (sym comes.behind) s; answer = sym comes.answer; }
+
+pub takes-own : (now start : Replies) (c : Configuration) (delivered : List (List ℕ)) (m : Machine) (bytes : List ℕ) (header : Header) (post : Post)
+    → IsOpen m.ending → frame_of bytes ≡ Ok post → Ok header ≡ framed_admission_of (roster_of m.roster) m.seat.round post
+    → header.sender ≡ m.seat.number → StandsFor now start c (actor_after start c delivered) (holdings_of m)
+    → TakesAs now start c delivered bytes (holdings_of m) Own
+takes-own now start c delivered m bytes header post going framed e own s =
+    let a : Actor = actor_after start c delivered in
+    let comes = own-comes start c a bytes post header (goes-on c a (holdings_of m) s.at going) framed
+        (admission-so now start c a m post (Ok header) s e) (eq-eqb header.sender c.number (own ∙ s.entered.number)) in
+    record { stands = subst (λ (b : Actor). StandsFor now start c b (holdings_of m)) (sym comes.behind) s; answer = sym comes.answer; }
+
+-- a post of another that the checks pass
+pub another : (m : Machine) (bytes : List ℕ) (header : Header) (post : Post) → frame_of bytes ≡ Ok post
+    → Ok header ≡ framed_admission_of (roster_of m.roster) m.seat.round post → (header.sender ≡ m.seat.number → ⊥)
+    → IsOfAnother (roster_of m.roster) m.seat.round m.seat.number bytes header post
+another m bytes header post framed e apart = record {
+  framed = framed;
+  admitted = sym e;
+  other = false_from_ne_true (header.sender == m.seat.number) (λ same. apart (eqb-true header.sender m.seat.number same));
+}
