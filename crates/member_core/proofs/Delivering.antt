@@ -1,6 +1,6 @@
 -- A delivery to a member whose round has ended, and for what a member stands behind one that it took.
-use Rattle.std.proofs.Common.{◌≡◌, ◌⊎◌, ℕ, zero, suc, false, List, [], ◌∷◌, ◌++◌, inl, inr, ap, sym, ◌∙◌, refl, subst, arith}
-use Rattle.std.specs.Prelude.{All, Result, Ok, Err, if◌then◌else◌}
+use Rattle.std.proofs.Common.{[], ◌≡◌, ◌⊎◌, ℕ, zero, suc, false, List, ◌∷◌, ◌++◌, inl, inr, sym, ◌∙◌, refl, subst, arith}
+use Rattle.std.specs.Prelude.{All, Result, Ok, if◌then◌else◌}
 use Rattle.std.proofs.lemmas.Bool.{cond-false}
 use Rattle.std.proofs.lemmas.List.Elements.{All-append}
 use Rattle.std.proofs.lemmas.List.Sums.{fold-append}
@@ -22,12 +22,13 @@ use Rattle.member_spec.proofs.Idle.{ended-delivery}
 use Rattle.member_core.specs.declared.ending.Ending.{Ending}
 use Rattle.member_core.specs.declared.ending.Ending.TheVariants.{Open, Done, Blamed, Stopped}
 use Rattle.member_core.specs.Found.{TakesAs}
-use Rattle.member_core.specs.Membership.{HasBlamed, HasEnded, Holdings, IsOpen, IsOutOfMemory, IsRunning, Membership}
+use Rattle.member_core.specs.Membership.{HasEnded, IsOpen, IsOutOfMemory, IsRunning, Membership}
 use Rattle.member_core.specs.Stands.{ShowsOutcome, Stands, StandsFor}
 
 -- ---- what has ended the round
 
-pub has-ended : (ending : Ending) → ((slots : List SlotState) × (ending ≡ Done slots)) ⊎ ((conviction : Conviction) × (ending ≡ Blamed conviction)) → HasEnded ending
+pub has-ended : (ending : Ending) → ((slots : List SlotState) × (ending ≡ Done slots)) ⊎ ((conviction : Conviction) × (ending ≡ Blamed conviction))
+    → HasEnded ending
 has-ended ending (inl done) = subst HasEnded (sym done.1) tt
 has-ended ending (inr blamed) = subst HasEnded (sym blamed.1) tt
 
@@ -62,7 +63,8 @@ stopped-ended ending stopped is = ended-stops ending is stopped
 abbrev outcome_when : Configuration → Actor → Verdict → Outcome
 outcome_when c a v = if is_open v then WaitingFor a.stand.at (members_missing c a) else outcome_ended c a.stand v
 
-closed-by : (ending : Ending) (c : Configuration) (a : Actor) (v : Verdict) → HasEnded ending → ShowsOutcome ending (outcome_when c a v) → is_open v ≡ false
+closed-by : (ending : Ending) (c : Configuration) (a : Actor) (v : Verdict) → HasEnded ending → ShowsOutcome ending (outcome_when c a v)
+    → is_open v ≡ false
 closed-by ending c a DoneVerdict is shows = refl
 closed-by ending c a (Convicts transcript) is shows = refl
 closed-by Open c a Goes is shows = absurd is
@@ -107,7 +109,8 @@ more-bytes : (delivered : List (List ℕ)) (bytes : List ℕ) → All IsBytes de
 more-bytes delivered bytes all are = All-append IsBytes delivered (bytes ∷ []) all (one-bytes bytes are)
 
 -- behind a delivery that was taken a member stands for the deliveries with this one
-pub taken-stands : {A : Type 0} (replies_of : A → Replies) (start : Replies) (c : Configuration) (delivered : List (List ℕ)) (bytes : List ℕ) (taken : Taken) (new : Membership A)
+pub taken-stands : {A : Type 0} (replies_of : A → Replies) (start : Replies) (c : Configuration) (delivered : List (List ℕ)) (bytes : List ℕ)
+    (taken : Taken) (new : Membership A)
     → All IsBytes delivered → IsBytes bytes → TakesAs (replies_of new.conduct) start c delivered bytes new.holds taken
     → Stands replies_of start c (delivered ++ bytes ∷ []) new
 taken-stands replies_of start c delivered bytes taken new all are takes = record {
@@ -116,15 +119,18 @@ taken-stands replies_of start c delivered bytes taken new all are takes = record
 }
 
 -- and so it does where its round had ended, which changes nothing
-pub ended-stands : {A : Type 0} (replies_of : A → Replies) (start : Replies) (c : Configuration) (delivered : List (List ℕ)) (bytes : List ℕ) (m : Membership A)
+pub ended-stands : {A : Type 0} (replies_of : A → Replies) (start : Replies) (c : Configuration) (delivered : List (List ℕ)) (bytes : List ℕ)
+    (m : Membership A)
     → IsBytes bytes → HasEnded m.holds.ending → Stands replies_of start c delivered m → Stands replies_of start c (delivered ++ bytes ∷ []) m
 ended-stands replies_of start c delivered bytes m are is stands = record {
   strings = more-bytes delivered bytes stands.strings are;
   stands = subst (λ (a : Actor). StandsFor (replies_of m.conduct) start c a m.holds)
-      (sym (one-more start c delivered bytes ∙ ended-delivery start c (actor_after start c delivered) bytes (ended-closed replies_of start c delivered m stands is))) stands.stands;
+      (sym (one-more start c delivered bytes ∙ ended-delivery start c (actor_after start c delivered) bytes
+          (ended-closed replies_of start c delivered m stands is))) stands.stands;
 }
 
-pub ended-answer : {A : Type 0} (replies_of : A → Replies) (start : Replies) (c : Configuration) (delivered : List (List ℕ)) (bytes : List ℕ) (m : Membership A)
+pub ended-answer : {A : Type 0} (replies_of : A → Replies) (start : Replies) (c : Configuration) (delivered : List (List ℕ)) (bytes : List ℕ)
+    (m : Membership A)
     → HasEnded m.holds.ending → Stands replies_of start c delivered m → Finished ≡ answer_to start c (actor_after start c delivered) bytes
 unfolding answer_to
 ended-answer replies_of start c delivered bytes m is stands =

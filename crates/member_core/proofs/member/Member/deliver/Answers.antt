@@ -1,11 +1,7 @@
-use Rattle.std.proofs.Common.{◌≡◌, ℕ, ◌++◌, ◌∷◌, [], List, Ok, ap, sym, ◌∙◌, refl, subst, arith}
-use Rattle.wire_core.specs.Bytes.{IsBytes}
+use Rattle.std.proofs.Common.{[], ◌++◌, ◌∷◌, Ok, ap, sym, ◌∙◌, refl, subst, arith}
 use Rattle.member_core.specs.declared.machine.Machine.{Machine}
-use Rattle.member_core.specs.declared.ending.Ending.{Ending}
-use Rattle.member_core.specs.declared.ending.Ending.TheVariants.{Open, Stopped}
-use Rattle.member_core.specs.Membership.{HasBlamed, HasEnded, IsOpen, IsOutOfMemory, IsRunning, Membership, holdings_of}
+use Rattle.member_core.specs.Membership.{HasBlamed, HasEnded, IsOpen, IsOutOfMemory, Membership, holdings_of}
 use Rattle.member_core.specs.Needs.{HoldsNeeded}
-use Rattle.member_core.specs.Promises.{IsPlainMember}
 use Rattle.member_core.specs.Sound.{IsSound}
 use Rattle.member_core.specs.Stands.{Stands}
 use Rattle.member_core.proofs.Delivering.{ended-answer, ended-open, ended-runs, ended-stands, ended-stops, has-ended, ok-same, open-stops, stopped-ended, stopped-stands, taken-stands}
@@ -52,7 +48,8 @@ ended-now g c =
 
 pub returns-in-Done-clause-stands : goal.returns-in-Done-clause-stands
 returns-in-Done-clause-stands g c start c' delivered stands =
-    ended-stands g.C.Conduct.replies start c' delivered c.args.bytes.now c.args.self.now (λ i. omega (arith, c.type_inv.bytes i)) (ended-now g c) stands
+    ended-stands g.C.Conduct.replies start c' delivered c.args.bytes.now c.args.self.now (λ i. omega (arith, c.type_inv.bytes i)) (ended-now g c)
+        stands
 
 pub returns-in-Done-clause-plain_member : goal.returns-in-Done-clause-plain_member
 returns-in-Done-clause-plain_member g c c' delivered is =
@@ -110,7 +107,8 @@ open-now g c = subst (λ (m : Membership g.row.C.Denot). IsOpen m.holds.ending) 
 pub returns-in-Ok-clause-stands : goal.returns-in-Ok-clause-stands
 returns-in-Ok-clause-stands g c start c' delivered stands =
     let old = subst (Stands g.C.Conduct.replies start c' delivered) (sym c.self.view_is) stands in
-    taken-stands g.C.Conduct.replies start c' delivered c.args.bytes.now c.in-Ok.taken (record { holds = holdings_of c.take.new.self; conduct = c.take.new.conduct })
+    taken-stands g.C.Conduct.replies start c' delivered c.args.bytes.now c.in-Ok.taken
+        (record { holds = holdings_of c.take.new.self; conduct = c.take.new.conduct })
     stands.strings (λ i. omega (arith, c.type_inv.bytes i)) (c.in-Ok.ensures.takes start c' delivered old.stands)
 
 pub returns-in-Ok-clause-plain_member : goal.returns-in-Ok-clause-plain_member
@@ -119,7 +117,8 @@ returns-in-Ok-clause-plain_member g c c' delivered is =
 
 pub returns-in-Ok-clause-run : goal.returns-in-Ok-clause-run
 returns-in-Ok-clause-run g c c' delivered is =
-    plain-run g.C.Conduct.replies c' (delivered ++ c.args.bytes.now ∷ []) (record { holds = holdings_of c.take.new.self; conduct = c.take.new.conduct })
+    plain-run g.C.Conduct.replies c' (delivered ++ c.args.bytes.now ∷ [])
+        (record { holds = holdings_of c.take.new.self; conduct = c.take.new.conduct })
     (returns-in-Ok-clause-plain_member g c c' delivered is)
 
 pub returns-in-Ok-clause-answer : goal.returns-in-Ok-clause-answer
