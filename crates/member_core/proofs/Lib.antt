@@ -29,3 +29,4 @@ pub mod Dispatch
 mod Hearing
 pub mod TurnSteps
 mod Submitted
+pub mod Beginning
