@@ -30,3 +30,4 @@ mod Hearing
 pub mod TurnSteps
 mod Submitted
 pub mod Beginning
+pub mod Advancing
