@@ -77,6 +77,13 @@ has-kind m asked none =
     let both : true ≡ false = sym asked.speaks ∙ silent in
     cc
 
+pub kind-here : (m : Machine) → IsToBeAsked m → (kind : StageKind) × (kind_of_stage m.log.shape m.stage ≡ Some kind)
+kind-here m asked = by_kind (kind_of_stage m.log.shape m.stage) refl
+  where
+    by_kind : (o : Option StageKind) → kind_of_stage m.log.shape m.stage ≡ o → (kind : StageKind) × (kind_of_stage m.log.shape m.stage ≡ Some kind)
+    by_kind (Some kind) e = (kind, e)
+    by_kind None e = absurd (has-kind m asked e)
+
 -- the shuffles are two
 pub second-shuffle : (shape : Shape) (stage shuffle : ℕ) → kind_of_stage shape stage ≡ Some (Submit shuffle) → (shuffle ≡ 1 → ⊥) → shuffle ≡ 2
 second-shuffle shape stage shuffle at other =
