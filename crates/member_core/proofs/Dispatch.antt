@@ -3,26 +3,32 @@ use Rattle.std.proofs.Common.{◌≡◌, ◌⊎◌, ℕ, ◌+◌, ◌<◌, ◌�
 use Rattle.std.specs.Prelude.{◌&&◌, nat_lt, not}
 use Rattle.std.proofs.lemmas.Bool.{cases_lt, false_from_ne_true, lt-ltb, ltb-true}
 use Rattle.phase_message.specs.declared.content.Body.{Body}
+use Rattle.phase_message.specs.declared.header.Header.{Header}
+use Rattle.phase_message.specs.declared.post.Post.{Post}
 use Rattle.phase_message.specs.declared.stage.StageKind.{StageKind}
 use Rattle.phase_message.specs.declared.stage.StageKind.TheVariants.{Keys, Submit, Shuffle, Go, Final, Pad, Check, Confirm}
+use Rattle.phase_message.specs.Grammar.{IsBody, IsHeader, OfGrammar, content_text}
 use Rattle.phase_message.specs.Shape.{Shape}
 use Rattle.phase_message.specs.Stages.{kind_of_stage, shape_of, speaks}
 use Rattle.phase_message.proofs.Table.{final_a_is, final_b_is, submit_a_is, submit_b_is}
+use Rattle.stage_log.specs.Log.{contents_of, view_of}
 use Rattle.shuffle_blame.specs.Asked.{past_of}
-use Rattle.round_spec.specs.Say.{Configuration}
+use Rattle.round_spec.specs.Say.{Configuration, content_with, own_body_at, own_body_if, own_header, shape_in}
 use Rattle.round_spec.specs.Slots.{final_stage, submit_stage}
+use Rattle.honest_say.specs.Seats.{IsSeatOf, header_at}
 use Rattle.member_spec.specs.declared.mood.Mood.{Mood}
-use Rattle.member_spec.specs.declared.mood.Mood.TheVariants.{Spoken, Unasked}
-use Rattle.member_spec.specs.Actor.{Actor}
+use Rattle.member_spec.specs.declared.mood.Mood.TheVariants.{Mute, PutOff, Spoken, Unasked}
+use Rattle.member_spec.specs.Actor.{Actor, content_to_say, descriptor_made}
 use Rattle.member_spec.specs.Replies.{Replies}
 use Rattle.member_core.specs.declared.machine.Machine.{Machine}
 use Rattle.member_core.specs.declared.own.Own.{Own}
 use Rattle.member_core.specs.declared.secrets.Secrets.{Secrets}
-use Rattle.member_core.specs.Asking.{IsDue, IsPlainKind, IsToBeAsked, StandsAsked, asked_at}
+use Rattle.member_core.specs.Asking.{IsDue, IsPlainKind, IsToBeAsked, StandsAsked, asked_at, content_here}
 use Rattle.member_core.specs.Membership.{Holdings, holdings_of}
 use Rattle.member_core.specs.Needs.{HoldsNeeded, is_going, is_mute, needs, was_asked}
-use Rattle.member_core.specs.Sound.{IsFormed}
+use Rattle.member_core.specs.Sound.{IsFormed, IsMoodOf, IsReady}
 use Rattle.member_core.specs.Stands.{AnswersBy, GoesOn, IsOwnOf, KeepsOwn, StandsFor}
+use Rattle.member_core.proofs.Belonging.{past-is, seat-of, shape-is}
 use Rattle.member_core.proofs.Posting.{shows-open}
 use Rattle.member_core.proofs.StageKinds.{IsPlaced, kind-place}
 
@@ -70,6 +76,13 @@ has-kind m asked none =
     let silent = ap (λ (o : Option StageKind). speaks m.log.shape o m.seat.number) none in
     let both : true ≡ false = sym asked.speaks ∙ silent in
     cc
+
+pub kind-here : (m : Machine) → IsToBeAsked m → (kind : StageKind) × (kind_of_stage m.log.shape m.stage ≡ Some kind)
+kind-here m asked = by_kind (kind_of_stage m.log.shape m.stage) refl
+  where
+    by_kind : (o : Option StageKind) → kind_of_stage m.log.shape m.stage ≡ o → (kind : StageKind) × (kind_of_stage m.log.shape m.stage ≡ Some kind)
+    by_kind (Some kind) e = (kind, e)
+    by_kind None e = absurd (has-kind m asked e)
 
 -- the shuffles are two
 pub second-shuffle : (shape : Shape) (stage shuffle : ℕ) → kind_of_stage shape stage ≡ Some (Submit shuffle) → (shuffle ≡ 1 → ⊥) → shuffle ≡ 2
@@ -159,3 +172,69 @@ same-own m n e = e ∙ ap (λ (s : Secrets). record m { secrets = s; own = n.own
 
 pub same-secrets : (m n : Machine) → n ≡ record m { secrets = n.secrets } → n ≡ record m { secrets = n.secrets; own = n.own }
 same-secrets m n e = e ∙ ap (λ (o : Own). record m { secrets = n.secrets; own = o }) (sym (ap (λ (x : Machine). x.own) e))
+
+-- ---- the content
+
+-- a body that fits is of the grammar under the member's header
+pub content-form : (m : Machine) (header : Header) (body : Body) → IsFormed m → header ≡ (content_here m body).header
+    → IsHeader (shape_of m.seat.shape) header → IsBody m.log.shape m.stage body → OfGrammar m.log.shape (content_here m body)
+content-form m header body f same form fits =
+    (subst (IsHeader m.log.shape) same (subst (λ (shape : Shape). IsHeader shape header) (sym f.shape) form), fits)
+
+-- ---- a member that is left with other secrets, and what it made of its own
+
+pub ready-left : (m n : Machine) → n ≡ record m { secrets = n.secrets; own = n.own } → IsReady m → IsReady n
+ready-left m n e r = subst IsReady (sym e) (record {
+  stage = r.stage;
+  past = r.past;
+  seen = r.seen;
+  keys = r.keys;
+  opened = r.opened;
+  slots = r.slots;
+  keys_behind = r.keys_behind;
+  opened_behind = r.opened_behind;
+  slots_behind = r.slots_behind;
+  mood = mood-left m n.secrets n.own m.mood r.mood;
+})
+  where
+    mood-left : (m : Machine) (secrets : Secrets) (own : Own) (mood : Mood) → IsMoodOf m mood → IsMoodOf (record m { secrets = secrets; own = own }) mood
+    mood-left m secrets own Unasked is = is
+    mood-left m secrets own (PutOff bytes) is = (is.0, is.1, record { speaks = is.2.speaks; slot = is.2.slot; short = is.2.short })
+    mood-left m secrets own Spoken is = is
+    mood-left m secrets own Mute is = is
+
+pub asked-left : (m n : Machine) → n ≡ record m { secrets = n.secrets; own = n.own } → IsToBeAsked m → IsToBeAsked n
+asked-left m n e asked = subst IsToBeAsked (sym e) (record { going = asked.going; speaks = asked.speaks; unasked = asked.unasked })
+
+-- what does not hang on these is so of it
+pub left-so : (P : Machine → Type 0) (m n : Machine) → n ≡ record m { secrets = n.secrets; own = n.own } → P (record m { secrets = n.secrets; own = n.own }) → P n
+left-so P m n e so = subst P (sym e) so
+
+-- the bytes are those of the pure machine
+pub content-is : (now start : Replies) (c : Configuration) (a : Actor) (m : Machine) (kind : StageKind) (body : Body) → IsFormed m
+    → kind_of_stage m.log.shape m.stage ≡ Some kind → StandsFor now start c a (holdings_of m)
+    → body ≡ own_body_at c (descriptor_made start c a.stand.past) a.stand.past a.stand.at kind
+    → content_text (content_here m body) ≡ content_to_say start c a.stand
+unfolding content_to_say content_with
+content-is now start c a m kind body f at s told =
+    let seat : IsSeatOf c m.seat = seat-of c m f s.entered in
+    let shape : m.log.shape ≡ shape_in c = shape-is c m f seat in
+    let past : past_of m.log m.stage ≡ contents_of a.stand.past = past-is m.log m.stage a.stand.past s.at.past in
+    let header : (content_here m body).header ≡ own_header c a.stand.past a.stand.at = header-is c a.stand.past a.stand.at m f seat
+        (ap (λ (said : List (List ℕ)). view_of m.log.shape said m.stage) past ∙ ap (λ (sh : Shape). view_of sh (contents_of a.stand.past) m.stage) shape
+        ∙ ap (view_of (shape_in c) (contents_of a.stand.past)) s.at.stage) s.at.stage in
+    let here : kind_of_stage (shape_in c) a.stand.at ≡ Some kind =
+    sym (ap (λ (sh : Shape). kind_of_stage sh m.stage) shape ∙ ap (kind_of_stage (shape_in c)) s.at.stage) ∙ at in
+    ap (λ (h : Header). content_text (record { header = h; body = body })) header
+    ∙ ap (λ (b : Body). content_text (record { header = own_header c a.stand.past a.stand.at; body = b }))
+    (told ∙ sym (ap (own_body_if c (descriptor_made start c a.stand.past) a.stand.past a.stand.at) here))
+  where
+    header-is : (c : Configuration) (past : List Post) (at : ℕ) (m : Machine) → IsFormed m → IsSeatOf c m.seat
+        → view_of m.log.shape (past_of m.log m.stage) m.stage ≡ view_of (shape_in c) (contents_of past) at → m.stage ≡ at
+        → header_at m.seat m.stage (view_of m.log.shape (past_of m.log m.stage) m.stage) ≡ own_header c past at
+    header-is c past at m f seat view stage =
+        let version : m.seat.shape.version ≡ c.roster.version = ap (λ (sh : Shape). sh.version) seat.shape in
+        let group = seat.group in
+        let round = seat.round in
+        let number = seat.number in
+        cc

@@ -29,3 +29,5 @@ pub mod Dispatch
 mod Hearing
 pub mod TurnSteps
 mod Submitted
+pub mod Beginning
+pub mod Advancing

@@ -1,7 +1,5 @@
 -- A member that submits: what it says, and what it keeps of its own from then on.
-use Rattle.std.proofs.Common.{◌≡◌, ℕ, ◌+◌, ◌*◌, ◌<◌, ◌≤◌, true, false, Bool, List, Some, length, ap, sym, ◌∙◌, refl, subst, arith, rules}
-use Rattle.std.specs.Prelude.{◌==◌, if◌then◌else◌}
-use Rattle.phase_message.specs.declared.content.Body.{Body}
+use Rattle.std.proofs.Common.{◌≡◌, ℕ, ◌<◌, ◌≤◌, true, false, Bool, List, Some, length, ap, sym, ◌∙◌, subst, arith, rules}
 use Rattle.phase_message.specs.declared.content.Body.TheVariants.{Submit as SubmitBody}
 use Rattle.phase_message.specs.declared.stage.StageKind.TheVariants.{Submit}
 use Rattle.phase_message.specs.Grammar.{IsBody}
@@ -9,21 +7,18 @@ use Rattle.phase_message.specs.Shape.{Shape}
 use Rattle.phase_message.specs.Stages.{kind_of_stage}
 use Rattle.stage_log.specs.Log.{contents_of}
 use Rattle.shuffle_core.specs.declared.entry.Submission.{Submission}
-use Rattle.bulk_descriptor.specs.declared.making.TheConstants.{MESSAGE_LIMIT}
 use Rattle.bulk_descriptor.specs.Descriptor.{descriptor_text, own_pad}
 use Rattle.shuffle_blame.specs.Asked.{past_of}
-use Rattle.round_spec.specs.Slots.{final_stage, submit_stage}
-use Rattle.round_spec.specs.Say.{Configuration, own_body_at, own_description, own_item, own_pad_seeds, own_submission, shape_in}
+use Rattle.round_spec.specs.Slots.{submit_stage}
+use Rattle.round_spec.specs.Say.{Configuration, own_description, own_item, own_pad_seeds, own_submission, shape_in}
 use Rattle.honest_say.specs.Pasts.{posts_before}
 use Rattle.honest_say.specs.Seats.{IsSeatOf}
-use Rattle.member_spec.specs.declared.mood.Mood.{Mood}
 use Rattle.member_spec.specs.declared.mood.Mood.TheVariants.{Spoken}
 use Rattle.member_spec.specs.Actor.{Actor, descriptor_made}
 use Rattle.member_spec.specs.Replies.{Replies}
 use Rattle.member_core.specs.declared.machine.Machine.{Machine}
 use Rattle.member_core.specs.declared.own.Own.{Own}
-use Rattle.member_core.specs.declared.secrets.Secrets.{Secrets}
-use Rattle.member_core.specs.Asking.{IsDue, IsToBeAsked, StandsAsked, asked_at}
+use Rattle.member_core.specs.Asking.{IsDue, IsToBeAsked, StandsAsked}
 use Rattle.member_core.specs.Membership.{holdings_of}
 use Rattle.member_core.specs.Needs.{AreSecretsOf, was_asked, without_bulk}
 use Rattle.member_core.specs.Sound.{IsFormed, IsMachineOf}
@@ -53,7 +48,7 @@ submit-due now m shuffle own submission formed asked at long said made =
     = subst (λ (s : Shape). IsBody s m.stage (SubmitBody submission.ciphertext)) (sym shape)
     (subst (λ (x : Submission). IsBody (shape_in c0) m.stage (SubmitBody x.ciphertext)) (sym (said c0 its.seat its.secrets)) form) in
     let told : (start : Replies) (c : Configuration) (a : Actor) → StandsFor now start c a (holdings_of m)
-        → SubmitBody submission.ciphertext ≡ SubmitBody (own_submission c (descriptor_made start c a.stand.past) (contents_of a.stand.past) shuffle).ciphertext
+    → SubmitBody submission.ciphertext ≡ SubmitBody (own_submission c (descriptor_made start c a.stand.past) (contents_of a.stand.past) shuffle).ciphertext
     = λ start c a stands.
     ap (λ (x : Submission). SubmitBody x.ciphertext) (said c (seat-of c m formed stands.entered) stands.entered.secrets)
     ∙ ap (λ (d : List ℕ). SubmitBody (own_submission c d (past_of m.log m.stage) shuffle).ciphertext) (made start c a stands)
@@ -87,15 +82,18 @@ formed-first m own formed pad =
     let c : Configuration = formed.entered.0 in
     let its : IsMachineOf c m = formed.entered.1 in
     let short = formed.message in
-    formed-with m m.secrets own formed (c, record {
-      roster = its.roster;
-      seat = its.seat;
-      message = its.message;
-      secrets = its.secrets;
-      hidden = c.message;
-      hidden_short = omega (arith, short, ap (λ (t : List ℕ). length t) its.message);
-      pad = pad c its;
-    })
+    formed-with m m.secrets own formed (
+      c,
+      record {
+        roster = its.roster;
+        seat = its.seat;
+        message = its.message;
+        secrets = its.secrets;
+        hidden = c.message;
+        hidden_short = omega (arith, short, ap (λ (t : List ℕ). length t) its.message);
+        pad = pad c its;
+      },
+    )
 
 pub stands-first : (now after start : Replies) (c : Configuration) (a : Actor) (m : Machine) (own : Own) → IsToBeAsked m → StandsFor now start c a (holdings_of m) → m.stage ≡ 1
     → own.descriptor ≡ descriptor_text (now.descriptor (own_description c (past_of m.log m.stage)))
@@ -128,15 +126,18 @@ pub formed-second : (m : Machine) (inner : List ℕ) → IsFormed m → IsFormed
 formed-second m inner formed =
     let c : Configuration = formed.entered.0 in
     let its : IsMachineOf c m = formed.entered.1 in
-    formed-with m (without_bulk m.secrets) (record m.own { inner_ciphertext = inner }) formed (c, record {
-      roster = its.roster;
-      seat = its.seat;
-      message = its.message;
-      secrets = secrets-bulk c m.secrets its.secrets;
-      hidden = its.hidden;
-      hidden_short = its.hidden_short;
-      pad = its.pad;
-    })
+    formed-with m (without_bulk m.secrets) (record m.own { inner_ciphertext = inner }) formed (
+      c,
+      record {
+        roster = its.roster;
+        seat = its.seat;
+        message = its.message;
+        secrets = secrets-bulk c m.secrets its.secrets;
+        hidden = its.hidden;
+        hidden_short = its.hidden_short;
+        pad = its.pad;
+      },
+    )
 
 pub stands-second : (now start : Replies) (c : Configuration) (a : Actor) (m : Machine) (inner : List ℕ) → IsToBeAsked m → StandsFor now start c a (holdings_of m)
     → m.stage ≡ submit_stage m.log.shape 2

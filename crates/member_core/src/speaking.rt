@@ -1,9 +1,10 @@
 //! Asking the conduct, and posting what it says.
 
-ghost use Rattle.std.specs.Prelude.{◌≡◌, ◌<◌, ◌≤◌, ◌^◌, IfOk, IsTrue, Some, is_ok, length};
+ghost use Rattle.std.specs.Prelude.{◌≡◌, ◌+◌, ◌<◌, ◌≤◌, ◌^◌, IfOk, IsTrue, Some, is_ok, length};
 ghost use Rattle.wire_core.specs.Bytes.{IsBytes};
+ghost use Rattle.phase_message.specs.declared.post.TheConstants.{LEAST_CONTENT};
 ghost use Rattle.phase_message.specs.declared.stage.StageKind.{StageKind as Kind};
-ghost use Rattle.phase_message.specs.Grammar.{IsBody, content_text};
+ghost use Rattle.phase_message.specs.Grammar.{IsBody, body_text, content_text};
 ghost use Rattle.phase_message.specs.Offence.{content_read};
 ghost use Rattle.phase_message.specs.Stages.{is_slot, kind_of_stage, shape_of};
 ghost use Rattle.stage_log.specs.Log.{view_of};
@@ -13,7 +14,7 @@ ghost use Rattle.honest_say.specs.Seats.{header_at};
 ghost use Rattle.member_spec.specs.declared.conduct.Speech.TheVariants.{Say as Says};
 ghost use Rattle.member_spec.specs.declared.mood.Mood.TheVariants.{Mute, Spoken};
 ghost use Rattle.member_spec.specs.Actor.{Actor, actor_behind_answer, actor_behind_question, content_to_say};
-ghost use Rattle.member_spec.specs.Replies.{KeepsSlot, Replies};
+ghost use Rattle.member_spec.specs.Replies.{HasSlot, KeepsSlot, Replies};
 ghost use Rattle.member_core.specs.Asking.{IsDue, IsPlainKind, IsSpeakable, IsToBeAsked, StandsAsked, asked_at, content_here};
 ghost use Rattle.member_core.specs.Membership.{IsOpen, holdings_of};
 ghost use Rattle.member_core.specs.Needs.{HoldsNeeded, no_secrets};
@@ -119,7 +120,9 @@ impl Machine {
         requires ready { IsReady self.now }
         requires speaks { IsTrue (is_slot self.now.log.shape self.now.stage self.now.seat.number) }
         requires fits { IsBody self.now.log.shape self.now.stage body }
-        ensures { IfOk result (λ bytes. bytes.items ≡ content_text (content_here self.now body)) }
+        ensures spelled { IfOk result (λ bytes. bytes.items ≡ content_text (content_here self.now body)) }
+        ensures slot { IfOk result (λ bytes. HasSlot (slot_here self.now) bytes.items) }
+        ensures long { IfOk result (λ bytes. length bytes.items ≡ LEAST_CONTENT + length (body_text body)) }
     {
         let header = self.header_here();
         encode(alloc, self.seat.shape, &Content { header, body })

@@ -9,7 +9,7 @@ ghost use Rattle.round_spec.specs.Say.{Configuration, shape_in};
 ghost use Rattle.round_spec.specs.Verdict.{is_bad};
 ghost use Rattle.member_core.specs.Needs.{AreAll, AreSecretsOf};
 
-use crate::config::Config;
+use crate::config::{Config, have_bounds};
 use crate::ending::Ending;
 use crate::machine::Machine;
 use crate::own::Own;
@@ -90,6 +90,7 @@ impl Machine {
         ensures stands { (now : Replies) → StandsFor now now (configuration_of config leaves)
             (first_actor (configuration_of config leaves)) (holdings_of result) }
     {
+        have_bounds(&config, &leaves);
         let Config {
             roster,
             number,

@@ -1,9 +1,9 @@
-use Rattle.std.proofs.Common.{◌≡◌, ℕ, ◌+◌, ◌≤◌, List, length, refl, ap, sym, ◌∙◌, subst, arith}
+use Rattle.std.proofs.Common.{◌≡◌, ℕ, List, length, refl, ap, sym, ◌∙◌, arith}
 use Rattle.std.proofs.lemmas.Result.{err_from_is_err_and}
 use Rattle.phase_message.specs.declared.stage.StageKind.TheVariants.{Submit}
 use Rattle.shuffle_blame.specs.Asked.{past_of}
+use Rattle.round_spec.specs.Say.{own_submission}
 use Rattle.shuffle_core.specs.declared.entry.Submission.{Submission}
-use Rattle.round_spec.specs.Slots.{final_stage, submit_stage}
 use Rattle.member_spec.specs.Replies.{Replies}
 use Rattle.member_core.specs.declared.own.Own.{Own}
 use Rattle.member_core.proofs.Belonging.{holds-bulk, holds-first, of-group, seat-of}
@@ -106,7 +106,8 @@ returns-clause-stands g c = λ start config a stands.
     let seat = seat-of config m c.requires.formed stands.entered in
     let secrets = stands.entered.secrets in
     let message = stands.entered.message in
-    let submitted = c.in_ok-submission.ensures config descriptor seat secrets (c.deref.ensures.value ∙ c.items.ensures ∙ first-item config descriptor past) in
+    let submitted : c.in_ok-submission.submission ≡ own_submission config descriptor past 1
+    = c.in_ok-submission.ensures config descriptor seat secrets (c.deref.ensures.value ∙ c.items.ensures ∙ first-item config descriptor past) in
     stands-first now after start config a m own c.requires.asked stands at
     (c.in_ok-descriptor.ensures.told config seat secrets message) (c.in_ok-descriptor.ensures.pad config seat secrets message)
     (ap (λ (x : Submission). x.inner_ciphertext) submitted) (c.in_ok-descriptor.ensures.then config seat secrets message)

@@ -1,12 +1,11 @@
-use Rattle.std.proofs.Common.{◌≡◌, ℕ, ◌+◌, ◌≤◌, List, length, refl, ap, sym, ◌∙◌, subst, arith, rules}
+use Rattle.std.proofs.Common.{◌≡◌, ℕ, List, length, refl, ap, sym, ◌∙◌, subst, arith, rules}
 use Rattle.std.proofs.lemmas.Result.{err_from_is_err_and}
 use Rattle.phase_message.specs.declared.stage.StageKind.TheVariants.{Submit}
 use Rattle.shuffle_core.specs.declared.entry.Submission.{Submission}
-use Rattle.round_spec.specs.Slots.{submit_stage}
 use Rattle.member_core.specs.declared.secrets.Secrets.{Secrets}
 use Rattle.member_core.specs.Asking.{StandsAsked, asked_at}
 use Rattle.member_core.specs.Membership.{holdings_of}
-use Rattle.member_core.specs.Needs.{HoldsNeeded, without_bulk}
+use Rattle.member_core.specs.Needs.{HoldsNeeded}
 use Rattle.member_core.specs.Sound.{IsFormed}
 use Rattle.member_spec.specs.declared.mood.Mood.TheVariants.{Spoken}
 use Rattle.member_core.proofs.Belonging.{holds-bulk, holds-second, seat-of}
