@@ -10,6 +10,7 @@ mod own;
 mod rows;
 mod secrets;
 mod speaking;
+mod submissions;
 mod taking;
 mod turning;
 
