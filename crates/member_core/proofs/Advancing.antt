@@ -1,5 +1,5 @@
 -- Step after step.
-use Rattle.std.proofs.Common.{◌≡◌, ℕ, zero, suc, ◌+◌, ap, sym, ◌∙◌, refl, arith}
+use Rattle.std.proofs.Common.{◌≡◌, ℕ, zero, suc, ◌+◌, ap, ◌∙◌, refl, arith}
 use Rattle.std.specs.Fn.{iterate}
 
 -- one step more is the last one

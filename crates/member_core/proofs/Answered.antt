@@ -1,10 +1,8 @@
 -- What becomes of a member that asked its conduct about a content.
-use Rattle.std.proofs.Common.{◌≡◌, ◌⊎◌, ℕ, ◌+◌, ◌<◌, ◌≤◌, Bool, true, false, List, [], ◌∷◌, length, Option, Some, None, ap, sym, ◌∙◌, refl, subst, arith, inl, inr, eq-eqb}
+use Rattle.std.proofs.Common.{◌≡◌, ℕ, ◌+◌, ◌≤◌, Bool, true, false, List, [], length, Option, ap, sym, ◌∙◌, refl, subst, arith, inl, inr, eq-eqb}
 use Rattle.std.specs.Prelude.{◌==◌, IsSome, unwrap_or}
-use Rattle.std.proofs.lemmas.Bool.{cases_Bool, cases_lt, cond-false, cond-true, eqb-true, false_from_ne_true, lt-ltb, ltb-true}
+use Rattle.std.proofs.lemmas.Bool.{cases_lt, cond-false, cond-true, eqb-true, false_from_ne_true, lt-ltb, ltb-true}
 use Rattle.phase_message.specs.declared.post.Post.{Post}
-use Rattle.phase_message.specs.declared.post.TheConstants.{POST_LIMIT}
-use Rattle.phase_message.specs.declared.stage.StageKind.{StageKind}
 use Rattle.phase_message.specs.Shape.{Shape}
 use Rattle.phase_message.specs.Stages.{kind_of_stage}
 use Rattle.stage_log.specs.Log.{before, contents_of}
@@ -15,20 +13,18 @@ use Rattle.shuffle_blame.specs.Asked.{past_of}
 use Rattle.bulk_descriptor.specs.Descriptor.{Description, made_descriptor}
 use Rattle.round_spec.specs.Say.{Configuration, own_description, own_pad_seeds, shape_in}
 use Rattle.round_spec.specs.Slots.{bulk_place, keys_said}
-use Rattle.honest_say.specs.Stays.{AreReached}
 use Rattle.honest_say.proofs.Staying.{keys_stay}
 use Rattle.member_spec.specs.declared.conduct.Speech.{Speech}
-use Rattle.member_spec.specs.declared.conduct.Speech.TheVariants.{Say, Wait, Silent}
-use Rattle.member_spec.specs.declared.mood.Mood.{Mood}
-use Rattle.member_spec.specs.declared.mood.Mood.TheVariants.{Mute, PutOff, Spoken, Unasked}
+use Rattle.member_spec.specs.declared.conduct.Speech.TheVariants.{Wait, Silent}
+use Rattle.member_spec.specs.declared.mood.Mood.TheVariants.{Mute, PutOff, Spoken}
 use Rattle.member_spec.specs.Actor.{Actor, actor_behind_answer, actor_behind_question, speech_about}
-use Rattle.member_spec.specs.Replies.{HasAtMost, HasSlot, IsForSlot, Replies}
+use Rattle.member_spec.specs.Replies.{HasSlot, Replies}
 use Rattle.member_core.specs.declared.machine.Machine.{Machine}
 use Rattle.member_core.specs.Asking.{IsSpeakable, IsToBeAsked, StandsAsked, asked_at}
-use Rattle.member_core.specs.Membership.{Holdings, IsOpen, holdings_of}
-use Rattle.member_core.specs.Needs.{HoldsNeeded, no_secrets, was_asked}
+use Rattle.member_core.specs.Membership.{holdings_of}
+use Rattle.member_core.specs.Needs.{HoldsNeeded, was_asked}
 use Rattle.member_core.specs.Shorts.{own_limit}
-use Rattle.member_core.specs.Sound.{IsFormed, IsMachineOf, IsPutOff, IsReady, IsSound, slot_here}
+use Rattle.member_core.specs.Sound.{IsFormed, IsMachineOf, IsReady, IsSound, slot_here}
 use Rattle.member_core.specs.Stands.{AnswersBy, IsOwnOf, StandsFor}
 use Rattle.member_core.proofs.Posting.{entered-asked, mute-needed, mute-ready, muted, round-shape, shows-open, silent-here}
 
@@ -155,8 +151,18 @@ pub muted-formed : (m : Machine) → IsFormed m → IsFormed (muted m)
 muted-formed m f =
     let e : IsMachineOf f.entered.0 m = f.entered.1 in
     record {
-      entered = (f.entered.0, record { roster = e.roster; seat = e.seat; message = e.message; secrets = record { first = tt; bulk = tt; second = tt };
-        hidden = e.hidden; hidden_short = e.hidden_short; pad = e.pad });
+      entered = (
+        f.entered.0,
+        record {
+          roster = e.roster;
+          seat = e.seat;
+          message = e.message;
+          secrets = record { first = tt; bulk = tt; second = tt };
+          hidden = e.hidden;
+          hidden_short = e.hidden_short;
+          pad = e.pad;
+        },
+      );
       message = f.message;
       log = f.log;
       shape = f.shape;
@@ -180,8 +186,15 @@ muted-stands now start c a m asked s =
     let entered = s.entered in
     record {
       can_enter = s.can_enter;
-      entered = record { roster = entered.roster; number = entered.number; round = entered.round; message = entered.message; key = entered.key; next = entered.next;
-        secrets = record { first = tt; bulk = tt; second = tt } };
+      entered = record {
+        roster = entered.roster;
+        number = entered.number;
+        round = entered.round;
+        message = entered.message;
+        key = entered.key;
+        next = entered.next;
+        secrets = record { first = tt; bulk = tt; second = tt };
+      };
       at = record {
         log = s.at.log;
         stage = s.at.stage;

@@ -1,6 +1,6 @@
 -- Answers by what has ended a round.
-use Rattle.std.proofs.Common.{◌≡◌, ap, refl, sym}
-use Rattle.std.specs.Prelude.{◌↔◌, if◌then◌else◌}
+use Rattle.std.proofs.Common.{◌≡◌, refl}
+use Rattle.std.specs.Prelude.{if◌then◌else◌}
 use Rattle.closing_verdict.specs.declared.convicting.Conviction.{Conviction}
 use Rattle.round_spec.specs.Say.{Configuration}
 use Rattle.round_spec.specs.Verdict.{Convicts, Done as DoneVerdict, Goes, Verdict}

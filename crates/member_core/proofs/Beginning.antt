@@ -1,7 +1,7 @@
 -- A member that has entered a round and said nothing.
 use Rattle.std.proofs.Common.{◌≡◌, ℕ, zero, suc, ◌+◌, ◌<◌, ◌≤◌, ◌^◌, Bool, true, false, List, [], ◌∷◌, ◌++◌, length, replicate, Option, Some, None, ap, sym, ◌∙◌, refl, subst, arith, inl, inr}
-use Rattle.std.specs.Prelude.{All, IfSome, IsSome, IsTrue, is_some, nat_lt, not, ◌&&◌, if◌then◌else◌}
-use Rattle.std.specs.List.{range_with_len, slice_get}
+use Rattle.std.specs.Prelude.{IfSome, nat_lt, not, ◌&&◌, if◌then◌else◌}
+use Rattle.std.specs.List.{slice_get}
 use Rattle.std.specs.Option.{option_flatten}
 use Rattle.std.proofs.lemmas.Bool.{cases_Bool, cond-false, false_from_ne_true, ltb-true}
 use Rattle.std.proofs.lemmas.List.{length-replicate}
@@ -20,8 +20,7 @@ use Rattle.stage_log.specs.declared.seen.Seen.{Seen}
 use Rattle.stage_log.specs.Seen.{HasSeen}
 use Rattle.stage_log.specs.Table.{IsKept, IsLog, Log, empty_log, kept_in}
 use Rattle.bulk_descriptor.specs.declared.making.TheConstants.{MESSAGE_LIMIT}
-use Rattle.round_spec.specs.Runs.{CanEnter}
-use Rattle.round_spec.specs.Say.{Configuration, own_pad_seeds, shape_in}
+use Rattle.round_spec.specs.Say.{own_pad_seeds}
 use Rattle.round_spec.specs.Slots.{final_stage, submit_stage}
 use Rattle.honest_say.specs.declared.seat.Seat.{Seat}
 use Rattle.honest_say.specs.Seats.{IsSeatOf}
@@ -36,7 +35,7 @@ use Rattle.member_core.specs.declared.machine.Machine.{Machine}
 use Rattle.member_core.specs.declared.own.Own.{Own}
 use Rattle.member_core.specs.declared.secrets.Secrets.{Secrets}
 use Rattle.member_core.specs.Membership.{holdings_of, own_posts_kept}
-use Rattle.member_core.specs.Needs.{AreAll, AreSecretsOf, was_asked}
+use Rattle.member_core.specs.Needs.{AreAll, AreSecretsOf}
 use Rattle.member_core.specs.Sound.{IsSound}
 use Rattle.member_core.specs.Stands.{StandsFor, configuration_of}
 use Rattle.member_core.proofs.Belonging.{no-pad}
@@ -122,15 +121,18 @@ pub entered-sound : (config : Config) (run : RunState) (log : Log) (secrets : Se
     → IsEntry config run log secrets seat seen own → IsSound (machine_entered config run log secrets seat seen own)
 entered-sound config run log secrets seat seen own is = record {
   formed = record {
-    entered = (configuration_of config run, record {
-      roster = refl;
-      seat = is.seat_is;
-      message = refl;
-      secrets = is.secrets_are;
-      hidden = [];
-      hidden_short = omega arith;
-      pad = is.pad ∙ sym (no-pad (own_pad_seeds (configuration_of config run)) config.number);
-    });
+    entered = (
+      configuration_of config run,
+      record {
+        roster = refl;
+        seat = is.seat_is;
+        message = refl;
+        secrets = is.secrets_are;
+        hidden = [];
+        hidden_short = omega arith;
+        pad = is.pad ∙ sym (no-pad (own_pad_seeds (configuration_of config run)) config.number);
+      },
+    );
     message = is.short;
     log = subst IsLog (sym is.log_is) (empty-is-log (shape_of_roster (roster_of config.roster)) (record {
       first = config.roster.form.version;
@@ -175,7 +177,7 @@ entered-sound config run log secrets seat seen own is = record {
 pub entered-stands : (config : Config) (run : RunState) (log : Log) (secrets : Secrets) (seat : Seat) (seen : Seen) (own : Own)
     → IsEntry config run log secrets seat seen own → (now : Replies)
     → StandsFor now now (configuration_of config run) (first_actor (configuration_of config run))
-      (holdings_of (machine_entered config run log secrets seat seen own))
+    (holdings_of (machine_entered config run log secrets seat seen own))
 entered-stands config run log secrets seat seen own is now = record {
   can_enter = record {
     round = is.round;

@@ -1,7 +1,6 @@
 -- What a delivery comes to: the member behind it, and the answer.
 use Rattle.std.proofs.Common.{◌≡◌, ◌⊎◌, ℕ, true, false, List, [], ◌∷◌, Option, Some, None, Result, Ok, Err, ap, sym, ◌∙◌, refl, subst, inl, inr}
-use Rattle.std.specs.Prelude.{◌==◌, bytes_eq, is_ok, is_some, option_and_then, unwrap_or, if◌then◌else◌}
-use Rattle.std.specs.Result.{result_ok}
+use Rattle.std.specs.Prelude.{◌==◌, bytes_eq, is_ok, is_some, unwrap_or, if◌then◌else◌}
 use Rattle.std.proofs.lemmas.Bool.{cases_Bool, cond-false, cond-true}
 use Rattle.phase_message.specs.declared.header.Header.{Header}
 use Rattle.phase_message.specs.declared.post.Post.{Post}
@@ -18,12 +17,11 @@ use Rattle.round_spec.specs.Embedded.{slot_named}
 use Rattle.round_spec.specs.Say.{Configuration, shape_in}
 use Rattle.round_spec.specs.Verdict.{Verdict, conviction}
 use Rattle.round_spec.specs.Course.{is_open}
-use Rattle.round_spec.specs.Result.{Heard, fault_shown, heard_of, heard_of_post, heard_with}
-use Rattle.wire_core.specs.Answers.{first_some}
-use Rattle.wire_core.proofs.AnswerLemmas.{first_some-none, first_some-some}
+use Rattle.round_spec.specs.Result.{Heard, fault_shown, heard_of, heard_with}
+use Rattle.wire_core.proofs.AnswerLemmas.{first_some-some}
 use Rattle.member_spec.specs.declared.taken.Taken.{Taken}
 use Rattle.member_spec.specs.declared.taken.Taken.TheVariants.{Evidence, Finished, Ignored, Own, Same}
-use Rattle.member_spec.specs.Actor.{Actor, actor_behind_delivery, actor_behind_fault, actor_behind_heard, actor_behind_repeat, actor_behind_steps, actor_with_heard}
+use Rattle.member_spec.specs.Actor.{Actor, actor_behind_delivery, actor_behind_heard, actor_behind_repeat, actor_behind_steps, actor_with_heard}
 use Rattle.member_spec.specs.Replies.{Replies}
 use Rattle.member_spec.specs.Taking.{answer_by_end, answer_to, idle_answer, is_content, LeavesAll}
 use Rattle.member_spec.proofs.Hearing.{contradiction-empty, contradiction-full, fault-inside, fault-of}

@@ -126,7 +126,7 @@ ended-stands replies_of start c delivered bytes m are is stands = record {
   strings = more-bytes delivered bytes stands.strings are;
   stands = subst (λ (a : Actor). StandsFor (replies_of m.conduct) start c a m.holds)
       (sym (one-more start c delivered bytes ∙ ended-delivery start c (actor_after start c delivered) bytes
-          (ended-closed replies_of start c delivered m stands is))) stands.stands;
+      (ended-closed replies_of start c delivered m stands is))) stands.stands;
 }
 
 pub ended-answer : {A : Type 0} (replies_of : A → Replies) (start : Replies) (c : Configuration) (delivered : List (List ℕ)) (bytes : List ℕ)

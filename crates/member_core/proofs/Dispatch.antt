@@ -1,5 +1,5 @@
 -- What a member has to say by the kind of its stage, and that being asked at a stage that takes no secret changes nothing.
-use Rattle.std.proofs.Common.{◌≡◌, ◌⊎◌, ℕ, ◌+◌, ◌<◌, ◌≤◌, Bool, true, false, List, Option, Some, None, ap, sym, ◌∙◌, refl, subst, arith, inl, inr}
+use Rattle.std.proofs.Common.{◌≡◌, ℕ, ◌+◌, ◌≤◌, Bool, true, false, List, Option, Some, None, ap, sym, ◌∙◌, refl, subst, arith, inl, inr}
 use Rattle.std.specs.Prelude.{◌&&◌, nat_lt, not}
 use Rattle.std.proofs.lemmas.Bool.{cases_lt, false_from_ne_true, lt-ltb, ltb-true}
 use Rattle.phase_message.specs.declared.content.Body.{Body}
@@ -24,7 +24,7 @@ use Rattle.member_core.specs.declared.machine.Machine.{Machine}
 use Rattle.member_core.specs.declared.own.Own.{Own}
 use Rattle.member_core.specs.declared.secrets.Secrets.{Secrets}
 use Rattle.member_core.specs.Asking.{IsDue, IsPlainKind, IsToBeAsked, StandsAsked, asked_at, content_here}
-use Rattle.member_core.specs.Membership.{Holdings, holdings_of}
+use Rattle.member_core.specs.Membership.{holdings_of}
 use Rattle.member_core.specs.Needs.{HoldsNeeded, is_going, is_mute, needs, was_asked}
 use Rattle.member_core.specs.Sound.{IsFormed, IsMoodOf, IsReady}
 use Rattle.member_core.specs.Stands.{AnswersBy, GoesOn, IsOwnOf, KeepsOwn, StandsFor}
@@ -221,8 +221,8 @@ content-is now start c a m kind body f at s told =
     let shape : m.log.shape ≡ shape_in c = shape-is c m f seat in
     let past : past_of m.log m.stage ≡ contents_of a.stand.past = past-is m.log m.stage a.stand.past s.at.past in
     let header : (content_here m body).header ≡ own_header c a.stand.past a.stand.at = header-is c a.stand.past a.stand.at m f seat
-        (ap (λ (said : List (List ℕ)). view_of m.log.shape said m.stage) past ∙ ap (λ (sh : Shape). view_of sh (contents_of a.stand.past) m.stage) shape
-        ∙ ap (view_of (shape_in c) (contents_of a.stand.past)) s.at.stage) s.at.stage in
+    (ap (λ (said : List (List ℕ)). view_of m.log.shape said m.stage) past ∙ ap (λ (sh : Shape). view_of sh (contents_of a.stand.past) m.stage) shape
+    ∙ ap (view_of (shape_in c) (contents_of a.stand.past)) s.at.stage) s.at.stage in
     let here : kind_of_stage (shape_in c) a.stand.at ≡ Some kind =
     sym (ap (λ (sh : Shape). kind_of_stage sh m.stage) shape ∙ ap (kind_of_stage (shape_in c)) s.at.stage) ∙ at in
     ap (λ (h : Header). content_text (record { header = h; body = body })) header

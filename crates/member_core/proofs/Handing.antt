@@ -45,8 +45,11 @@ one-at-most (Some post) = omega arith
 kept-few : (log : Log) (number : ℕ) → length (own_posts_kept log number) ≤ stage_count log.shape
 unfolding own_posts_kept
 kept-few log number =
-    omega (arith, few (λ stage. kept_in log (record { stage = stage; sender = number })) (range_with_len 0 (stage_count log.shape)),
-        length-range_with_len 0 (stage_count log.shape))
+    omega (
+      arith,
+      few (λ stage. kept_in log (record { stage = stage; sender = number })) (range_with_len 0 (stage_count log.shape)),
+      length-range_with_len 0 (stage_count log.shape),
+    )
 
 made-few : (h : Holdings) → IsLog h.log → length (posts_made h) ≤ 27
 made-few h is =

@@ -1,6 +1,6 @@
 -- Hearing a checked post of another member.
-use Rattle.std.proofs.Common.{◌≡◌, ◌⊎◌, ℕ, ◌+◌, ◌<◌, ◌≤◌, ◌^◌, Bool, true, false, List, [], ◌∷◌, ◌++◌, length, Option, Some, None, Result, Ok, Err, ap, sym, ◌∙◌, refl, subst, arith, inl, inr, length-append, eq-eqb}
-use Rattle.std.specs.Prelude.{◌==◌, IsSome, IsTrue, is_ok, if◌then◌else◌}
+use Rattle.std.proofs.Common.{◌≡◌, ◌⊎◌, ℕ, ◌<◌, ◌≤◌, ◌^◌, true, false, List, [], ◌∷◌, ◌++◌, length, Option, Some, None, Result, Ok, Err, ap, sym, ◌∙◌, refl, subst, arith, inl, inr, length-append, eq-eqb}
+use Rattle.std.specs.Prelude.{◌==◌, is_ok}
 use Rattle.std.proofs.lemmas.Bool.{eqb-true, false_from_ne_true}
 use Rattle.std.specs.Int.{w32, to_be_bytes}
 use Rattle.wire_core.specs.declared.cursor.Short.{Short}
@@ -10,7 +10,6 @@ use Rattle.phase_message.specs.declared.content.Content.{Content}
 use Rattle.phase_message.specs.declared.header.Header.{Header}
 use Rattle.phase_message.specs.declared.post.Post.{Post}
 use Rattle.phase_message.specs.declared.post.TheConstants.{POST_LIMIT}
-use Rattle.phase_message.specs.declared.stage.Slot.{Slot}
 use Rattle.phase_message.specs.Offence.{content_read}
 use Rattle.phase_message.specs.Post.{post_spelling}
 use Rattle.phase_message.specs.Shape.{Shape}
@@ -39,7 +38,7 @@ use Rattle.member_spec.specs.declared.mood.Mood.{Mood}
 use Rattle.member_spec.specs.declared.mood.Mood.TheVariants.{Unasked, PutOff, Spoken, Mute}
 use Rattle.member_spec.specs.declared.taken.Taken.{Taken}
 use Rattle.member_spec.specs.declared.taken.Taken.TheVariants.{Evidence, Ignored, Own, Same}
-use Rattle.member_spec.specs.Actor.{Actor, actor_after, actor_behind_delivery, actor_behind_repeat, actor_behind_steps}
+use Rattle.member_spec.specs.Actor.{Actor, actor_after, actor_behind_repeat, actor_behind_steps}
 use Rattle.member_spec.specs.Outcomes.{outcome_of}
 use Rattle.member_spec.specs.Replies.{Replies}
 use Rattle.member_spec.specs.Taking.{LeavesAll, answer_by_end, answer_to}
@@ -50,12 +49,12 @@ use Rattle.member_core.specs.declared.machine.Machine.{Machine}
 use Rattle.member_core.specs.declared.taking.Found.{Found}
 use Rattle.member_core.specs.declared.taking.Found.TheVariants.{Malformed, New, Other, Same as Kept}
 use Rattle.member_core.specs.Concluding.{machine_ended}
-use Rattle.member_core.specs.Found.{BlamesBy, IsOfAnother, IsStorable, TakesAs, TellsEnding, answer_behind, found_beside, found_in, found_of, verdict_shown}
+use Rattle.member_core.specs.Found.{BlamesBy, IsOfAnother, IsStorable, TakesAs, answer_behind, found_in, found_of, verdict_shown}
 use Rattle.member_core.specs.Membership.{Holdings, IsOpen, IsRunning, holdings_of}
 use Rattle.member_core.specs.Sound.{IsFormed, IsMachineOf, IsSound}
 use Rattle.member_core.specs.Stands.{GoesOn, IsOwnOf, KeepsOwn, ShowsOutcome, StandsFor}
 use Rattle.member_core.proofs.Answering.{answer-same}
-use Rattle.member_core.proofs.Belonging.{seat-of, shape-is}
+use Rattle.member_core.proofs.Belonging.{seat-of}
 use Rattle.member_core.proofs.Comings.{ComesTo, IsNew, found-new, found-other, malformed-comes, new-comes, other-comes, own-comes, refused-comes, same-comes, unframed-comes}
 use Rattle.member_core.proofs.Passing.{needed-ended, no-secrets-of}
 use Rattle.member_core.proofs.Saying.{ok-read}
@@ -177,7 +176,7 @@ storable m bytes header post f are is found =
         let content = content_is.0 in
         let read = content_is.1 in
         let same : content.header ≡ header = ok_same content.header header (sym (content-header m.log.shape post.content content read)
-            ∙ (admitted-of (roster_of m.roster) m.seat.round m.seat.number bytes header post are is).reads) in
+        ∙ (admitted-of (roster_of m.roster) m.seat.round m.seat.number bytes header post are is).reads) in
         subst (λ (h : Header). StandsIn m.log.shape (slot_named h) post.content) same
         (stand-read m.log.shape post.content content (content-bytes (roster_of m.roster) m.seat.round m.seat.number bytes header post are is) read)
 
@@ -192,7 +191,7 @@ pub takes-new : (now later start : Replies) (c : Configuration) (delivered : Lis
 takes-new now later start c delivered m bytes header post behind taken f going is found s runs told goes =
     let a : Actor = actor_after start c delivered in
     let comes = new-comes start c a bytes header post (goes-on c a (holdings_of m) s.at going) (another-so now start c a m bytes header post s is)
-        (found-so now start c a m header post.content New f s found) in
+    (found-so now start c a m header post.content New f s found) in
     let stands = goes a s in
     let b : Actor = actor_behind_steps start c (actor_behind_repeat start c (record a { log = filled a.log (slot_named header) post }) a.mood) in
     record {
@@ -208,7 +207,7 @@ pub new-busy : (now start : Replies) (c : Configuration) (delivered : List (List
 new-busy now start c delivered m bytes header post f going is found s leaves =
     let a : Actor = actor_after start c delivered in
     let comes = new-comes start c a bytes header post (goes-on c a (holdings_of m) s.at going) (another-so now start c a m bytes header post s is)
-        (found-so now start c a m header post.content New f s found) in
+    (found-so now start c a m header post.content New f s found) in
     by_verdict _ (subst LeavesAll comes.answer leaves)
   where
     by_verdict : (v : Verdict) → LeavesAll (answer_by_end v) → ⊥
@@ -225,8 +224,8 @@ pub takes-same : (now start : Replies) (c : Configuration) (delivered : List (Li
 takes-same now start c delivered m bytes header post f going is found s =
     let a : Actor = actor_after start c delivered in
     let comes = same-comes start c a bytes header post (goes-on c a (holdings_of m) s.at going) (idle_leaves_all start c delivered bytes)
-        (another-so now start c a m bytes header post s is) (found-so now start c a m header post.content Kept f s found) in
-    record { stands = subst (λ (b : Actor). StandsFor now start c b (holdings_of m)) (sym comes.behind) s; answer = sym comes.answer; }
+    (another-so now start c a m bytes header post s is) (found-so now start c a m header post.content Kept f s found) in
+    record { stands = subst (λ (b : Actor). StandsFor now start c b (holdings_of m)) (sym comes.behind) s; answer = sym comes.answer }
 
 -- ---- a string that convicts
 
@@ -373,7 +372,7 @@ pub takes-unframed : (now start : Replies) (c : Configuration) (delivered : List
 takes-unframed now start c delivered m bytes at going e s =
     let a : Actor = actor_after start c delivered in
     let comes = unframed-comes start c a bytes at (goes-on c a (holdings_of m) s.at going) e in
-    record { stands = subst (λ (b : Actor). StandsFor now start c b (holdings_of m)) (sym comes.behind) s; answer = sym comes.answer; }
+    record { stands = subst (λ (b : Actor). StandsFor now start c b (holdings_of m)) (sym comes.behind) s; answer = sym comes.answer }
 
 admission-so : (now start : Replies) (c : Configuration) (a : Actor) (m : Machine) (post : Post) (answer : Result Header PostRefusal)
     → StandsFor now start c a (holdings_of m) → answer ≡ framed_admission_of (roster_of m.roster) m.seat.round post
@@ -389,8 +388,8 @@ pub takes-refused : (now start : Replies) (c : Configuration) (delivered : List 
 takes-refused now start c delivered m bytes post refusal going framed e s =
     let a : Actor = actor_after start c delivered in
     let comes = refused-comes start c a bytes post refusal (goes-on c a (holdings_of m) s.at going) framed
-        (admission-so now start c a m post (Err refusal) s e) in
-    record { stands = subst (λ (b : Actor). StandsFor now start c b (holdings_of m)) (sym comes.behind) s; answer = sym comes.answer; }
+    (admission-so now start c a m post (Err refusal) s e) in
+    record { stands = subst (λ (b : Actor). StandsFor now start c b (holdings_of m)) (sym comes.behind) s; answer = sym comes.answer }
 
 pub takes-own : (now start : Replies) (c : Configuration) (delivered : List (List ℕ)) (m : Machine) (bytes : List ℕ) (header : Header) (post : Post)
     → IsOpen m.ending → frame_of bytes ≡ Ok post → Ok header ≡ framed_admission_of (roster_of m.roster) m.seat.round post
@@ -399,8 +398,8 @@ pub takes-own : (now start : Replies) (c : Configuration) (delivered : List (Lis
 takes-own now start c delivered m bytes header post going framed e own s =
     let a : Actor = actor_after start c delivered in
     let comes = own-comes start c a bytes post header (goes-on c a (holdings_of m) s.at going) framed
-        (admission-so now start c a m post (Ok header) s e) (eq-eqb header.sender c.number (own ∙ s.entered.number)) in
-    record { stands = subst (λ (b : Actor). StandsFor now start c b (holdings_of m)) (sym comes.behind) s; answer = sym comes.answer; }
+    (admission-so now start c a m post (Ok header) s e) (eq-eqb header.sender c.number (own ∙ s.entered.number)) in
+    record { stands = subst (λ (b : Actor). StandsFor now start c b (holdings_of m)) (sym comes.behind) s; answer = sym comes.answer }
 
 -- a post of another that the checks pass
 pub another : (m : Machine) (bytes : List ℕ) (header : Header) (post : Post) → frame_of bytes ≡ Ok post

@@ -1,6 +1,6 @@
 -- A post that a member makes: what is true of the member stays true, and it stands for the pure machine behind that post.
-use Rattle.std.proofs.Common.{◌≡◌, ◌⊎◌, ℕ, ◌+◌, ◌-◌, ◌*◌, ◌<◌, ◌≤◌, ◌^◌, Bool, true, false, List, [], ◌∷◌, ◌++◌, length, Option, Some, None, ap, sym, ◌∙◌, refl, subst, arith, inl, inr, append-nil, append_assoc, length-append, eq-eqb}
-use Rattle.std.specs.Prelude.{◌==◌, ◌&&◌, IsSome, count_by, is_ok}
+use Rattle.std.proofs.Common.{◌≡◌, ℕ, ◌+◌, ◌-◌, ◌*◌, ◌<◌, ◌≤◌, ◌^◌, Bool, true, false, List, [], ◌∷◌, ◌++◌, length, Option, Some, None, ap, sym, ◌∙◌, refl, subst, arith, inl, inr, append-nil, length-append, eq-eqb}
+use Rattle.std.specs.Prelude.{◌==◌, ◌&&◌, count_by, is_ok}
 use Rattle.std.specs.Int.{w32, to_be_bytes}
 use Rattle.std.specs.List.{range_with_len}
 use Rattle.std.specs.Option.{option_map, option_to_list}
@@ -17,13 +17,12 @@ use Rattle.phase_message.specs.declared.stage.StageKind.TheVariants.{Keys, Submi
 use Rattle.phase_message.specs.Offence.{content_read}
 use Rattle.phase_message.specs.Post.{post_spelling}
 use Rattle.phase_message.specs.Shape.{Shape}
-use Rattle.phase_message.specs.Slots.{stage_count}
 use Rattle.phase_message.specs.Stages.{is_slot, kind_of_stage, shape_of}
 use Rattle.phase_message.proofs.SlotBounds.{slot-bounds}
 use Rattle.group_roster.specs.Roster.{Roster, shape_of_roster}
 use Rattle.signed_post.specs.declared.post.TheConstants.{LONGEST_SIGNATURE}
 use Rattle.signed_post.proofs.Lengths.{valid-short}
-use Rattle.stage_log.specs.Log.{before, contents_of}
+use Rattle.stage_log.specs.Log.{before}
 use Rattle.stage_log.specs.Seen.{HasSeen}
 use Rattle.stage_log.specs.Put.{put_log}
 use Rattle.stage_log.specs.Table.{IsKept, Log, filled, kept_in}
@@ -37,7 +36,7 @@ use Rattle.round_spec.specs.Slots.{submit_stage}
 use Rattle.round_spec.specs.Course.{is_open}
 use Rattle.closing_verdict.specs.Carried.{stage_found, stage_opened}
 use Rattle.member_spec.specs.declared.mood.Mood.{Mood}
-use Rattle.member_spec.specs.declared.mood.Mood.TheVariants.{Mute, PutOff, Spoken, Unasked}
+use Rattle.member_spec.specs.declared.mood.Mood.TheVariants.{Mute, Spoken, Unasked}
 use Rattle.member_spec.specs.Actor.{Actor, actor_behind_post, descriptor_made}
 use Rattle.member_spec.specs.Outcomes.{outcome_of}
 use Rattle.member_spec.specs.Replies.{KeepsSlot, Replies}
@@ -51,7 +50,7 @@ use Rattle.member_core.specs.Membership.{Holdings, IsOpen, holdings_of, own_post
 use Rattle.member_core.specs.Needs.{HoldsNeeded, is_going, no_secrets, was_asked}
 use Rattle.member_core.specs.Shorts.{IsShortLog, most_in, own_limit}
 use Rattle.member_core.specs.Sound.{IsEmptyFrom, IsFormed, IsMachineOf, IsMoodOf, IsReady, IsSound, slot_here}
-use Rattle.member_core.specs.Stands.{AnswersBy, HasEntered, IsOwnOf, ShowsOutcome, StandsFor}
+use Rattle.member_core.specs.Stands.{HasEntered, IsOwnOf, ShowsOutcome, StandsFor}
 use Rattle.member_core.proofs.OwnPosts.{fewer-said, kept-cases, one-more, own-elsewhere, own-here, said-before}
 use Rattle.member_core.proofs.Saying.{filled-stands, ok-read, put-fills, read-kept, read-stands}
 use Rattle.member_core.proofs.Storing.{answers-stay, asked-within, before-stays, keys-stay, open-shown, opened-stay, past-stays, posts-stay, shown-open, slots-stay, some-mapped}
@@ -234,7 +233,7 @@ posted-ready m post f r asked =
       mood = (
         λ later le. own-elsewhere m.log m.seat.number m.stage later post asked.speaks (λ e. omega arith) ∙ silent.empty later (omega arith),
         silent.stray,
-        some_is (kept_in (filled m.log (slot_here m) post) (slot_here m)) post (own-here m.log m.seat.number m.stage post f.log asked.speaks)
+        some_is (kept_in (filled m.log (slot_here m) post) (slot_here m)) post (own-here m.log m.seat.number m.stage post f.log asked.speaks),
       );
     }
 
@@ -261,8 +260,18 @@ strayed-formed m post f r asked signed =
     let made = ap length (strayed-made m post silent) in
     let longer = length-append (posts_made (holdings_of m)) (post ∷ []) in
     record {
-      entered = (f.entered.0, record { roster = e.roster; seat = e.seat; message = e.message; secrets = record { first = tt; bulk = tt; second = tt };
-        hidden = e.hidden; hidden_short = e.hidden_short; pad = e.pad });
+      entered = (
+        f.entered.0,
+        record {
+          roster = e.roster;
+          seat = e.seat;
+          message = e.message;
+          secrets = record { first = tt; bulk = tt; second = tt };
+          hidden = e.hidden;
+          hidden_short = e.hidden_short;
+          pad = e.pad;
+        },
+      );
       message = f.message;
       log = f.log;
       shape = f.shape;

@@ -152,7 +152,7 @@ posts-said replies_of c delivered m is =
     let are = is.stands.strings in
     let comes = plain_comes_to_result is.start c delivered is.plain enters are in
     sym comes.posts ∙ said-after is.start c delivered (actor_after is.start c delivered) refl comes
-        (plain_posts_are_said is.start c delivered is.plain enters are)
+    (plain_posts_are_said is.start c delivered is.plain enters are)
 
 -- ---- clauses
 
@@ -181,7 +181,7 @@ plain-start replies_of start c m plain stands = record { start = start; plain = 
 -- where one stands for more deliveries than the other did by the same answers, it is plain if the other was
 pub plain-goes-on : {A : Type 0} (replies_of : A → Replies) (old new : Membership A) (more : List (List ℕ) → List (List ℕ))
     → ((start : Replies) (c : Configuration) (delivered : List (List ℕ)) → Stands replies_of start c delivered old
-        → Stands replies_of start c (more delivered) new)
+    → Stands replies_of start c (more delivered) new)
     → (c : Configuration) (delivered : List (List ℕ)) → IsPlainMember replies_of c delivered old → IsPlainMember replies_of c (more delivered) new
 plain-goes-on replies_of old new more stands c delivered is =
     record { start = is.start; plain = is.plain; stands = stands is.start c delivered is.stands }

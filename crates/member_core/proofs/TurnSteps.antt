@@ -1,5 +1,5 @@
 -- One step of a member is one step of the pure machine.
-use Rattle.std.proofs.Common.{◌≡◌, ℕ, ◌+◌, ◌<◌, ◌≤◌, Bool, true, false, List, [], ◌∷◌, Option, Some, None, Result, Ok, Err, ap, sym, ◌∙◌, refl, subst, arith, inl, inr}
+use Rattle.std.proofs.Common.{◌≡◌, ℕ, ◌<◌, Bool, true, false, List, [], ◌∷◌, Option, Some, None, Result, Ok, Err, ap, sym, ◌∙◌, refl, subst, arith, inl, inr}
 use Rattle.std.specs.Prelude.{IfOk, is_some, nat_lt, ◌&&◌}
 use Rattle.std.specs.List.{list_all}
 use Rattle.std.specs.Option.{option_map}
@@ -11,7 +11,7 @@ use Rattle.phase_message.specs.Stages.{is_slot, shape_of}
 use Rattle.stage_log.specs.Log.{all_some}
 use Rattle.stage_log.specs.Table.{Log, is_complete, posts_in}
 use Rattle.round_spec.specs.Course.{is_open}
-use Rattle.round_spec.specs.Result.{Outcome, Waiting as WaitingFor}
+use Rattle.round_spec.specs.Result.{Waiting as WaitingFor}
 use Rattle.round_spec.specs.Say.{Configuration, shape_in}
 use Rattle.member_spec.specs.declared.mood.Mood.{Mood}
 use Rattle.member_spec.specs.declared.mood.Mood.TheVariants.{Unasked, PutOff, Spoken, Mute}
@@ -84,7 +84,7 @@ no-posts m now start c a formed open-stage is =
           let within : a.stand.at < stage_count (shape_in c) = omega (arith, count, at, lt) in
           let inside : m.stage < stage_count (shape_of m.seat.shape) = omega (arith, seat-count, lt) in
           let not-full = not-both (nat_lt m.stage (stage_count (shape_of m.seat.shape))) (is_complete m.log m.stage) open-stage
-            (lt-ltb m.stage (stage_count (shape_of m.seat.shape)) inside) in
+          (lt-ltb m.stage (stage_count (shape_of m.seat.shape)) inside) in
           posts-within c a within
           ∙ sym (ap (λ (log : Log). all_some (posts_in log m.stage)) is.at.log ∙ ap (λ (n : ℕ). all_some (posts_in a.log n)) is.at.stage)
           ∙ not-all (posts_in m.log m.stage) not-full

@@ -1,7 +1,6 @@
-use Rattle.std.proofs.Common.{◌≡◌, ℕ, ◌+◌, ◌*◌, ap, sym, ◌∙◌, subst, arith}
+use Rattle.std.proofs.Common.{◌≡◌, ℕ, ◌*◌, ap, sym, ◌∙◌, subst, arith}
 use Rattle.std.specs.Fn.{iterate}
 use Rattle.phase_message.specs.Slots.{stage_count}
-use Rattle.phase_message.specs.Stages.{shape_of}
 use Rattle.round_spec.specs.Say.{shape_in}
 use Rattle.member_spec.specs.Actor.{Actor, actor_behind_step}
 use Rattle.member_core.specs.Membership.{holdings_of}
@@ -16,8 +15,8 @@ loop-preserved g c = (
   c.in_ok-turn.ensures.runs,
   c.in_ok-turn.ensures.handed ∙ c.loop.invariant.2,
   λ start c' a is. subst (λ (b : Actor). StandsFor (g.C.Conduct.replies c.turn.new.conduct) start c' b (holdings_of c.turn.new.self))
-    (sym (iterate-more (actor_behind_step start c') c.loop.counter a))
-    (c.in_ok-turn.ensures.stands start c' (iterate (actor_behind_step start c') c.loop.counter a) (c.loop.invariant.3 start c' a is))
+      (sym (iterate-more (actor_behind_step start c') c.loop.counter a))
+      (c.in_ok-turn.ensures.stands start c' (iterate (actor_behind_step start c') c.loop.counter a) (c.loop.invariant.3 start c' a is)),
 )
 
 pub returns-clause-stands : goal.returns-clause-stands

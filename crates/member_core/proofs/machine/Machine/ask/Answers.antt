@@ -1,17 +1,15 @@
 -- The conduct is asked, and what it answers is done.
-use Rattle.std.proofs.Common.{◌≡◌, ◌≤◌, List, ℕ, length, arith, ap, sym, ◌∙◌, refl, subst}
+use Rattle.std.proofs.Common.{◌≡◌, sym, ◌∙◌, refl, subst}
 use Rattle.phase_message.specs.Stages.{kind_of_stage}
-use Rattle.round_spec.specs.Say.{Configuration}
-use Rattle.member_spec.specs.declared.conduct.Speech.{Speech}
 use Rattle.member_spec.specs.declared.conduct.Speech.TheVariants.{Say as Says, Wait as Waits, Silent as IsSilent}
-use Rattle.member_spec.specs.Actor.{Actor, actor_behind_question}
-use Rattle.member_spec.specs.Replies.{HasAtMost, HasSlot, IsForSlot, Replies}
+use Rattle.member_spec.specs.Actor.{actor_behind_question}
+use Rattle.member_spec.specs.Replies.{HasAtMost, IsForSlot, Replies}
 use Rattle.member_core.specs.declared.machine.Machine.{Machine}
 use Rattle.member_core.specs.Membership.{IsOpen, holdings_of}
 use Rattle.member_core.specs.Shorts.{own_limit}
 use Rattle.member_core.specs.Sound.{IsFormed, IsSound, slot_here}
 use Rattle.member_core.specs.Stands.{StandsFor}
-use Rattle.member_core.proofs.Answered.{muted-formed, muted-sound, muted-stands, put_off, put_off-formed, put_off-sound, put_off-stands, question-so}
+use Rattle.member_core.proofs.Answered.{muted-formed, muted-sound, muted-stands, put_off, put_off-sound, put_off-stands, question-so}
 use Rattle.member_core.proofs.Posting.{muted}
 use Rattle.member_core.proofs.Saying.{if-err, ok-so}
 use Rattle.member_core.proofs.Storing.{own-least}

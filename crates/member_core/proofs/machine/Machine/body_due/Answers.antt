@@ -1,12 +1,9 @@
 -- The body of the row of the stage's kind.
-use Rattle.std.proofs.Common.{◌≡◌, ℕ, Some, None, ap, sym, ◌∙◌, refl, subst}
-use Rattle.phase_message.specs.declared.content.Body.{Body}
+use Rattle.std.proofs.Common.{ℕ, Some, None, ap, sym, ◌∙◌, refl}
 use Rattle.phase_message.specs.declared.stage.StageKind.{StageKind}
 use Rattle.phase_message.specs.declared.stage.StageKind.TheVariants.{Submit, Final}
-use Rattle.phase_message.specs.Stages.{kind_of_stage}
 use Rattle.member_core.proofs.Dispatch.{due-of, has-kind, kind-told, needed-plain, plain-apart, plain-kind, same-own, same-secrets, second-shuffle, stands-plain}
 use Rattle.member_core.proofs.Saying.{ok-all, ok-so}
-use Rattle.member_core.proofs.machine.Machine.body_due.Given.{Over}
 use Rattle.member_core.proofs.machine.Machine.body_due.Goals as goal
 
 pub unreachable-requires : goal.unreachable-requires
@@ -28,7 +25,7 @@ pub first_submission_due-requires-clause-asked : goal.first_submission_due-requi
 first_submission_due-requires-clause-asked g c = c.requires.asked
 
 pub first_submission_due-requires-clause-kind : goal.first_submission_due-requires-clause-kind
-first_submission_due-requires-clause-kind g c = 
+first_submission_due-requires-clause-kind g c =
     let at = kind-told c.args.self.now (Some c.in-Some.kind) c.requires.formed c.in-Some.ensures.kind in
     at ∙ ap (λ (kind : StageKind). Some kind) c.in-Submit-eq1.is ∙ ap (λ (shuffle : ℕ). Some (Submit shuffle)) (sym c.in-Submit-eq1.shuffle-is ∙ c.in-Submit-eq1.shuffle-test)
 
@@ -45,7 +42,7 @@ pub second_submission_due-requires-clause-asked : goal.second_submission_due-req
 second_submission_due-requires-clause-asked g c = c.requires.asked
 
 pub second_submission_due-requires-clause-kind : goal.second_submission_due-requires-clause-kind
-second_submission_due-requires-clause-kind g c = 
+second_submission_due-requires-clause-kind g c =
     let m = c.args.self.now in
     let at = kind-told m (Some c.in-Some.kind) c.requires.formed c.in-Some.ensures.kind ∙ ap (λ (kind : StageKind). Some kind) c.in-Submit.is in
     at ∙ ap (λ (shuffle : ℕ). Some (Submit shuffle)) (second-shuffle m.log.shape m.stage c.in-Submit.shuffle at (λ e. c.in-Submit.shuffle-test.1 (c.in-Submit.shuffle-is ∙ e)))
@@ -63,7 +60,7 @@ pub end_due-requires-clause-asked : goal.end_due-requires-clause-asked
 end_due-requires-clause-asked g c = c.requires.asked
 
 pub end_due-requires-clause-kind : goal.end_due-requires-clause-kind
-end_due-requires-clause-kind g c = 
+end_due-requires-clause-kind g c =
     let at = kind-told c.args.self.now (Some c.in-Some.kind) c.requires.formed c.in-Some.ensures.kind in
     at ∙ ap (λ (kind : StageKind). Some kind) c.in-Final.is
 
@@ -89,7 +86,7 @@ pub returns-in-Submit-eq1-clause-needed : goal.returns-in-Submit-eq1-clause-need
 returns-in-Submit-eq1-clause-needed g c = c.first_submission_due.ensures.needed
 
 pub returns-in-Submit-eq1-clause-due : goal.returns-in-Submit-eq1-clause-due
-returns-in-Submit-eq1-clause-due g c = 
+returns-in-Submit-eq1-clause-due g c =
     let at = kind-told c.args.self.now (Some c.in-Some.kind) c.requires.formed c.in-Some.ensures.kind in
     let here = at ∙ ap (λ (kind : StageKind). Some kind) c.in-Submit-eq1.is ∙ ap (λ (shuffle : ℕ). Some (Submit shuffle)) (sym c.in-Submit-eq1.shuffle-is ∙ c.in-Submit-eq1.shuffle-test) in
     ok-so c.first_submission_due.result _ _ (λ body due kind also. due-of (g.C.Conduct.replies c.args.conduct.now) c.args.self.now (Submit 1) kind body here also due) c.first_submission_due.ensures.due
@@ -109,7 +106,7 @@ pub returns-in-Submit-clause-needed : goal.returns-in-Submit-clause-needed
 returns-in-Submit-clause-needed g c = c.second_submission_due.ensures.needed
 
 pub returns-in-Submit-clause-due : goal.returns-in-Submit-clause-due
-returns-in-Submit-clause-due g c = 
+returns-in-Submit-clause-due g c =
     let m = c.args.self.now in
     let at = kind-told m (Some c.in-Some.kind) c.requires.formed c.in-Some.ensures.kind ∙ ap (λ (kind : StageKind). Some kind) c.in-Submit.is in
     let here = at ∙ ap (λ (shuffle : ℕ). Some (Submit shuffle)) (second-shuffle m.log.shape m.stage c.in-Submit.shuffle at (λ e. c.in-Submit.shuffle-test.1 (c.in-Submit.shuffle-is ∙ e))) in
@@ -130,7 +127,7 @@ pub returns-in-Final-clause-needed : goal.returns-in-Final-clause-needed
 returns-in-Final-clause-needed g c = c.end_due.ensures.needed
 
 pub returns-in-Final-clause-due : goal.returns-in-Final-clause-due
-returns-in-Final-clause-due g c = 
+returns-in-Final-clause-due g c =
     let at = kind-told c.args.self.now (Some c.in-Some.kind) c.requires.formed c.in-Some.ensures.kind in
     let here = at ∙ ap (λ (kind : StageKind). Some kind) c.in-Final.is in
     ok-so c.end_due.result _ _ (λ body due kind also. due-of (g.C.Conduct.replies c.args.conduct.now) c.args.self.now (Final c.in-Final.shuffle) kind body here also (due (g.C.Conduct.replies c.args.conduct.now))) c.end_due.ensures.due

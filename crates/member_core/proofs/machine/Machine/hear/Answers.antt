@@ -1,5 +1,4 @@
-use Rattle.std.proofs.Common.{◌≡◌, ℕ, List, arith, ap, sym, ◌∙◌, refl, subst}
-use Rattle.phase_message.specs.declared.post.Post.{Post}
+use Rattle.std.proofs.Common.{arith, ap, sym, ◌∙◌, refl, subst}
 use Rattle.phase_message.specs.Stages.{shape_of}
 use Rattle.stage_log.specs.Table.{kept_in}
 use Rattle.stage_log.proofs.Fronts.{some_is}
@@ -46,7 +45,7 @@ blame-requires-clause-short g c = c.requires.sound.formed.short
 pub blame-requires-clause-other : goal.blame-requires-clause-other
 blame-requires-clause-other g c = λ other.
     let first = found-other (shape_of c.args.self.now.seat.shape) (kept_in c.args.self.now.log (slot_named c.args.header)) c.args.parts.content.now
-        (sym c.find-found.ensures ∙ other) in
+    (sym c.find-found.ensures ∙ other) in
     some_is (kept_in c.args.self.now.log (slot_named c.args.header)) first.0 first.1
 
 pub returns-in_err-blame-in-Malformed-clause-formed : goal.returns-in_err-blame-in-Malformed-clause-formed

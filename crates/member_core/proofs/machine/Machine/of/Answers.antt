@@ -1,7 +1,6 @@
-use Rattle.std.proofs.Common.{◌≡◌, refl}
-use Rattle.group_roster.specs.Given.{roster_of}
+use Rattle.std.proofs.Common.{refl}
 use Rattle.member_core.specs.Stands.{configuration_of}
-use Rattle.member_core.proofs.Beginning.{IsEntry, entered-sound, entered-stands}
+use Rattle.member_core.proofs.Beginning.{entered-sound, entered-stands}
 use Rattle.member_core.proofs.machine.Machine.of.Goals as goal
 
 pub returns-clause-sound : goal.returns-clause-sound

@@ -1,9 +1,7 @@
 -- The row of a kind, where it takes no secret and asks about no descriptor.
-use Rattle.std.proofs.Common.{◌≡◌, Some, ap, sym, ◌∙◌, refl, subst, inl, inr}
-use Rattle.phase_message.specs.declared.content.Body.{Body}
+use Rattle.std.proofs.Common.{Some, ap, sym, ◌∙◌, subst, inl, inr}
 use Rattle.phase_message.specs.declared.stage.StageKind.{StageKind}
-use Rattle.phase_message.specs.declared.stage.StageKind.TheVariants.{Keys, Submit, Shuffle, Go, Final, Pad, Check, Confirm}
-use Rattle.phase_message.specs.Stages.{kind_of_stage}
+use Rattle.phase_message.specs.declared.stage.StageKind.TheVariants.{Shuffle}
 use Rattle.member_core.specs.Asking.{IsDue, IsPlainKind}
 use Rattle.member_core.proofs.Dispatch.{due-of}
 use Rattle.member_core.proofs.Saying.{ok-so}

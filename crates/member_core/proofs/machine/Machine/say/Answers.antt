@@ -1,5 +1,5 @@
 -- Bytes are signed with the next leaf; the post is kept in the own slot if they are a content of the grammar.
-use Rattle.std.proofs.Common.{◌≡◌, ◌≤◌, List, ℕ, length, true, arith, ap, sym, ◌∙◌, refl, subst}
+use Rattle.std.proofs.Common.{◌≡◌, List, ℕ, length, true, arith, ap, sym, ◌∙◌, refl, subst}
 use Rattle.std.specs.Prelude.{IsTrue, is_ok}
 use Rattle.wire_core.specs.Bytes.{IsBytes}
 use Rattle.lms_tree.specs.States.{RunState}
@@ -8,15 +8,11 @@ use Rattle.phase_message.specs.declared.stage.Slot.{Slot}
 use Rattle.phase_message.specs.Offence.{content_read}
 use Rattle.phase_message.specs.Stages.{is_slot, kind_of_stage}
 use Rattle.stage_log.specs.Table.{filled}
-use Rattle.round_spec.specs.Say.{Configuration}
 use Rattle.member_spec.specs.declared.conduct.Speech.TheVariants.{Say as Says}
 use Rattle.member_spec.specs.declared.mood.Mood.TheVariants.{Spoken}
-use Rattle.member_spec.specs.Actor.{Actor, actor_behind_answer}
-use Rattle.member_spec.specs.Replies.{Replies}
+use Rattle.member_spec.specs.Actor.{actor_behind_answer}
 use Rattle.member_core.specs.declared.machine.Machine.{Machine}
-use Rattle.member_core.specs.Asking.{StandsAsked}
 use Rattle.member_core.specs.Membership.{IsOpen, holdings_of}
-use Rattle.member_core.specs.Shorts.{own_limit}
 use Rattle.member_core.specs.Sound.{IsFormed, IsSound, slot_here}
 use Rattle.member_core.specs.Stands.{StandsFor}
 use Rattle.member_core.proofs.Posting.{IsOwnContent, IsSigned, leaf-left, limit-small, own-content, posted-so, posted-sound, posted-stands, put-here, signed-post, strayed-formed, strayed, strayed-so, strayed-sound, strayed-stands, told-reads}
@@ -149,6 +145,6 @@ returns-else-is_content-clause-handed c = so-strayed (λ (n : Machine). n.handed
 pub returns-else-is_content-clause-stands : goal.returns-else-is_content-clause-stands
 returns-else-is_content-clause-stands c now start conf a s =
     let outside = told-reads c.args.self.now c.args.bytes c.deref-2.result.now c.is_of_grammar-is_content.result c.requires.formed (c.deref-2.ensures.value ∙ c.items-2.ensures) c.is_of_grammar-is_content.ensures.value
-        ∙ c.if-is_content.false in
+    ∙ c.if-is_content.false in
     so-strayed (λ (n : Machine). StandsFor now start conf (actor_behind_answer conf a (Says c.args.bytes)) (holdings_of n)) c
     (strayed-stands now start conf a c.args.self.now (post-strayed c) c.requires.formed c.requires.ready c.requires.speakable.to_be_asked (signed-strayed c) outside s)

@@ -1,10 +1,9 @@
 -- The body that is due is spelled, and the conduct is asked about the bytes.
-use Rattle.std.proofs.Common.{◌≡◌, ◌≤◌, List, ℕ, Option, Some, length, arith, ap, sym, ◌∙◌, refl, subst}
+use Rattle.std.proofs.Common.{◌≤◌, List, ℕ, length, arith, ap, ◌∙◌, subst}
 use Rattle.std.specs.Prelude.{IsTrue}
-use Rattle.phase_message.specs.declared.stage.StageKind.{StageKind}
 use Rattle.phase_message.specs.Grammar.{IsBody, content_text}
 use Rattle.phase_message.specs.Stages.{is_slot, kind_of_stage}
-use Rattle.member_spec.specs.Actor.{actor_behind_question, content_to_say}
+use Rattle.member_spec.specs.Actor.{actor_behind_question}
 use Rattle.member_core.specs.declared.machine.Machine.{Machine}
 use Rattle.member_core.specs.Asking.{IsDue, content_here}
 use Rattle.member_core.specs.Membership.{holdings_of}
@@ -12,7 +11,6 @@ use Rattle.member_core.specs.Shorts.{own_limit}
 use Rattle.member_core.specs.Stands.{StandsFor}
 use Rattle.member_core.proofs.Dispatch.{asked-left, content-is, kind-here, left-so, ready-left}
 use Rattle.member_core.proofs.Saying.{if-err, ok-so}
-use Rattle.member_core.proofs.machine.Machine.speak.Given.{Over}
 use Rattle.member_core.proofs.machine.Machine.speak.Goals as goal
 use Rattle.member_core.proofs.machine.Machine.speak.Goals.{After-ask}
 
@@ -128,6 +126,6 @@ returns-clause-stands g c = ok-so c.ask.result _ _ (λ _ so start conf a s.
     let kind = kind-here m c.requires.asked in
     let due : IsDue (g.C.Conduct.replies c.args.conduct.now) m kind.0 c.in_ok-body.body = c.in_ok-body.ensures.due kind.0 kind.1 in
     let said = c.in_ok-bytes.ensures.spelled ∙ ap (λ (x : Machine). content_text (content_here x c.in_ok-body.body)) c.in_ok-body.ensures.same
-        ∙ content-is (g.C.Conduct.replies c.args.conduct.now) start conf a m kind.0 c.in_ok-body.body c.requires.formed kind.1 s (due.told start conf a s) in
+    ∙ content-is (g.C.Conduct.replies c.args.conduct.now) start conf a m kind.0 c.in_ok-body.body c.requires.formed kind.1 s (due.told start conf a s) in
     subst (λ (bytes : List ℕ). StandsFor (g.C.Conduct.replies c.ask.new.conduct) start conf (actor_behind_question start conf a bytes) (holdings_of c.ask.new.self)) said
     (so start conf a (c.in_ok-body.ensures.stands start conf a s))) c.ask.ensures.stands

@@ -1,5 +1,4 @@
-use Rattle.std.proofs.Common.{◌≡◌, ℕ, List, arith, ap, sym, ◌∙◌, refl, subst}
-use Rattle.phase_message.specs.declared.post.Post.{Post}
+use Rattle.std.proofs.Common.{arith, refl}
 use Rattle.signed_post.specs.declared.post.PostRefusal.TheVariants.{Frame}
 use Rattle.signed_post.proofs.Frames.{framed-fits}
 use Rattle.member_spec.specs.declared.taken.Taken.TheVariants.{Ignored, Own}

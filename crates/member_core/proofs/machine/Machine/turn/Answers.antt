@@ -1,5 +1,4 @@
-use Rattle.std.proofs.Common.{◌≡◌, ap, sym, ◌∙◌, subst}
-use Rattle.std.specs.Prelude.{IfOk}
+use Rattle.std.proofs.Common.{sym, ◌∙◌, subst}
 use Rattle.round_spec.specs.Say.{Configuration}
 use Rattle.member_spec.specs.Actor.{Actor, actor_behind_question, actor_behind_step, content_to_say}
 use Rattle.member_spec.specs.Replies.{Replies}

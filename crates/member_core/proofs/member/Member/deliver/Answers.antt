@@ -49,7 +49,7 @@ ended-now g c =
 pub returns-in-Done-clause-stands : goal.returns-in-Done-clause-stands
 returns-in-Done-clause-stands g c start c' delivered stands =
     ended-stands g.C.Conduct.replies start c' delivered c.args.bytes.now c.args.self.now (λ i. omega (arith, c.type_inv.bytes i)) (ended-now g c)
-        stands
+    stands
 
 pub returns-in-Done-clause-plain_member : goal.returns-in-Done-clause-plain_member
 returns-in-Done-clause-plain_member g c c' delivered is =
@@ -108,7 +108,7 @@ pub returns-in-Ok-clause-stands : goal.returns-in-Ok-clause-stands
 returns-in-Ok-clause-stands g c start c' delivered stands =
     let old = subst (Stands g.C.Conduct.replies start c' delivered) (sym c.self.view_is) stands in
     taken-stands g.C.Conduct.replies start c' delivered c.args.bytes.now c.in-Ok.taken
-        (record { holds = holdings_of c.take.new.self; conduct = c.take.new.conduct })
+    (record { holds = holdings_of c.take.new.self; conduct = c.take.new.conduct })
     stands.strings (λ i. omega (arith, c.type_inv.bytes i)) (c.in-Ok.ensures.takes start c' delivered old.stands)
 
 pub returns-in-Ok-clause-plain_member : goal.returns-in-Ok-clause-plain_member
@@ -118,7 +118,7 @@ returns-in-Ok-clause-plain_member g c c' delivered is =
 pub returns-in-Ok-clause-run : goal.returns-in-Ok-clause-run
 returns-in-Ok-clause-run g c c' delivered is =
     plain-run g.C.Conduct.replies c' (delivered ++ c.args.bytes.now ∷ [])
-        (record { holds = holdings_of c.take.new.self; conduct = c.take.new.conduct })
+    (record { holds = holdings_of c.take.new.self; conduct = c.take.new.conduct })
     (returns-in-Ok-clause-plain_member g c c' delivered is)
 
 pub returns-in-Ok-clause-answer : goal.returns-in-Ok-clause-answer

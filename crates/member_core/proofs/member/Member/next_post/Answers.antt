@@ -18,7 +18,7 @@ returns-in_default-post_made g c =
     (sym c.post_made.ensures.post ∙ ap option_copied c.in_default-post_made.is) in
     let nothing : None ≡ option_map post_spelling (next_made m) = sym (ap (option_map post_spelling) none) in
     let runs : IsRunning m.holds.ending = subst (λ (m : Membership D). IsRunning m.holds.ending) c.self.view_is
-        (runs-unless c.self.inside.machine.ending c.in_default.not-Stopped) in
+    (runs-unless c.self.inside.machine.ending c.in_default.not-Stopped) in
     record {
       post = nothing;
       plain = λ start c' delivered stands plain. next-plain g.C.Conduct.replies start c' delivered m None nothing stands plain;
@@ -54,7 +54,7 @@ returns-in-Ok g c =
     let bytes : Some c.in-Ok.bytes.items ≡ option_map post_spelling (next_made m) =
     ap (λ (x : List ℕ). Some x) c.in-Ok.ensures.text ∙ sym (ap (option_map post_spelling) there) in
     let runs : IsRunning m.holds.ending = subst (λ (m : Membership D). IsRunning m.holds.ending) c.self.view_is
-        (runs-unless c.self.inside.machine.ending c.in_default.not-Stopped) in
+    (runs-unless c.self.inside.machine.ending c.in_default.not-Stopped) in
     let next = ap (λ (m : Membership D). handed_next m (Some c.in-Ok.bytes)) c.self.view_is in
     record {
       post = bytes;
