@@ -90,7 +90,8 @@ impl Machine {
         ensures handed { IfOk result (λ _. self.new.handed ≡ self.old.handed) }
         ensures stands { IfOk result (λ _. (start : Replies) (c : Configuration) (a : Actor) →
             StandsAsked (C.replies conduct.old) start c a (holdings_of self.old) →
-            StandsFor (C.replies conduct.new) start c (actor_behind_question start c a bytes.items) (holdings_of self.new)) }
+            StandsFor (C.replies conduct.new) start c (actor_behind_question start c a bytes.items)
+            (holdings_of self.new)) }
     {
         match conduct.content(alloc, self.stage, bytes, &self.log)? {
             Speech::Say(bytes) => self.say(alloc, bytes),
@@ -108,7 +109,8 @@ impl Machine {
     // The header of what it says at the stage that is being filled.
     fn header_here(&self) -> Header
         requires { IsReady self.now }
-        ensures { result ≡ header_at self.now.seat self.now.stage (view_of self.now.log.shape (past_of self.now.log self.now.stage) self.now.stage) }
+        ensures { result ≡ header_at self.now.seat self.now.stage
+            (view_of self.now.log.shape (past_of self.now.log self.now.stage) self.now.stage) }
     {
         let view = self.seen.view();
         self.seat.header(self.stage, &view)
@@ -190,7 +192,8 @@ impl Machine {
         ensures handed { IfOk result (λ _. self.new.handed ≡ self.old.handed) }
         ensures stands { IfOk result (λ _. (start : Replies) (c : Configuration) (a : Actor) →
             StandsFor (C.replies conduct.old) start c a (holdings_of self.old) →
-            StandsFor (C.replies conduct.new) start c (actor_behind_question start c a (content_to_say start c a.stand)) (holdings_of self.new)) }
+            StandsFor (C.replies conduct.new) start c (actor_behind_question start c a (content_to_say start c a.stand))
+            (holdings_of self.new)) }
     {
         let body = self.body_due(alloc, conduct)?;
         let bytes = self.content_of(alloc, body)?;
