@@ -4,6 +4,7 @@
 
 mod config;
 mod ending;
+mod entering;
 mod machine;
 mod member;
 mod own;
