@@ -45,16 +45,20 @@ pub record IsApart (shape : Shape) (stage : ℕ) : Type 0 where
   pub final_a : final_stage shape 1 ≡ stage → ⊥
   pub final_b : final_stage shape 2 ≡ stage → ⊥
 
-pub plain-apart : (shape : Shape) (stage : ℕ) (kind : StageKind) → kind_of_stage shape stage ≡ Some kind → IsPlainKind kind → IsApart shape stage
+pub plain-apart : (shape : Shape) (stage : ℕ) (kind : StageKind) → kind_of_stage shape stage ≡ Some kind → IsPlainKind kind
+    → IsApart shape stage
 plain-apart shape stage kind is plain = record {
   submit_a = λ e. subst IsPlainKind (sym (one-kind (kind_of_stage shape stage) kind (Submit 1) is (submit_a_is shape stage (sym e)))) plain;
   submit_b = λ e. subst IsPlainKind (sym (one-kind (kind_of_stage shape stage) kind (Submit 2) is (submit_b_is shape stage (sym e)))) plain;
-  final_a = λ e. subst IsPlainKind (sym (one-kind (kind_of_stage shape stage) kind (Final 1) is (final_a_is shape stage (omega arith)))) plain;
-  final_b = λ e. subst IsPlainKind (sym (one-kind (kind_of_stage shape stage) kind (Final 2) is (final_b_is shape stage (omega arith)))) plain;
+  final_a = λ e. subst IsPlainKind (sym (one-kind (kind_of_stage shape stage) kind (Final 1) is (final_a_is shape stage (omega arith))))
+      plain;
+  final_b = λ e. subst IsPlainKind (sym (one-kind (kind_of_stage shape stage) kind (Final 2) is (final_b_is shape stage (omega arith))))
+      plain;
 }
 
 -- a kind is none of these if it is neither a submission nor an end
-pub plain-kind : (kind : StageKind) → ((shuffle : ℕ) → kind ≡ Submit shuffle → ⊥) → ((shuffle : ℕ) → kind ≡ Final shuffle → ⊥) → IsPlainKind kind
+pub plain-kind : (kind : StageKind) → ((shuffle : ℕ) → kind ≡ Submit shuffle → ⊥) → ((shuffle : ℕ) → kind ≡ Final shuffle → ⊥)
+    → IsPlainKind kind
 plain-kind Keys none other = tt
 plain-kind (Submit shuffle) none other = none shuffle refl
 plain-kind (Shuffle shuffle k) none other = tt
@@ -67,7 +71,8 @@ plain-kind Confirm none other = tt
 -- ---- the kind of its stage
 
 -- what is told of the seat's shape is so of the log's
-pub kind-told : (m : Machine) (o : Option StageKind) → IsFormed m → o ≡ kind_of_stage (shape_of m.seat.shape) m.stage → kind_of_stage m.log.shape m.stage ≡ o
+pub kind-told : (m : Machine) (o : Option StageKind) → IsFormed m → o ≡ kind_of_stage (shape_of m.seat.shape) m.stage
+    → kind_of_stage m.log.shape m.stage ≡ o
 kind-told m o f told = ap (λ (shape : Shape). kind_of_stage shape m.stage) f.shape ∙ sym told
 
 -- a member that speaks is at a stage of the round
@@ -80,12 +85,14 @@ has-kind m asked none =
 pub kind-here : (m : Machine) → IsToBeAsked m → (kind : StageKind) × (kind_of_stage m.log.shape m.stage ≡ Some kind)
 kind-here m asked = by_kind (kind_of_stage m.log.shape m.stage) refl
   where
-    by_kind : (o : Option StageKind) → kind_of_stage m.log.shape m.stage ≡ o → (kind : StageKind) × (kind_of_stage m.log.shape m.stage ≡ Some kind)
+    by_kind : (o : Option StageKind) → kind_of_stage m.log.shape m.stage ≡ o → (kind : StageKind)
+        × (kind_of_stage m.log.shape m.stage ≡ Some kind)
     by_kind (Some kind) e = (kind, e)
     by_kind None e = absurd (has-kind m asked e)
 
 -- the shuffles are two
-pub second-shuffle : (shape : Shape) (stage shuffle : ℕ) → kind_of_stage shape stage ≡ Some (Submit shuffle) → (shuffle ≡ 1 → ⊥) → shuffle ≡ 2
+pub second-shuffle : (shape : Shape) (stage shuffle : ℕ) → kind_of_stage shape stage ≡ Some (Submit shuffle) → (shuffle ≡ 1 → ⊥)
+    → shuffle ≡ 2
 second-shuffle shape stage shuffle at other =
     let place : IsPlaced shape stage (Submit shuffle) = kind-place shape stage (Submit shuffle) at in
     let bounds : (1 ≤ shuffle) × (shuffle ≤ 2) = place.kind_in in
@@ -103,7 +110,8 @@ due-of now m kind other body is also due =
 -- ---- where it was asked
 
 -- at another stage it was asked as before
-asked-else : (m : Machine) (other : ℕ) → IsToBeAsked m → (other ≡ m.stage → ⊥) → was_asked m.stage m.mood other ≡ was_asked m.stage Spoken other
+asked-else : (m : Machine) (other : ℕ) → IsToBeAsked m → (other ≡ m.stage → ⊥)
+    → was_asked m.stage m.mood other ≡ was_asked m.stage Spoken other
 asked-else m other asked apart = ap (λ (mood : Mood). was_asked m.stage mood other) asked.unasked ∙ elim (cases_lt other m.stage) [
   | inl lt ↦ lt-ltb other m.stage lt ∙ sym (lt-ltb other (m.stage + 1) (omega arith))
   | inr le ↦ elim (cases_lt m.stage other) [
@@ -115,13 +123,15 @@ asked-else m other asked apart = ap (λ (mood : Mood). was_asked m.stage mood ot
     above : (a b : ℕ) → b ≤ a → nat_lt a b ≡ false
     above a b le = false_from_ne_true (nat_lt a b) (λ e. (let lt = ltb-true a b e in omega arith))
 
-needs-else : (m : Machine) (other : ℕ) → IsToBeAsked m → (other ≡ m.stage → ⊥) → needs (holdings_of m) other ≡ needs (asked_at (holdings_of m) Spoken) other
+needs-else : (m : Machine) (other : ℕ) → IsToBeAsked m → (other ≡ m.stage → ⊥)
+    → needs (holdings_of m) other ≡ needs (asked_at (holdings_of m) Spoken) other
 needs-else m other asked apart =
     ap (λ (mute : Bool). is_going m.ending && (not mute && not (was_asked m.stage m.mood other))) (ap is_mute asked.unasked)
     ∙ ap (λ (was : Bool). is_going m.ending && not was) (asked-else m other asked apart)
 
 -- so it holds just what it needs once it was asked
-pub needed-plain : (m : Machine) → HoldsNeeded (holdings_of m) → IsToBeAsked m → IsApart m.log.shape m.stage → HoldsNeeded (asked_at (holdings_of m) Spoken)
+pub needed-plain : (m : Machine) → HoldsNeeded (holdings_of m) → IsToBeAsked m → IsApart m.log.shape m.stage
+    → HoldsNeeded (asked_at (holdings_of m) Spoken)
 needed-plain m n asked apart = record {
   first = n.first ∙ needs-else m (final_stage m.log.shape 1) asked apart.final_a;
   bulk = n.bulk ∙ needs-else m (submit_stage m.log.shape 2) asked apart.submit_b;
@@ -135,7 +145,16 @@ stands-plain now start c a m asked apart s =
     let entered = s.entered in
     record {
       can_enter = s.can_enter;
-      entered = record { roster = entered.roster; number = entered.number; round = entered.round; message = entered.message; key = entered.key; next = entered.next; secrets = entered.secrets };
+      entered = record {
+        roster = entered.roster;
+        number = entered.number;
+        round = entered.round;
+        message = entered.message;
+        key =
+            entered.key;
+        next = entered.next;
+        secrets = entered.secrets;
+      };
       at = record {
         log = s.at.log;
         stage = s.at.stage;
@@ -197,7 +216,8 @@ ready-left m n e r = subst IsReady (sym e) (record {
   mood = mood-left m n.secrets n.own m.mood r.mood;
 })
   where
-    mood-left : (m : Machine) (secrets : Secrets) (own : Own) (mood : Mood) → IsMoodOf m mood → IsMoodOf (record m { secrets = secrets; own = own }) mood
+    mood-left : (m : Machine) (secrets : Secrets) (own : Own) (mood : Mood) → IsMoodOf m mood
+        → IsMoodOf (record m { secrets = secrets; own = own }) mood
     mood-left m secrets own Unasked is = is
     mood-left m secrets own (PutOff bytes) is = (is.0, is.1, record { speaks = is.2.speaks; slot = is.2.slot; short = is.2.short })
     mood-left m secrets own Spoken is = is
@@ -207,7 +227,8 @@ pub asked-left : (m n : Machine) → n ≡ record m { secrets = n.secrets; own =
 asked-left m n e asked = subst IsToBeAsked (sym e) (record { going = asked.going; speaks = asked.speaks; unasked = asked.unasked })
 
 -- what does not hang on these is so of it
-pub left-so : (P : Machine → Type 0) (m n : Machine) → n ≡ record m { secrets = n.secrets; own = n.own } → P (record m { secrets = n.secrets; own = n.own }) → P n
+pub left-so : (P : Machine → Type 0) (m n : Machine) → n ≡ record m { secrets = n.secrets; own = n.own }
+    → P (record m { secrets = n.secrets; own = n.own }) → P n
 left-so P m n e so = subst P (sym e) so
 
 -- the bytes are those of the pure machine
@@ -221,7 +242,8 @@ content-is now start c a m kind body f at s told =
     let shape : m.log.shape ≡ shape_in c = shape-is c m f seat in
     let past : past_of m.log m.stage ≡ contents_of a.stand.past = past-is m.log m.stage a.stand.past s.at.past in
     let header : (content_here m body).header ≡ own_header c a.stand.past a.stand.at = header-is c a.stand.past a.stand.at m f seat
-    (ap (λ (said : List (List ℕ)). view_of m.log.shape said m.stage) past ∙ ap (λ (sh : Shape). view_of sh (contents_of a.stand.past) m.stage) shape
+    (ap (λ (said : List (List ℕ)). view_of m.log.shape said m.stage) past
+    ∙ ap (λ (sh : Shape). view_of sh (contents_of a.stand.past) m.stage) shape
     ∙ ap (view_of (shape_in c) (contents_of a.stand.past)) s.at.stage) s.at.stage in
     let here : kind_of_stage (shape_in c) a.stand.at ≡ Some kind =
     sym (ap (λ (sh : Shape). kind_of_stage sh m.stage) shape ∙ ap (kind_of_stage (shape_in c)) s.at.stage) ∙ at in

@@ -32,7 +32,8 @@ text-slot shape content grammar =
 -- ---- bytes that are kept
 
 -- what is read can be kept
-pub read-kept : (shape : Shape) (bytes : List ℕ) (content : Content) → IsBytes bytes → content_read shape bytes ≡ Ok content → length bytes < 2 ^ 32
+pub read-kept : (shape : Shape) (bytes : List ℕ) (content : Content) → IsBytes bytes → content_read shape bytes ≡ Ok content
+    → length bytes < 2 ^ 32
     → IsKept bytes
 read-kept shape bytes content are e short =
     let spelled = content-is_spelled shape bytes content are e in

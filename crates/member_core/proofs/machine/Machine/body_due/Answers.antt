@@ -7,7 +7,8 @@ use Rattle.member_core.proofs.Saying.{ok-all, ok-so}
 use Rattle.member_core.proofs.machine.Machine.body_due.Goals as goal
 
 pub unreachable-requires : goal.unreachable-requires
-unreachable-requires g c = has-kind c.args.self.now c.requires.asked (kind-told c.args.self.now None c.requires.formed c.in_default.ensures.kind)
+unreachable-requires g c = has-kind c.args.self.now c.requires.asked
+    (kind-told c.args.self.now None c.requires.formed c.in_default.ensures.kind)
 
 pub unreachable-unreachable : goal.unreachable-unreachable
 unreachable-unreachable g c = c.unreachable.result
@@ -27,7 +28,8 @@ first_submission_due-requires-clause-asked g c = c.requires.asked
 pub first_submission_due-requires-clause-kind : goal.first_submission_due-requires-clause-kind
 first_submission_due-requires-clause-kind g c =
     let at = kind-told c.args.self.now (Some c.in-Some.kind) c.requires.formed c.in-Some.ensures.kind in
-    at ∙ ap (λ (kind : StageKind). Some kind) c.in-Submit-eq1.is ∙ ap (λ (shuffle : ℕ). Some (Submit shuffle)) (sym c.in-Submit-eq1.shuffle-is ∙ c.in-Submit-eq1.shuffle-test)
+    at ∙ ap (λ (kind : StageKind). Some kind) c.in-Submit-eq1.is
+    ∙ ap (λ (shuffle : ℕ). Some (Submit shuffle)) (sym c.in-Submit-eq1.shuffle-is ∙ c.in-Submit-eq1.shuffle-test)
 
 pub second_submission_due-requires-clause-formed : goal.second_submission_due-requires-clause-formed
 second_submission_due-requires-clause-formed g c = c.requires.formed
@@ -44,8 +46,10 @@ second_submission_due-requires-clause-asked g c = c.requires.asked
 pub second_submission_due-requires-clause-kind : goal.second_submission_due-requires-clause-kind
 second_submission_due-requires-clause-kind g c =
     let m = c.args.self.now in
-    let at = kind-told m (Some c.in-Some.kind) c.requires.formed c.in-Some.ensures.kind ∙ ap (λ (kind : StageKind). Some kind) c.in-Submit.is in
-    at ∙ ap (λ (shuffle : ℕ). Some (Submit shuffle)) (second-shuffle m.log.shape m.stage c.in-Submit.shuffle at (λ e. c.in-Submit.shuffle-test.1 (c.in-Submit.shuffle-is ∙ e)))
+    let at = kind-told m (Some c.in-Some.kind) c.requires.formed c.in-Some.ensures.kind
+    ∙ ap (λ (kind : StageKind). Some kind) c.in-Submit.is in
+    at ∙ ap (λ (shuffle : ℕ). Some (Submit shuffle)) (second-shuffle m.log.shape m.stage c.in-Submit.shuffle at
+    (λ e. c.in-Submit.shuffle-test.1 (c.in-Submit.shuffle-is ∙ e)))
 
 pub end_due-requires-clause-formed : goal.end_due-requires-clause-formed
 end_due-requires-clause-formed g c = c.requires.formed
@@ -80,7 +84,8 @@ pub returns-in-Submit-eq1-clause-formed : goal.returns-in-Submit-eq1-clause-form
 returns-in-Submit-eq1-clause-formed g c = c.first_submission_due.ensures.formed
 
 pub returns-in-Submit-eq1-clause-same : goal.returns-in-Submit-eq1-clause-same
-returns-in-Submit-eq1-clause-same g c = ok-all c.first_submission_due.result _ (λ _. same-own c.args.self.now c.first_submission_due.new.self c.first_submission_due.ensures.same)
+returns-in-Submit-eq1-clause-same g c = ok-all c.first_submission_due.result _
+    (λ _. same-own c.args.self.now c.first_submission_due.new.self c.first_submission_due.ensures.same)
 
 pub returns-in-Submit-eq1-clause-needed : goal.returns-in-Submit-eq1-clause-needed
 returns-in-Submit-eq1-clause-needed g c = c.first_submission_due.ensures.needed
@@ -88,8 +93,10 @@ returns-in-Submit-eq1-clause-needed g c = c.first_submission_due.ensures.needed
 pub returns-in-Submit-eq1-clause-due : goal.returns-in-Submit-eq1-clause-due
 returns-in-Submit-eq1-clause-due g c =
     let at = kind-told c.args.self.now (Some c.in-Some.kind) c.requires.formed c.in-Some.ensures.kind in
-    let here = at ∙ ap (λ (kind : StageKind). Some kind) c.in-Submit-eq1.is ∙ ap (λ (shuffle : ℕ). Some (Submit shuffle)) (sym c.in-Submit-eq1.shuffle-is ∙ c.in-Submit-eq1.shuffle-test) in
-    ok-so c.first_submission_due.result _ _ (λ body due kind also. due-of (g.C.Conduct.replies c.args.conduct.now) c.args.self.now (Submit 1) kind body here also due) c.first_submission_due.ensures.due
+    let here = at ∙ ap (λ (kind : StageKind). Some kind) c.in-Submit-eq1.is
+    ∙ ap (λ (shuffle : ℕ). Some (Submit shuffle)) (sym c.in-Submit-eq1.shuffle-is ∙ c.in-Submit-eq1.shuffle-test) in
+    ok-so c.first_submission_due.result _ _ (λ body due kind also. due-of (g.C.Conduct.replies c.args.conduct.now) c.args.self.now
+    (Submit 1) kind body here also due) c.first_submission_due.ensures.due
 
 pub returns-in-Submit-eq1-clause-stands : goal.returns-in-Submit-eq1-clause-stands
 returns-in-Submit-eq1-clause-stands g c = c.first_submission_due.ensures.stands
@@ -108,12 +115,16 @@ returns-in-Submit-clause-needed g c = c.second_submission_due.ensures.needed
 pub returns-in-Submit-clause-due : goal.returns-in-Submit-clause-due
 returns-in-Submit-clause-due g c =
     let m = c.args.self.now in
-    let at = kind-told m (Some c.in-Some.kind) c.requires.formed c.in-Some.ensures.kind ∙ ap (λ (kind : StageKind). Some kind) c.in-Submit.is in
-    let here = at ∙ ap (λ (shuffle : ℕ). Some (Submit shuffle)) (second-shuffle m.log.shape m.stage c.in-Submit.shuffle at (λ e. c.in-Submit.shuffle-test.1 (c.in-Submit.shuffle-is ∙ e))) in
-    ok-so c.second_submission_due.result _ _ (λ body due kind also. due-of (g.C.Conduct.replies c.args.conduct.now) c.args.self.now (Submit 2) kind body here also (due (g.C.Conduct.replies c.args.conduct.now))) c.second_submission_due.ensures.due
+    let at = kind-told m (Some c.in-Some.kind) c.requires.formed c.in-Some.ensures.kind
+    ∙ ap (λ (kind : StageKind). Some kind) c.in-Submit.is in
+    let here = at ∙ ap (λ (shuffle : ℕ). Some (Submit shuffle))
+    (second-shuffle m.log.shape m.stage c.in-Submit.shuffle at (λ e. c.in-Submit.shuffle-test.1 (c.in-Submit.shuffle-is ∙ e))) in
+    ok-so c.second_submission_due.result _ _ (λ body due kind also. due-of (g.C.Conduct.replies c.args.conduct.now) c.args.self.now
+    (Submit 2) kind body here also (due (g.C.Conduct.replies c.args.conduct.now))) c.second_submission_due.ensures.due
 
 pub returns-in-Submit-clause-stands : goal.returns-in-Submit-clause-stands
-returns-in-Submit-clause-stands g c = ok-so c.second_submission_due.result _ _ (λ _ so start conf a s. so (g.C.Conduct.replies c.args.conduct.now) start conf a s) c.second_submission_due.ensures.stands
+returns-in-Submit-clause-stands g c = ok-so c.second_submission_due.result _ _
+    (λ _ so start conf a s. so (g.C.Conduct.replies c.args.conduct.now) start conf a s) c.second_submission_due.ensures.stands
 
 -- ----
 
@@ -130,10 +141,12 @@ pub returns-in-Final-clause-due : goal.returns-in-Final-clause-due
 returns-in-Final-clause-due g c =
     let at = kind-told c.args.self.now (Some c.in-Some.kind) c.requires.formed c.in-Some.ensures.kind in
     let here = at ∙ ap (λ (kind : StageKind). Some kind) c.in-Final.is in
-    ok-so c.end_due.result _ _ (λ body due kind also. due-of (g.C.Conduct.replies c.args.conduct.now) c.args.self.now (Final c.in-Final.shuffle) kind body here also (due (g.C.Conduct.replies c.args.conduct.now))) c.end_due.ensures.due
+    ok-so c.end_due.result _ _ (λ body due kind also. due-of (g.C.Conduct.replies c.args.conduct.now) c.args.self.now
+    (Final c.in-Final.shuffle) kind body here also (due (g.C.Conduct.replies c.args.conduct.now))) c.end_due.ensures.due
 
 pub returns-in-Final-clause-stands : goal.returns-in-Final-clause-stands
-returns-in-Final-clause-stands g c = ok-so c.end_due.result _ _ (λ _ so start conf a s. so (g.C.Conduct.replies c.args.conduct.now) start conf a s) c.end_due.ensures.stands
+returns-in-Final-clause-stands g c = ok-so c.end_due.result _ _
+    (λ _ so start conf a s. so (g.C.Conduct.replies c.args.conduct.now) start conf a s) c.end_due.ensures.stands
 
 -- ----
 
@@ -142,7 +155,8 @@ returns-in_default-kind g c =
     let m = c.args.self.now in
     let now = g.C.Conduct.replies c.args.conduct.now in
     let at = kind-told m (Some c.in-Some.kind) c.requires.formed c.in-Some.ensures.kind in
-    let apart = plain-apart m.log.shape m.stage c.in-Some.kind at (plain-kind c.in-Some.kind c.in_default-kind.not-Submit c.in_default-kind.not-Final) in
+    let apart = plain-apart m.log.shape m.stage c.in-Some.kind at
+    (plain-kind c.in-Some.kind c.in_default-kind.not-Submit c.in_default-kind.not-Final) in
     record {
       formed = c.requires.formed;
       same = ok-all c.row_due.result _ (λ _. refl);

@@ -17,11 +17,14 @@ header-form c = search rules
 
 grammar : (c : Joined-this) → OfGrammar c.args.self.now.log.shape (content_here c.args.self.now c.args.body)
 grammar c =
-    content-form c.args.self.now c.header_here-header.result c.args.body c.requires.formed c.header_here-header.ensures (header-form c) c.requires.fits
+    content-form c.args.self.now c.header_here-header.result c.args.body c.requires.formed c.header_here-header.ensures (header-form c)
+    c.requires.fits
 
-spelled-here : (c : Joined-this) (bytes : List ℕ) → bytes ≡ content_text (record { header = c.header_here-header.result; body = c.args.body })
+spelled-here : (c : Joined-this) (bytes : List ℕ) → bytes ≡ content_text
+    (record { header = c.header_here-header.result; body = c.args.body })
     → bytes ≡ content_text (content_here c.args.self.now c.args.body)
-spelled-here c bytes spelled = spelled ∙ ap (λ (header : Header). content_text (record { header = header; body = c.args.body })) c.header_here-header.ensures
+spelled-here c bytes spelled = spelled ∙ ap (λ (header : Header). content_text (record { header = header; body = c.args.body }))
+    c.header_here-header.ensures
 
 pub returns-clause-spelled : goal.returns-clause-spelled
 returns-clause-spelled c = ok-so c.encode.result _ _ (λ bytes spelled. spelled-here c bytes.items spelled) c.encode.ensures

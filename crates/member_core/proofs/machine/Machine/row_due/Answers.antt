@@ -40,7 +40,8 @@ pub turn_due-requires-clause-kind : goal.turn_due-requires-clause-kind
 turn_due-requires-clause-kind c =
     let m = c.args.self.now in
     let at = c.requires.kind ∙ ap (λ (kind : StageKind). Some kind) c.in-Shuffle.is in
-    at ∙ ap (λ k. Some (Shuffle c.in-Shuffle.shuffle k)) (sym (turn-own m.log.shape m.stage m.seat.number c.in-Shuffle.shuffle c.in-Shuffle.k at c.requires.asked.speaks))
+    at ∙ ap (λ k. Some (Shuffle c.in-Shuffle.shuffle k)) (sym (turn-own m.log.shape m.stage m.seat.number c.in-Shuffle.shuffle
+    c.in-Shuffle.k at c.requires.asked.speaks))
 
 pub go_due-requires-clause-formed : goal.go_due-requires-clause-formed
 go_due-requires-clause-formed c = c.requires.formed
@@ -103,26 +104,33 @@ pub unreachable-unreachable : goal.unreachable-unreachable
 unreachable-unreachable c = c.unreachable.result
 
 pub returns-in-Keys : goal.returns-in-Keys
-returns-in-Keys c now = subst (λ (kind : StageKind). IsDue now c.args.self.now kind c.keys_due.result) (sym c.in-Keys.is) (c.keys_due.ensures now)
+returns-in-Keys c now = subst (λ (kind : StageKind). IsDue now c.args.self.now kind c.keys_due.result) (sym c.in-Keys.is)
+    (c.keys_due.ensures now)
 
 pub returns-in-Shuffle : goal.returns-in-Shuffle
 returns-in-Shuffle c =
     let m = c.args.self.now in
     let at = c.requires.kind ∙ ap (λ (kind : StageKind). Some kind) c.in-Shuffle.is in
-    let own = at ∙ ap (λ k. Some (Shuffle c.in-Shuffle.shuffle k)) (sym (turn-own m.log.shape m.stage m.seat.number c.in-Shuffle.shuffle c.in-Shuffle.k at c.requires.asked.speaks)) in
-    ok-so c.turn_due.result _ _ (λ body due now. due-of now m (Shuffle c.in-Shuffle.shuffle m.seat.number) c.args.kind body own c.requires.kind (due now)) c.turn_due.ensures
+    let own = at ∙ ap (λ k. Some (Shuffle c.in-Shuffle.shuffle k))
+    (sym (turn-own m.log.shape m.stage m.seat.number c.in-Shuffle.shuffle c.in-Shuffle.k at c.requires.asked.speaks)) in
+    ok-so c.turn_due.result _ _ (λ body due now. due-of now m (Shuffle c.in-Shuffle.shuffle m.seat.number) c.args.kind body own
+    c.requires.kind (due now)) c.turn_due.ensures
 
 pub returns-in-Go : goal.returns-in-Go
 returns-in-Go c =
-    ok-so c.go_due.result _ _ (λ body due now. subst (λ (kind : StageKind). IsDue now c.args.self.now kind body) (sym c.in-Go.is) (due now)) c.go_due.ensures
+    ok-so c.go_due.result _ _ (λ body due now. subst (λ (kind : StageKind). IsDue now c.args.self.now kind body) (sym c.in-Go.is) (due now))
+    c.go_due.ensures
 
 pub returns-in-Pad : goal.returns-in-Pad
 returns-in-Pad c =
-    ok-so c.pads_due.result _ _ (λ body due now. subst (λ (kind : StageKind). IsDue now c.args.self.now kind body) (sym c.in-Pad.is) (due now)) c.pads_due.ensures
+    ok-so c.pads_due.result _ _ (λ body due now. subst (λ (kind : StageKind). IsDue now c.args.self.now kind body) (sym c.in-Pad.is)
+    (due now)) c.pads_due.ensures
 
 pub returns-in-Check : goal.returns-in-Check
-returns-in-Check c now = subst (λ (kind : StageKind). IsDue now c.args.self.now kind c.check_due.result) (sym c.in-Check.is) (c.check_due.ensures now)
+returns-in-Check c now = subst (λ (kind : StageKind). IsDue now c.args.self.now kind c.check_due.result) (sym c.in-Check.is)
+    (c.check_due.ensures now)
 
 pub returns-in-Confirm : goal.returns-in-Confirm
 returns-in-Confirm c =
-    ok-so c.confirm_due.result _ _ (λ body due now. subst (λ (kind : StageKind). IsDue now c.args.self.now kind body) (sym c.in-Confirm.is) (due now)) c.confirm_due.ensures
+    ok-so c.confirm_due.result _ _ (λ body due now. subst (λ (kind : StageKind). IsDue now c.args.self.now kind body) (sym c.in-Confirm.is)
+    (due now)) c.confirm_due.ensures

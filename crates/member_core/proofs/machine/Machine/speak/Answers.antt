@@ -53,7 +53,8 @@ content_of-requires-clause-ready g c = ready-left c.args.self.now c.body_due.new
 
 pub content_of-requires-clause-speaks : goal.content_of-requires-clause-speaks
 content_of-requires-clause-speaks g c =
-    left-so (λ (x : Machine). IsTrue (is_slot x.log.shape x.stage x.seat.number)) c.args.self.now c.body_due.new.self c.in_ok-body.ensures.same c.requires.asked.speaks
+    left-so (λ (x : Machine). IsTrue (is_slot x.log.shape x.stage x.seat.number)) c.args.self.now c.body_due.new.self
+    c.in_ok-body.ensures.same c.requires.asked.speaks
 
 pub content_of-requires-clause-fits : goal.content_of-requires-clause-fits
 content_of-requires-clause-fits g c =
@@ -99,9 +100,11 @@ ask-requires-clause-question g c =
     let short = due.short in
     let limit = ap own_limit kind.1 in
     record {
-      speaks = left-so (λ (x : Machine). IsTrue (is_slot x.log.shape x.stage x.seat.number)) m c.body_due.new.self c.in_ok-body.ensures.same c.requires.asked.speaks;
+      speaks = left-so (λ (x : Machine). IsTrue (is_slot x.log.shape x.stage x.seat.number)) m c.body_due.new.self c.in_ok-body.ensures.same
+          c.requires.asked.speaks;
       slot = c.in_ok-bytes.ensures.slot;
-      short = left-so (λ (x : Machine). length c.in_ok-bytes.bytes.items ≤ own_limit (kind_of_stage x.log.shape x.stage)) m c.body_due.new.self c.in_ok-body.ensures.same
+      short = left-so (λ (x : Machine). length c.in_ok-bytes.bytes.items ≤ own_limit (kind_of_stage x.log.shape x.stage)) m
+          c.body_due.new.self c.in_ok-body.ensures.same
           (omega (arith, long, short, limit));
     }
 
@@ -125,7 +128,10 @@ returns-clause-stands g c = ok-so c.ask.result _ _ (λ _ so start conf a s.
     let m = c.args.self.now in
     let kind = kind-here m c.requires.asked in
     let due : IsDue (g.C.Conduct.replies c.args.conduct.now) m kind.0 c.in_ok-body.body = c.in_ok-body.ensures.due kind.0 kind.1 in
-    let said = c.in_ok-bytes.ensures.spelled ∙ ap (λ (x : Machine). content_text (content_here x c.in_ok-body.body)) c.in_ok-body.ensures.same
-    ∙ content-is (g.C.Conduct.replies c.args.conduct.now) start conf a m kind.0 c.in_ok-body.body c.requires.formed kind.1 s (due.told start conf a s) in
-    subst (λ (bytes : List ℕ). StandsFor (g.C.Conduct.replies c.ask.new.conduct) start conf (actor_behind_question start conf a bytes) (holdings_of c.ask.new.self)) said
+    let said = c.in_ok-bytes.ensures.spelled ∙ ap (λ (x : Machine). content_text (content_here x c.in_ok-body.body))
+    c.in_ok-body.ensures.same
+    ∙ content-is (g.C.Conduct.replies c.args.conduct.now) start conf a m kind.0 c.in_ok-body.body c.requires.formed kind.1 s
+    (due.told start conf a s) in
+    subst (λ (bytes : List ℕ). StandsFor (g.C.Conduct.replies c.ask.new.conduct) start conf (actor_behind_question start conf a bytes)
+    (holdings_of c.ask.new.self)) said
     (so start conf a (c.in_ok-body.ensures.stands start conf a s))) c.ask.ensures.stands
