@@ -1,6 +1,6 @@
 -- Answers by what has ended a round.
-use Rattle.std.proofs.Common.{◌≡◌, ap, refl, sym}
-use Rattle.std.specs.Prelude.{◌↔◌, if◌then◌else◌}
+use Rattle.std.proofs.Common.{◌≡◌, refl}
+use Rattle.std.specs.Prelude.{if◌then◌else◌}
 use Rattle.closing_verdict.specs.declared.convicting.Conviction.{Conviction}
 use Rattle.round_spec.specs.Say.{Configuration}
 use Rattle.round_spec.specs.Verdict.{Convicts, Done as DoneVerdict, Goes, Verdict}
@@ -10,7 +10,7 @@ use Rattle.member_spec.specs.declared.taken.Taken.{Taken}
 use Rattle.member_spec.specs.declared.taken.Taken.TheVariants.{Evidence, Finished, Stored}
 use Rattle.member_spec.specs.Actor.{Actor}
 use Rattle.member_spec.specs.Outcomes.{members_missing, outcome_of}
-use Rattle.member_spec.specs.Taking.{answer_by_end}
+use Rattle.member_spec.specs.Taking.{LeavesAll, answer_by_end}
 use Rattle.member_core.specs.declared.ending.Ending.{Ending}
 use Rattle.member_core.specs.declared.ending.Ending.TheVariants.{Blamed, Done, Open, Stopped}
 use Rattle.member_core.specs.Found.{TellsEnding, answer_behind}
@@ -43,6 +43,20 @@ answer-tells Open = record { evidence = (λ e. absurd cc, λ blamed. absurd blam
 answer-tells (Done slots) = record { evidence = (λ e. absurd cc, λ blamed. absurd blamed); going = λ e. cc }
 answer-tells (Blamed conviction) = record { evidence = (λ e. tt, λ blamed. refl); going = λ e. cc }
 answer-tells Stopped = record { evidence = (λ e. absurd cc, λ blamed. absurd blamed); going = λ e. cc }
+
+-- it is of no idle delivery
+pub answer-busy : (ending : Ending) → LeavesAll (answer_behind ending) → ⊥
+answer-busy Open leaves = leaves
+answer-busy (Done slots) leaves = leaves
+answer-busy (Blamed conviction) leaves = leaves
+answer-busy Stopped leaves = leaves
+
+-- that of an idle one tells an open round
+pub idle-tells : (taken : Taken) (ending : Ending) → IsOpen ending → (taken ≡ Evidence → ⊥) → (taken ≡ Finished → ⊥) → TellsEnding taken ending
+idle-tells taken ending still nobody going = record {
+  evidence = (λ e. absurd (nobody e), λ blamed. absurd (open-blamed ending still blamed));
+  going = going;
+}
 
 -- and is that of the pure machine
 pub answer-same : (c : Configuration) (a : Actor) (ending : Ending) → IsRunning ending → ShowsOutcome ending (outcome_of c a)

@@ -1,11 +1,10 @@
 -- A member that is being asked: what becomes of its secrets and of its own by that.
-use Rattle.std.proofs.Common.{◌≡◌, ℕ, ◌+◌, ◌<◌, ◌≤◌, true, false, Bool, List, Option, Some, None, ap, sym, ◌∙◌, refl, subst, arith, rules, inl, inr}
-use Rattle.std.specs.Prelude.{IsTrue, is_some, nat_lt, not, ◌&&◌, ◌==◌, IfSome, if◌then◌else◌}
+use Rattle.std.proofs.Common.{◌≡◌, ℕ, ◌+◌, ◌≤◌, true, false, Bool, None, ap, sym, ◌∙◌, refl, subst, arith, rules, inl, inr}
+use Rattle.std.specs.Prelude.{nat_lt, not, ◌&&◌, ◌==◌, if◌then◌else◌}
 use Rattle.std.proofs.lemmas.Bool.{cases_eq, cond-false, cond-true, eq-eqb}
 use Rattle.shuffle_blame.specs.Asked.{past_of}
 use Rattle.round_spec.specs.Slots.{final_stage, submit_stage}
 use Rattle.round_spec.specs.Say.{Configuration}
-use Rattle.honest_say.specs.declared.secrets.ShuffleSecrets.{ShuffleSecrets}
 use Rattle.member_spec.specs.declared.mood.Mood.{Mood}
 use Rattle.member_spec.specs.declared.mood.Mood.TheVariants.{Unasked, Spoken}
 use Rattle.member_spec.specs.Actor.{Actor}
@@ -15,8 +14,8 @@ use Rattle.member_core.specs.declared.own.Own.{Own}
 use Rattle.member_core.specs.declared.secrets.Secrets.{Secrets}
 use Rattle.member_core.specs.Asking.{IsToBeAsked, StandsAsked, asked_at}
 use Rattle.member_core.specs.Membership.{holdings_of}
-use Rattle.member_core.specs.Needs.{AreSecretsOf, HoldsNeeded, is_going, is_mute, needs, stages_behind, was_asked, without_bulk, without_shuffle}
-use Rattle.member_core.specs.Stands.{AnswersBy, GoesOn, HasEntered, IsOwnOf, KeepsOwn, StandsFor}
+use Rattle.member_core.specs.Needs.{AreSecretsOf, HoldsNeeded, is_going, is_mute, needs, was_asked, without_bulk, without_shuffle}
+use Rattle.member_core.specs.Stands.{AnswersBy, GoesOn, IsOwnOf, KeepsOwn, StandsFor}
 
 -- ---- what it was asked about
 
@@ -27,10 +26,10 @@ asked-other stage other apart = less stage other apart
     less : (a b : ℕ) → (b ≡ a → ⊥) → nat_lt b (a + 1) ≡ nat_lt b a
     less a b apart = search rules
 
-asked-here : (stage : ℕ) → was_asked stage Spoken stage ≡ true
+pub asked-here : (stage : ℕ) → was_asked stage Spoken stage ≡ true
 asked-here stage = search rules
 
-asked-same : (m : Machine) (other : ℕ) → IsToBeAsked m → (other ≡ m.stage → ⊥) → was_asked m.stage Spoken other ≡ was_asked m.stage m.mood other
+pub asked-same : (m : Machine) (other : ℕ) → IsToBeAsked m → (other ≡ m.stage → ⊥) → was_asked m.stage Spoken other ≡ was_asked m.stage m.mood other
 asked-same m other asked apart = asked-other m.stage other apart ∙ ap (λ (mood : Mood). was_asked m.stage mood other) (sym asked.unasked)
 
 -- ---- its secrets

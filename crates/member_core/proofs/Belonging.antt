@@ -1,23 +1,21 @@
 -- What a member's code has of what the member entered with.
-use Rattle.std.proofs.Common.{◌≡◌, ℕ, ◌+◌, ◌-◌, ◌<◌, ◌≤◌, List, [], ◌∷◌, length, Option, Some, None, ap, sym, ◌∙◌, refl, subst, arith, rules, inl, inr, true, false, Bool}
+use Rattle.std.proofs.Common.{◌≡◌, ℕ, ◌+◌, ◌≤◌, List, [], ◌∷◌, length, Option, Some, None, ap, sym, ◌∙◌, refl, subst, arith, rules, inl, inr, true, false, Bool}
 use Rattle.std.specs.Prelude.{IfSome, IsSome, is_some, nat_lt, not, option_map, unwrap_or, ◌&&◌, ◌==◌}
 use Rattle.std.proofs.lemmas.Bool.{cases_eq, cond-false, cond-true, eq-eqb}
 use Rattle.std.proofs.lemmas.List.FromFn.{length-map-range_with_len}
 use Rattle.wire_core.specs.Hash.{derived}
 use Rattle.phase_message.specs.declared.post.Post.{Post}
 use Rattle.phase_message.specs.Shape.{Shape}
-use Rattle.phase_message.specs.Stages.{shape_of}
-use Rattle.group_roster.specs.Roster.{Roster, roster_id, shape_of_roster}
+use Rattle.group_roster.specs.Roster.{roster_id, shape_of_roster}
 use Rattle.stage_log.specs.Log.{before, contents_of}
 use Rattle.stage_log.specs.Table.{Log}
 use Rattle.stage_log.proofs.Fronts.{before-front}
 use Rattle.stage_log.proofs.Pasts.{some_of}
 use Rattle.shuffle_blame.specs.Asked.{past_of}
 use Rattle.shuffle_blame.specs.Replay.{outer_place}
-use Rattle.bulk_descriptor.specs.declared.making.TheConstants.{MESSAGE_LIMIT}
 use Rattle.bulk_descriptor.specs.Descriptor.{own_pad}
 use Rattle.bulk_descriptor.proofs.MakingLemmas.{length-own_pad}
-use Rattle.round_spec.specs.Say.{Configuration, own_pad_seeds, shape_in}
+use Rattle.round_spec.specs.Say.{Configuration, shape_in}
 use Rattle.round_spec.specs.Slots.{bulk_place, final_stage, inner_place, keys_said, submit_stage}
 use Rattle.honest_say.specs.declared.group_keys.GroupKeys.{GroupKeys}
 use Rattle.honest_say.specs.declared.group_keys.ShuffleKeys.{ShuffleKeys}
@@ -25,10 +23,8 @@ use Rattle.honest_say.specs.declared.secrets.BulkSecrets.{BulkSecrets}
 use Rattle.honest_say.specs.declared.secrets.ShuffleSecrets.{ShuffleSecrets}
 use Rattle.honest_say.specs.declared.opening.Slots.{Slots}
 use Rattle.honest_say.specs.Own.{AreBulkSecrets, AreGroupKeys, AreShuffleKeys, AreShuffleSecrets}
-use Rattle.honest_say.specs.Pasts.{posts_before}
 use Rattle.honest_say.specs.Seats.{IsSeatOf}
 use Rattle.honest_say.specs.Stays.{AreReached}
-use Rattle.honest_say.proofs.PastLemmas.{posts-are}
 use Rattle.honest_say.proofs.Staying.{keys_stay}
 use Rattle.closing_verdict.specs.Carried.{AreItemsOf, AreKeysOf, AreSlotsOf, CarriesOpened, CarriesSlots, stage_found, stage_opened}
 use Rattle.member_core.specs.declared.machine.Machine.{Machine}

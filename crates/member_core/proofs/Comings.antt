@@ -1,12 +1,12 @@
 -- What a delivery comes to: the member behind it, and the answer.
 use Rattle.std.proofs.Common.{◌≡◌, ◌⊎◌, ℕ, true, false, List, [], ◌∷◌, Option, Some, None, Result, Ok, Err, ap, sym, ◌∙◌, refl, subst, inl, inr}
-use Rattle.std.specs.Prelude.{◌==◌, bytes_eq, is_ok, is_some, option_and_then, unwrap_or, if◌then◌else◌}
-use Rattle.std.specs.Result.{result_ok}
+use Rattle.std.specs.Prelude.{◌==◌, bytes_eq, is_ok, is_some, unwrap_or, if◌then◌else◌}
 use Rattle.std.proofs.lemmas.Bool.{cases_Bool, cond-false, cond-true}
 use Rattle.phase_message.specs.declared.header.Header.{Header}
 use Rattle.phase_message.specs.declared.post.Post.{Post}
 use Rattle.phase_message.specs.Offence.{content_read}
 use Rattle.phase_message.specs.Post.{post_spelling}
+use Rattle.phase_message.specs.Shape.{Shape}
 use Rattle.signed_post.specs.declared.post.PostRefusal.{PostRefusal}
 use Rattle.signed_post.specs.declared.post.PostRefusal.TheVariants.{Frame}
 use Rattle.signed_post.specs.Admission.{admission_of_bytes, framed_admission_of}
@@ -17,12 +17,11 @@ use Rattle.round_spec.specs.Embedded.{slot_named}
 use Rattle.round_spec.specs.Say.{Configuration, shape_in}
 use Rattle.round_spec.specs.Verdict.{Verdict, conviction}
 use Rattle.round_spec.specs.Course.{is_open}
-use Rattle.round_spec.specs.Result.{Heard, fault_shown, heard_of, heard_of_post, heard_with}
-use Rattle.wire_core.specs.Answers.{first_some}
-use Rattle.wire_core.proofs.AnswerLemmas.{first_some-none, first_some-some}
+use Rattle.round_spec.specs.Result.{Heard, fault_shown, heard_of, heard_with}
+use Rattle.wire_core.proofs.AnswerLemmas.{first_some-some}
 use Rattle.member_spec.specs.declared.taken.Taken.{Taken}
 use Rattle.member_spec.specs.declared.taken.Taken.TheVariants.{Evidence, Finished, Ignored, Own, Same}
-use Rattle.member_spec.specs.Actor.{Actor, actor_behind_delivery, actor_behind_fault, actor_behind_heard, actor_behind_repeat, actor_behind_steps, actor_with_heard}
+use Rattle.member_spec.specs.Actor.{Actor, actor_behind_delivery, actor_behind_heard, actor_behind_repeat, actor_behind_steps, actor_with_heard}
 use Rattle.member_spec.specs.Replies.{Replies}
 use Rattle.member_spec.specs.Taking.{answer_by_end, answer_to, idle_answer, is_content, LeavesAll}
 use Rattle.member_spec.proofs.Hearing.{contradiction-empty, contradiction-full, fault-inside, fault-of}
@@ -133,57 +132,57 @@ fault-comes replies c a bytes header post verdict still is apart shown told =
 -- ---- what was found
 
 -- a content that is kept
-found-kept : (c : Configuration) (o : Option Post) (content : List ℕ) → found_of (shape_in c) o content ≡ Kept → is_content content o ≡ true
-found-kept c o content e = elim (cases_Bool (is_content content o)) [
+found-kept : (shape : Shape) (o : Option Post) (content : List ℕ) → found_of (shape) o content ≡ Kept → is_content content o ≡ true
+found-kept shape o content e = elim (cases_Bool (is_content content o)) [
   | inl same ↦ same
-  | inr apart ↦ by_read (cases_Bool (is_ok (content_read (shape_in c) content))) apart
+  | inr apart ↦ by_read (cases_Bool (is_ok (content_read (shape) content))) apart
 ]
   where
     by_slot : (x : Option Post) → found_beside x ≡ Kept → is_content content o ≡ true
     by_slot None f = absurd cc
     by_slot (Some kept) f = absurd cc
 
-    by_read : (is_ok (content_read (shape_in c) content) ≡ true) ⊎ (is_ok (content_read (shape_in c) content) ≡ false) → is_content content o ≡ false
+    by_read : (is_ok (content_read (shape) content) ≡ true) ⊎ (is_ok (content_read (shape) content) ≡ false) → is_content content o ≡ false
         → is_content content o ≡ true
-    by_read (inl reads) apart = by_slot o (sym (cond-true (is_ok (content_read (shape_in c) content)) (found_beside o) Malformed reads)
+    by_read (inl reads) apart = by_slot o (sym (cond-true (is_ok (content_read (shape) content)) (found_beside o) Malformed reads)
         ∙ sym (cond-false (is_content content o) Kept _ apart) ∙ e)
-    by_read (inr outside) apart = absurd (differ (sym (cond-false (is_ok (content_read (shape_in c) content)) (found_beside o) Malformed outside)
+    by_read (inr outside) apart = absurd (differ (sym (cond-false (is_ok (content_read (shape) content)) (found_beside o) Malformed outside)
         ∙ sym (cond-false (is_content content o) Kept _ apart) ∙ e))
       where
         differ : Malformed ≡ Kept → ⊥
         differ f = cc
 
 -- the other findings: the content is not kept, and so it stands with its body
-pub record IsNotKept (c : Configuration) (o : Option Post) (content : List ℕ) (found : Found) : Type 0 where
+pub record IsNotKept (shape : Shape) (o : Option Post) (content : List ℕ) (found : Found) : Type 0 where
   pub apart : is_content content o ≡ false
-  pub body : (if is_ok (content_read (shape_in c) content) then found_beside o else Malformed) ≡ found
+  pub body : (if is_ok (content_read (shape) content) then found_beside o else Malformed) ≡ found
 
-not-kept : (c : Configuration) (o : Option Post) (content : List ℕ) (found : Found) → found_of (shape_in c) o content ≡ found → (found ≡ Kept → ⊥)
-    → IsNotKept c o content found
-not-kept c o content found e unlike = elim (cases_Bool (is_content content o)) [
+not-kept : (shape : Shape) (o : Option Post) (content : List ℕ) (found : Found) → found_of (shape) o content ≡ found → (found ≡ Kept → ⊥)
+    → IsNotKept shape o content found
+not-kept shape o content found e unlike = elim (cases_Bool (is_content content o)) [
   | inl same ↦ absurd (unlike (sym e ∙ cond-true (is_content content o) Kept _ same))
   | inr apart ↦ record { apart = apart; body = sym (cond-false (is_content content o) Kept _ apart) ∙ e }
 ]
 
 -- a body in the grammar, where it is not malformed
-body-reads : (c : Configuration) (o : Option Post) (content : List ℕ) (found : Found)
-    → (if is_ok (content_read (shape_in c) content) then found_beside o else Malformed) ≡ found → (found ≡ Malformed → ⊥)
-    → (is_ok (content_read (shape_in c) content) ≡ true) × (found_beside o ≡ found)
-body-reads c o content found e unlike = elim (cases_Bool (is_ok (content_read (shape_in c) content))) [
-  | inl reads ↦ (reads, sym (cond-true (is_ok (content_read (shape_in c) content)) (found_beside o) Malformed reads) ∙ e)
-  | inr outside ↦ absurd (unlike (sym e ∙ cond-false (is_ok (content_read (shape_in c) content)) (found_beside o) Malformed outside))
+body-reads : (shape : Shape) (o : Option Post) (content : List ℕ) (found : Found)
+    → (if is_ok (content_read (shape) content) then found_beside o else Malformed) ≡ found → (found ≡ Malformed → ⊥)
+    → (is_ok (content_read (shape) content) ≡ true) × (found_beside o ≡ found)
+body-reads shape o content found e unlike = elim (cases_Bool (is_ok (content_read (shape) content))) [
+  | inl reads ↦ (reads, sym (cond-true (is_ok (content_read (shape) content)) (found_beside o) Malformed reads) ∙ e)
+  | inr outside ↦ absurd (unlike (sym e ∙ cond-false (is_ok (content_read (shape) content)) (found_beside o) Malformed outside))
 ]
 
 -- one outside the grammar, where it is
-body-outside : (c : Configuration) (o : Option Post) (content : List ℕ)
-    → (if is_ok (content_read (shape_in c) content) then found_beside o else Malformed) ≡ Malformed
-    → is_ok (content_read (shape_in c) content) ≡ false
-body-outside c o content e = elim (cases_Bool (is_ok (content_read (shape_in c) content))) [
+body-outside : (shape : Shape) (o : Option Post) (content : List ℕ)
+    → (if is_ok (content_read (shape) content) then found_beside o else Malformed) ≡ Malformed
+    → is_ok (content_read (shape) content) ≡ false
+body-outside shape o content e = elim (cases_Bool (is_ok (content_read (shape) content))) [
   | inr outside ↦ outside
-  | inl reads ↦ by_slot o (sym (cond-true (is_ok (content_read (shape_in c) content)) (found_beside o) Malformed reads) ∙ e)
+  | inl reads ↦ by_slot o (sym (cond-true (is_ok (content_read (shape) content)) (found_beside o) Malformed reads) ∙ e)
 ]
   where
-    by_slot : (x : Option Post) → found_beside x ≡ Malformed → is_ok (content_read (shape_in c) content) ≡ false
+    by_slot : (x : Option Post) → found_beside x ≡ Malformed → is_ok (content_read (shape) content) ≡ false
     by_slot None f = absurd cc
     by_slot (Some kept) f = absurd cc
 
@@ -192,7 +191,7 @@ pub same-comes : (replies : Replies) (c : Configuration) (a : Actor) (bytes : Li
     → IsOfAnother c.roster c.round c.number bytes header post → found_of (shape_in c) (kept_in a.log (slot_named header)) post.content ≡ Kept
     → ComesTo replies c a bytes a Same
 same-comes replies c a bytes header post still steady is found =
-    let same = found-kept c (kept_in a.log (slot_named header)) post.content found in
+    let same = found-kept (shape_in c) (kept_in a.log (slot_named header)) post.content found in
     let told = idle replies c a bytes (Ok (header, post.content)) Same still (admits c bytes post header is.framed is.admitted)
     (cond-false (header.sender == c.number) (Some Own) _ is.other
     ∙ cond-true (is_content post.content (kept_in a.log (slot_named header))) (Some Same) None same) in
@@ -202,8 +201,8 @@ pub malformed-comes : (replies : Replies) (c : Configuration) (a : Actor) (bytes
     → IsOfAnother c.roster c.round c.number bytes header post → found_of (shape_in c) (kept_in a.log (slot_named header)) post.content ≡ Malformed
     → ComesTo replies c a bytes (record a { ending = conviction c.round header.sender Outside (bytes ∷ []) }) Evidence
 malformed-comes replies c a bytes header post still is found =
-    let at = not-kept c (kept_in a.log (slot_named header)) post.content Malformed found (λ e. cc) in
-    let outside = body-outside c (kept_in a.log (slot_named header)) post.content at.body in
+    let at = not-kept (shape_in c) (kept_in a.log (slot_named header)) post.content Malformed found (λ e. cc) in
+    let outside = body-outside (shape_in c) (kept_in a.log (slot_named header)) post.content at.body in
     let verdict : Verdict = conviction c.round header.sender Outside (bytes ∷ []) in
     fault-comes replies c a bytes header post verdict still is at.apart
     (fault-of c (kept_in a.log) bytes (Some (heard_so c header post)) (heard-so c bytes header post is)
@@ -214,8 +213,8 @@ pub other-comes : (replies : Replies) (c : Configuration) (a : Actor) (bytes : L
     → found_of (shape_in c) (kept_in a.log (slot_named header)) post.content ≡ Other
     → ComesTo replies c a bytes (record a { ending = conviction c.round header.sender Equivocation (post_spelling first ∷ bytes ∷ []) }) Evidence
 other-comes replies c a bytes header post first still is there found =
-    let at = not-kept c (kept_in a.log (slot_named header)) post.content Other found (λ e. cc) in
-    let reads = body-reads c (kept_in a.log (slot_named header)) post.content Other at.body (λ e. cc) in
+    let at = not-kept (shape_in c) (kept_in a.log (slot_named header)) post.content Other found (λ e. cc) in
+    let reads = body-reads (shape_in c) (kept_in a.log (slot_named header)) post.content Other at.body (λ e. cc) in
     let verdict : Verdict = conviction c.round header.sender Equivocation (post_spelling first ∷ bytes ∷ []) in
     let apart : bytes_eq first.content post.content ≡ false = sym (ap (is_content post.content) there) ∙ at.apart in
     fault-comes replies c a bytes header post verdict still is at.apart
@@ -225,20 +224,29 @@ other-comes replies c a bytes header post first still is there found =
     ∙ cond-false (bytes_eq first.content post.content) None (Some verdict) apart) refl
 
 -- a new content is of the grammar, and its slot is empty
-pub record IsNew (c : Configuration) (a : Actor) (header : Header) (post : Post) : Type 0 where
-  pub reads : is_ok (content_read (shape_in c) post.content) ≡ true
-  pub empty : kept_in a.log (slot_named header) ≡ None
+pub record IsNew (shape : Shape) (o : Option Post) (content : List ℕ) : Type 0 where
+  pub reads : is_ok (content_read shape content) ≡ true
+  pub empty : o ≡ None
 
-pub found-new : (c : Configuration) (a : Actor) (header : Header) (post : Post)
-    → found_of (shape_in c) (kept_in a.log (slot_named header)) post.content ≡ New → IsNew c a header post
-found-new c a header post found =
-    let at = not-kept c (kept_in a.log (slot_named header)) post.content New found (λ e. cc) in
-    let body = body-reads c (kept_in a.log (slot_named header)) post.content New at.body (λ e. cc) in
-    record { reads = body.0; empty = by_slot (kept_in a.log (slot_named header)) body.1 }
+pub found-new : (shape : Shape) (o : Option Post) (content : List ℕ) → found_of shape o content ≡ New → IsNew shape o content
+found-new shape o content found =
+    let at = not-kept shape o content New found (λ e. cc) in
+    let body = body-reads shape o content New at.body (λ e. cc) in
+    record { reads = body.0; empty = by_slot o body.1 }
   where
-    by_slot : (o : Option Post) → found_beside o ≡ New → o ≡ None
+    by_slot : (x : Option Post) → found_beside x ≡ New → x ≡ None
     by_slot None f = refl
     by_slot (Some kept) f = absurd cc
+
+-- the slot of another content keeps a post
+pub found-other : (shape : Shape) (o : Option Post) (content : List ℕ) → found_of shape o content ≡ Other → (first : Post) × (o ≡ Some first)
+found-other shape o content found =
+    let at = not-kept shape o content Other found (λ e. cc) in
+    by_slot o (body-reads shape o content Other at.body (λ e. cc)).1
+  where
+    by_slot : (x : Option Post) → found_beside x ≡ Other → (first : Post) × (x ≡ Some first)
+    by_slot (Some kept) f = (kept, refl)
+    by_slot None f = absurd cc
 
 pub new-comes : (replies : Replies) (c : Configuration) (a : Actor) (bytes : List ℕ) (header : Header) (post : Post) → is_open a.ending ≡ true
     → IsOfAnother c.roster c.round c.number bytes header post → found_of (shape_in c) (kept_in a.log (slot_named header)) post.content ≡ New
@@ -247,7 +255,7 @@ pub new-comes : (replies : Replies) (c : Configuration) (a : Actor) (bytes : Lis
 new-comes replies c a bytes header post still is found =
     let heard : Heard = heard_so c header post in
     let b : Actor = actor_behind_steps replies c (actor_behind_repeat replies c (actor_with_heard a heard) a.mood) in
-    let new = found-new c a header post found in
+    let new = found-new (shape_in c) (kept_in a.log (slot_named header)) post.content found in
     let behind : actor_behind_delivery replies c a bytes ≡ b =
     open-delivery replies c a bytes None still
     (fault-of c (kept_in a.log) bytes (Some heard) (heard-so c bytes header post is)

@@ -1,16 +1,14 @@
 -- The descriptor that a member makes, and how long its bytes are.
-use Rattle.std.proofs.Common.{◌≡◌, ℕ, ◌+◌, ◌*◌, ◌≤◌, List, length, ap, sym, ◌∙◌, arith}
+use Rattle.std.proofs.Common.{◌≡◌, ℕ, ◌+◌, ◌*◌, List, length, ap, sym, ◌∙◌, arith}
 use Rattle.std.proofs.lemmas.List.FromFn.{length-map-range_with_len}
 use Rattle.wire_core.specs.Hash.{derived}
 use Rattle.phase_message.specs.Shape.{Shape}
 use Rattle.bulk_descriptor.specs.Descriptor.{Description, OfGrammar, descriptor_text}
-use Rattle.bulk_descriptor.specs.declared.making.TheConstants.{MESSAGE_LIMIT}
 use Rattle.bulk_descriptor.proofs.FittingLemmas.{made_is_of_grammar}
 use Rattle.bulk_descriptor.proofs.SpellingLemmas.{passes, read_passes, spelled_are_read}
 use Rattle.shuffle_blame.specs.Asked.{past_of}
 use Rattle.round_spec.specs.Slots.{bulk_place, keys_said}
 use Rattle.round_spec.specs.Say.{Configuration, own_description, own_pad_seeds, shape_in}
-use Rattle.honest_say.specs.Seats.{IsSeatOf}
 use Rattle.honest_say.proofs.Members.{keys-count}
 use Rattle.member_core.specs.declared.machine.Machine.{Machine}
 use Rattle.member_core.specs.Sound.{IsFormed, IsMachineOf}

@@ -1,28 +1,24 @@
 -- What a call of a row gives is what the rules give the member to say.
-use Rattle.std.proofs.Common.{◌≡◌, ℕ, ◌+◌, ◌-◌, ◌*◌, ◌<◌, ◌≤◌, true, Bool, List, length, Option, Some, None, ap, sym, ◌∙◌, refl, subst, arith, inl, inr}
-use Rattle.std.specs.Prelude.{IfSome, IsSome, ◌&&◌}
+use Rattle.std.proofs.Common.{◌≡◌, ℕ, ◌+◌, ◌-◌, ◌≤◌, Bool, List, length, Option, Some, None, ap, sym, ◌∙◌, subst, arith, inl, inr}
+use Rattle.std.specs.Prelude.{IfSome, ◌&&◌}
 use Rattle.std.proofs.lemmas.Bool.{cases_eq}
 use Rattle.wire_core.proofs.ByteLists.{hash_bytes}
 use Rattle.phase_message.specs.declared.content.Body.{Body}
-use Rattle.phase_message.specs.declared.content.Body.TheVariants.{Submit as SubmitBody, Go as GoBody, Check as CheckBody}
 use Rattle.phase_message.specs.declared.post.Post.{Post}
 use Rattle.phase_message.specs.declared.post.TheConstants.{POST_LIMIT}
 use Rattle.phase_message.specs.declared.stage.StageKind.{StageKind}
-use Rattle.phase_message.specs.declared.stage.StageKind.TheVariants.{Keys, Submit, Shuffle, Go, Final, Pad, Check, Confirm}
+use Rattle.phase_message.specs.declared.stage.StageKind.TheVariants.{Keys, Shuffle, Go, Final, Pad, Check, Confirm}
 use Rattle.phase_message.specs.Grammar.{IsBody, body_text}
 use Rattle.phase_message.specs.Shape.{Shape}
 use Rattle.phase_message.specs.Stages.{kind_of_stage}
-use Rattle.stage_log.specs.Log.{before, contents_of}
-use Rattle.stage_log.specs.Table.{Log}
+use Rattle.stage_log.specs.Log.{contents_of}
 use Rattle.stage_log.specs.Seen.{HasSeen}
-use Rattle.bulk_descriptor.specs.declared.making.TheConstants.{MESSAGE_LIMIT}
 use Rattle.bulk_descriptor.specs.Descriptor.{own_pad}
-use Rattle.shuffle_core.specs.declared.entry.Submission.{Submission}
 use Rattle.go_nogo.specs.Rows.{all_right, check_row, confirm_row, final_row, go_row, lists_before, stands_last}
 use Rattle.shuffle_blame.specs.Asked.{past_of}
 use Rattle.shuffle_blame.specs.Replay.{outer_place}
-use Rattle.round_spec.specs.Slots.{final_stage, inner_place, items_opened, pad_stage, submit_stage}
-use Rattle.round_spec.specs.Say.{Configuration, keys_row, own_body_at, own_item, own_key_seed, own_opening, own_pad_seeds, own_submission, pads_row, shape_in, turn_row}
+use Rattle.round_spec.specs.Slots.{final_stage, inner_place, items_opened}
+use Rattle.round_spec.specs.Say.{Configuration, keys_row, own_body_at, own_key_seed, own_pad_seeds, own_submission, pads_row, shape_in, turn_row}
 use Rattle.honest_say.specs.Own.{AreBulkSecrets, AreShuffleSecrets}
 use Rattle.honest_say.specs.declared.secrets.BulkSecrets.{BulkSecrets}
 use Rattle.honest_say.specs.Pasts.{posts_before}
@@ -38,7 +34,7 @@ use Rattle.member_core.specs.Needs.{AreSecretsOf}
 use Rattle.member_core.specs.Sound.{IsFormed, IsMachineOf, IsReady}
 use Rattle.member_core.specs.Stands.{StandsFor}
 use Rattle.member_core.proofs.Belonging.{IsOfGroup, of-group, past-is, seat-of, shape-is}
-use Rattle.member_core.proofs.RowForms.{check-fits, confirm-fits, final-fits, go-fits, keys-fit, pads-fit, submission-fits, turn-fits}
+use Rattle.member_core.proofs.RowForms.{check-fits, confirm-fits, final-fits, go-fits, keys-fit, pads-fit, turn-fits}
 use Rattle.member_core.proofs.RowLengths.{IsClosedBy, IsPlain, confirm-short, final-short, plain-short, posts-short}
 use Rattle.member_core.proofs.Submitting.{descriptor-kept, first-kept, pad-kept, second-kept}
 use Rattle.member_core.proofs.StageKinds.{IsPlaced, kind-place}
@@ -53,7 +49,7 @@ pub posts-heard : (now start : Replies) (c : Configuration) (a : Actor) (m : Mac
 posts-heard now start c a m stands = posts-are m.log m.stage a.stand.past stands.at.past
 
 -- a body at a stage that closes nothing
-plain-due : (now : Replies) (m : Machine) (kind : StageKind) (body : Body) → IsFormed m → IsToBeAsked m → kind_of_stage m.log.shape m.stage ≡ Some kind → IsPlain kind
+pub plain-due : (now : Replies) (m : Machine) (kind : StageKind) (body : Body) → IsFormed m → IsToBeAsked m → kind_of_stage m.log.shape m.stage ≡ Some kind → IsPlain kind
     → IsBody m.log.shape m.stage body
     → ((start : Replies) (c : Configuration) (a : Actor) → StandsFor now start c a (holdings_of m) → body ≡ own_body_at c (descriptor_made start c a.stand.past) a.stand.past a.stand.at kind)
     → 76 + length (body_text body) ≤ POST_LIMIT
@@ -118,7 +114,7 @@ go-due now m shuffle body formed asked at said =
     let least = group.least in
     let fits : IsBody m.log.shape m.stage body = subst (IsBody m.log.shape m.stage) (sym said) (go-form m.log.shape (past_of m.log m.stage) m.stage m.stage shuffle m.own.inner_ciphertext at) in
     let told : (start : Replies) (c : Configuration) (a : Actor) → StandsFor now start c a (holdings_of m)
-        → body ≡ go_row (shape_in c) (contents_of a.stand.past) a.stand.at (own_submission c (descriptor_made start c a.stand.past) (contents_of a.stand.past) shuffle).inner_ciphertext
+    → body ≡ go_row (shape_in c) (contents_of a.stand.past) a.stand.at (own_submission c (descriptor_made start c a.stand.past) (contents_of a.stand.past) shuffle).inner_ciphertext
     = λ start c a stands.
     let inner : m.own.inner_ciphertext ≡ (own_submission c (descriptor_made start c a.stand.past) (contents_of a.stand.past) shuffle).inner_ciphertext
     = elim (cases_eq shuffle 1) [

@@ -1,13 +1,11 @@
 -- One post more is handed out: what is true of a member stays true, and it stands for the same.
-use Rattle.std.proofs.Common.{◌≡◌, ℕ, ◌+◌, ◌<◌, ◌≤◌, List, [], ◌∷◌, ◌++◌, length, length-append, Option, Some, None, ap, sym, ◌∙◌, refl, subst, arith}
+use Rattle.std.proofs.Common.{[], ◌≡◌, ℕ, ◌+◌, ◌<◌, ◌≤◌, List, ◌∷◌, length, length-append, Option, Some, None, ap, ◌∙◌, refl, arith}
 use Rattle.std.specs.Prelude.{filter_map, option_map}
 use Rattle.std.specs.List.{cons_option, range_with_len, slice_get}
 use Rattle.std.specs.Option.{option_to_list}
 use Rattle.std.proofs.lemmas.List.FromFn.{length-range_with_len}
 use Rattle.std.proofs.lemmas.Option.{slice_get_within}
 use Rattle.phase_message.specs.declared.post.Post.{Post}
-use Rattle.phase_message.specs.declared.stage.Slot.{Slot}
-use Rattle.phase_message.specs.Shape.{Shape}
 use Rattle.phase_message.specs.Slots.{stage_count}
 use Rattle.phase_message.specs.Post.{post_spelling}
 use Rattle.stage_log.specs.Table.{IsLog, Log, kept_in}
@@ -22,11 +20,11 @@ use Rattle.member_core.specs.declared.ending.Ending.{Ending}
 use Rattle.member_core.specs.declared.ending.Ending.TheVariants.{Open, Done, Blamed, Stopped}
 use Rattle.member_core.specs.declared.machine.Machine.{Machine}
 use Rattle.member_core.specs.Concluding.{machine_ended}
-use Rattle.member_core.specs.Membership.{Holdings, IsOpen, IsOutOfMemory, IsRunning, Membership, handed_next, holdings_of, own_posts_kept, posts_made}
+use Rattle.member_core.specs.Membership.{Holdings, IsOutOfMemory, IsRunning, Membership, handed_next, holdings_of, own_posts_kept, posts_made}
 use Rattle.member_core.specs.Needs.{HoldsNeeded}
 use Rattle.member_core.specs.Promises.{IsPlainMember}
 use Rattle.member_core.specs.Sound.{IsFormed, IsMachineOf, IsMoodOf, IsReady, IsSound}
-use Rattle.member_core.specs.Stands.{GoesOn, HasEntered, IsAt, KeepsOwn, Stands, StandsFor}
+use Rattle.member_core.specs.Stands.{GoesOn, KeepsOwn, Stands, StandsFor}
 use Rattle.member_core.proofs.Promised.{posts-said}
 use Rattle.member_core.proofs.Shown.{plain-made}
 
@@ -47,7 +45,11 @@ one-at-most (Some post) = omega arith
 kept-few : (log : Log) (number : ℕ) → length (own_posts_kept log number) ≤ stage_count log.shape
 unfolding own_posts_kept
 kept-few log number =
-    omega (arith, few (λ stage. kept_in log (record { stage = stage; sender = number })) (range_with_len 0 (stage_count log.shape)), length-range_with_len 0 (stage_count log.shape))
+    omega (
+      arith,
+      few (λ stage. kept_in log (record { stage = stage; sender = number })) (range_with_len 0 (stage_count log.shape)),
+      length-range_with_len 0 (stage_count log.shape),
+    )
 
 made-few : (h : Holdings) → IsLog h.log → length (posts_made h) ≤ 27
 made-few h is =
@@ -98,7 +100,8 @@ ready-handed m n is = record {
 pub needed-handed : (h : Holdings) (n : ℕ) → HoldsNeeded h → HoldsNeeded (record h { handed = n })
 needed-handed h n is = record { first = is.first; bulk = is.bulk; second = is.second }
 
-pub handed-sound : (m : Machine) (post : Post) → IsSound m → slice_get (posts_made (holdings_of m)) m.handed ≡ Some post → IsSound (with_handed m (m.handed + 1))
+pub handed-sound : (m : Machine) (post : Post) → IsSound m → slice_get (posts_made (holdings_of m)) m.handed ≡ Some post
+    → IsSound (with_handed m (m.handed + 1))
 handed-sound m post is e =
     let f = is.formed in record {
       formed = record {
@@ -147,19 +150,22 @@ stopped-sound m f = record {
 
 -- ---- for what it stands
 
-own-handed : (start : Replies) (c : Configuration) (h : Holdings) (n : ℕ) (mood : Mood) → KeepsOwn start c h mood → KeepsOwn start c (record h { handed = n }) mood
+own-handed : (start : Replies) (c : Configuration) (h : Holdings) (n : ℕ) (mood : Mood) → KeepsOwn start c h mood
+    → KeepsOwn start c (record h { handed = n }) mood
 own-handed start c h n Mute is = tt
 own-handed start c h n Unasked is = record { descriptor = is.descriptor; pad = is.pad; first = is.first; second = is.second }
 own-handed start c h n (PutOff bytes) is = record { descriptor = is.descriptor; pad = is.pad; first = is.first; second = is.second }
 own-handed start c h n Spoken is = record { descriptor = is.descriptor; pad = is.pad; first = is.first; second = is.second }
 
-goes-handed : (now start : Replies) (c : Configuration) (h : Holdings) (n : ℕ) (mood : Mood) → GoesOn now start c h mood → GoesOn now start c (record h { handed = n }) mood
+goes-handed : (now start : Replies) (c : Configuration) (h : Holdings) (n : ℕ) (mood : Mood) → GoesOn now start c h mood
+    → GoesOn now start c (record h { handed = n }) mood
 goes-handed now start c h n Mute is = tt
 goes-handed now start c h n Unasked is = is
 goes-handed now start c h n (PutOff bytes) is = is
 goes-handed now start c h n Spoken is = is
 
-for-handed : (now start : Replies) (c : Configuration) (a : Actor) (h : Holdings) (n : ℕ) → StandsFor now start c a h → StandsFor now start c a (record h { handed = n })
+for-handed : (now start : Replies) (c : Configuration) (a : Actor) (h : Holdings) (n : ℕ) → StandsFor now start c a h
+    → StandsFor now start c a (record h { handed = n })
 for-handed now start c a h n is = record {
   can_enter = is.can_enter;
   entered = record {
@@ -183,7 +189,8 @@ for-handed now start c a h n is = record {
   own = own-handed start c h n h.mood is.own;
 }
 
-pub stands-handed : {A B : Type 0} (replies_of : A → Replies) (start : Replies) (c : Configuration) (delivered : List (List ℕ)) (m : Membership A) (post : B)
+pub stands-handed : {A B : Type 0} (replies_of : A → Replies) (start : Replies) (c : Configuration) (delivered : List (List ℕ)) (m : Membership A)
+    (post : B)
     → Stands replies_of start c delivered m → Stands replies_of start c delivered (handed_next m (Some post))
 stands-handed replies_of start c delivered m post is =
     record { strings = is.strings; stands = for-handed (replies_of m.conduct) start c _ m.holds (m.holds.handed + 1) is.stands }
@@ -194,7 +201,8 @@ abbrev pub next_made : {A : Type 0} → Membership A → Option Post
 next_made m = slice_get (posts_made m.holds) m.holds.handed
 
 -- the next of its posts is the next of those that the deliveries ask for
-pub next-plain : {A : Type 0} (replies_of : A → Replies) (start : Replies) (c : Configuration) (delivered : List (List ℕ)) (m : Membership A) (o : Option (List ℕ))
+pub next-plain : {A : Type 0} (replies_of : A → Replies) (start : Replies) (c : Configuration) (delivered : List (List ℕ)) (m : Membership A)
+    (o : Option (List ℕ))
     → o ≡ option_map post_spelling (next_made m) → Stands replies_of start c delivered m → IsPlain start
     → o ≡ option_map post_spelling (slice_get (posts_of c delivered) m.holds.handed)
 next-plain replies_of start c delivered m o e stands plain =

@@ -1,17 +1,16 @@
 -- What is to be judged, as a member holds it.
-use Rattle.std.proofs.Common.{◌≡◌, ℕ, ◌+◌, true, Option, Some, None, ap, sym, ◌∙◌, refl}
-use Rattle.std.specs.Prelude.{IsSome, IsTrue}
-use Rattle.phase_message.specs.declared.post.Post.{Post}
+use Rattle.std.proofs.Common.{◌≡◌, ◌+◌, true, ap, sym, ◌∙◌}
+use Rattle.std.specs.Prelude.{IsSome}
 use Rattle.phase_message.specs.Shape.{Shape}
 use Rattle.phase_message.specs.Stages.{shape_of}
 use Rattle.group_roster.specs.Given.{roster_of}
-use Rattle.group_roster.specs.Roster.{Roster, shape_of_roster}
+use Rattle.group_roster.specs.Roster.{shape_of_roster}
 use Rattle.stage_log.specs.Log.{before}
 use Rattle.round_spec.specs.Verdict.{is_closing}
 use Rattle.closing_verdict.specs.Judgement.{IsComplete}
 use Rattle.member_core.specs.declared.machine.Machine.{Machine}
 use Rattle.member_core.specs.Membership.{completed_of, holdings_of}
-use Rattle.member_core.specs.Sound.{IsFormed, IsMachineOf}
+use Rattle.member_core.specs.Sound.{IsFormed}
 use Rattle.member_core.proofs.Storing.{kept-short}
 
 -- the log is of the group's shape

@@ -22,5 +22,12 @@ pub mod Answered
 mod BeingAsked
 pub mod Handing
 pub mod PassedStages
+pub mod Delivering
 pub mod Verdicts
 mod Describing
+pub mod Dispatch
+mod Hearing
+pub mod TurnSteps
+mod Submitted
+pub mod Beginning
+pub mod Advancing

@@ -1,12 +1,12 @@
 -- The posts that a member made, one after the other.
-use Rattle.std.proofs.Common.{◌≡◌, ℕ, zero, suc, ◌+◌, ◌-◌, ◌<◌, ◌≤◌, List, [], ◌∷◌, ◌++◌, Option, Some, None, refl, ap, sym, ◌∙◌, arith}
+use Rattle.std.proofs.Common.{◌≡◌, ℕ, zero, suc, ◌+◌, ◌-◌, ◌<◌, ◌≤◌, List, ◌++◌, Option, Some, None, refl, ap, sym, ◌∙◌, arith}
 use Rattle.std.specs.Prelude.{filter_map}
 use Rattle.std.specs.List.{cons_option, range_with_len, slice_get}
 use Rattle.std.specs.Option.{option_to_list}
 use Rattle.phase_message.specs.declared.post.Post.{Post}
 use Rattle.phase_message.specs.Slots.{stage_count}
 use Rattle.stage_log.specs.Table.{Log}
-use Rattle.member_core.specs.Membership.{Holdings, own_posts_kept, posts_made}
+use Rattle.member_core.specs.Membership.{own_posts_kept}
 use Rattle.member_core.proofs.OwnPosts.{own_kept}
 
 -- those from a stage on, and behind them the one that it does not keep

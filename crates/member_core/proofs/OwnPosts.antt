@@ -41,7 +41,8 @@ get-same [] k y lt = absurd (omega arith)
 get-same (z ∷ xs) zero y lt = refl
 get-same (z ∷ xs) (suc k) y lt = get-same xs k y (omega arith)
 
-numbers-apart : (log : Log) (number at stage : ℕ) → is_slot log.shape at number ≡ true → is_slot log.shape stage number ≡ true → (stage ≡ at → ⊥)
+numbers-apart : (log : Log) (number at stage : ℕ) → is_slot log.shape at number ≡ true → is_slot log.shape stage number ≡ true
+    → (stage ≡ at → ⊥)
     → slot_number log.shape stage number ≡ slot_number log.shape at number → ⊥
 numbers-apart log number at stage speaks there apart same = elim (cases_lt stage at) [
   | inl lt ↦ (let less = slot_number-later log.shape stage at number number there speaks lt in omega arith)
@@ -93,7 +94,8 @@ kept-cases log slot other post kept is speaks e = by_slot (cases_Bool (is_slot l
         → (kept_in log other ≡ Some kept) ⊎ ((other ≡ slot) × (kept ≡ post))
     by_number there (inl same) =
         let one = one-slot log.shape slot other speaks there (eqb-true number k same) in
-        let both : Some kept ≡ Some post = sym e ∙ ap (kept_in (filled log slot post)) one ∙ own-here log slot.sender slot.stage post is speaks in
+        let both : Some kept ≡ Some post = sym e ∙ ap (kept_in (filled log slot post)) one
+        ∙ own-here log slot.sender slot.stage post is speaks in
         inr (one, cc)
     by_number there (inr apart) =
         let other_number : number ≡ k → ⊥ = λ same. (let yes = eq-eqb number k same in let both = sym yes ∙ apart in cc) in
@@ -118,7 +120,8 @@ range-splits a (suc m) n =
 
 -- the values of the numbers before one, its own, and those behind it
 filter-splits : (f : ℕ → Option Post) (at n : ℕ) → at < n
-    → filter_map f (range_with_len 0 n) ≡ filter_map f (range_with_len 0 at) ++ cons_option (f at) (filter_map f (range_with_len (at + 1) (n - at - 1)))
+    → filter_map f (range_with_len 0 n) ≡ filter_map f (range_with_len 0 at)
+    ++ cons_option (f at) (filter_map f (range_with_len (at + 1) (n - at - 1)))
 filter-splits f at n lt =
     let split : n ≡ at + suc (n - at - 1) = omega arith in
     let start : 0 + at ≡ at = omega arith in
@@ -133,7 +136,8 @@ front-only f at n le none =
     let split : n ≡ at + (n - at) = omega arith in
     ap (λ (k : ℕ). filter_map f (range_with_len 0 k)) split ∙ ap (filter_map f) (range-splits 0 at (n - at))
     ∙ filter_map-append f (range_with_len 0 at) (range_with_len (0 + at) (n - at))
-    ∙ ap (λ (posts : List Post). filter_map f (range_with_len 0 at) ++ posts) (filter-none f (0 + at) (n - at) (λ x from lt. none x (omega arith)))
+    ∙ ap (λ (posts : List Post). filter_map f (range_with_len 0 at) ++ posts)
+    (filter-none f (0 + at) (n - at) (λ x from lt. none x (omega arith)))
     ∙ append-nil (filter_map f (range_with_len 0 at))
 
 -- a post at a stage from which on nothing was kept comes behind all others
@@ -142,10 +146,12 @@ pub one-more : (log : Log) (number at : ℕ) (post : Post) → IsLog log → is_
 unfolding own_posts_kept
 one-more log number at post is speaks none =
     filter-splits f at n lt
-    ∙ ap (λ (posts : List Post). posts ++ cons_option (f at) back) (filter-in f g 0 at (λ x from small. own-elsewhere log number at x post speaks (λ e. omega arith)))
+    ∙ ap (λ (posts : List Post). posts ++ cons_option (f at) back)
+    (filter-in f g 0 at (λ x from small. own-elsewhere log number at x post speaks (λ e. omega arith)))
     ∙ ap (λ (o : Option Post). front ++ cons_option o back) (own-here log number at post is speaks)
     ∙ ap (λ (posts : List Post). front ++ post ∷ posts)
-    (filter-none f (at + 1) (n - at - 1) (λ x from small. own-elsewhere log number at x post speaks (λ e. omega arith) ∙ none x (omega arith)))
+    (filter-none f (at + 1) (n - at - 1) (λ x from small. own-elsewhere log number at x post speaks (λ e. omega arith)
+    ∙ none x (omega arith)))
     ∙ sym (ap (λ (posts : List Post). posts ++ post ∷ []) (front-only g at n (omega (arith, lt)) none))
   where
     n : ℕ
@@ -188,7 +194,8 @@ pub said-before : (log : Log) (number at : ℕ) → IsLog log → IsSome (before
 unfolding own_posts_kept
 said-before log number at is complete le none =
     ap length (front-only (own_kept log number) at (stage_count log.shape) le none)
-    ∙ counts (own_kept log number) (λ earlier. is_slot log.shape earlier number) 0 at (λ x from small. by_slot x (omega arith) (cases_Bool (is_slot log.shape x number)))
+    ∙ counts (own_kept log number) (λ earlier. is_slot log.shape earlier number) 0 at
+    (λ x from small. by_slot x (omega arith) (cases_Bool (is_slot log.shape x number)))
   where
     by_slot : (x : ℕ) → x < at → (is_slot log.shape x number ≡ true) ⊎ (is_slot log.shape x number ≡ false)
         → is_some (own_kept log number x) ≡ is_slot log.shape x number
@@ -196,12 +203,14 @@ said-before log number at is complete le none =
         let post = kept-post log at (record { stage = x; sender = number }) is complete speaks lt in
         ap is_some post.1 ∙ sym speaks
     by_slot x lt (inr silent) =
-        ap is_some (cond-false (is_slot log.shape x number) (option_flatten (slice_get log.posts (slot_number log.shape x number))) None silent) ∙ sym silent
+        ap is_some (cond-false (is_slot log.shape x number) (option_flatten (slice_get log.posts (slot_number log.shape x number))) None
+        silent) ∙ sym silent
 
 -- ---- twelve leaves are enough
 
 -- a member that speaks at a stage and has said nothing from there on has a post to make yet
-pub fewer-said : (log : Log) (number at : ℕ) → IsLog log → IsSome (before log at) → is_slot log.shape at number ≡ true → IsEmptyFrom log number at
+pub fewer-said : (log : Log) (number at : ℕ) → IsLog log → IsSome (before log at) → is_slot log.shape at number ≡ true
+    → IsEmptyFrom log number at
     → length (own_posts_kept log number) < 12
 fewer-said log number at is complete speaks none =
     let n : ℕ = log.shape.members in

@@ -1,57 +1,44 @@
 -- Where a member stands behind a stage that is complete: where the pure machine does.
-use Rattle.std.proofs.Common.{◌≡◌, ◌⊎◌, ℕ, ◌+◌, ◌<◌, ◌≤◌, Bool, true, false, List, ◌++◌, Option, Some, None, Vec, Global, ap, sym, ◌∙◌, refl, subst, arith, inl, inr}
-use Rattle.std.specs.Prelude.{IsSome, IsTrue, is_some, nat_lt, ◌&&◌, if◌then◌else◌}
-use Rattle.std.specs.List.{list_any}
-use Rattle.std.specs.Option.{option_map}
-use Rattle.std.proofs.lemmas.Bool.{cases_Bool, cases_eq, cond-false, cond-true, ltb-true}
+use Rattle.std.proofs.Common.{◌≡◌, ◌⊎◌, ℕ, ◌+◌, ◌<◌, true, false, List, ◌++◌, Option, Some, Vec, Global, ap, sym, ◌∙◌, refl, subst, arith, inl, inr}
+use Rattle.std.specs.Prelude.{IsSome, if◌then◌else◌}
+use Rattle.std.proofs.lemmas.Bool.{cond-false}
 use Rattle.phase_message.specs.declared.post.Post.{Post}
-use Rattle.phase_message.specs.declared.stage.StageKind.{StageKind}
-use Rattle.phase_message.specs.declared.stage.StageKind.TheVariants.{Final, Confirm}
-use Rattle.phase_message.specs.Shape.{Shape}
 use Rattle.phase_message.specs.Slots.{stage_count}
-use Rattle.phase_message.specs.Stages.{is_slot, kind_of_stage, vote_of}
-use Rattle.phase_message.proofs.Table.{confirm_is, final_a_is}
-use Rattle.group_roster.specs.Given.{roster_of}
-use Rattle.group_roster.specs.Roster.{Roster, shape_of_roster}
+use Rattle.group_roster.specs.Roster.{Roster}
 use Rattle.stage_log.specs.declared.seen.Seen.{Seen}
 use Rattle.stage_log.specs.Log.{all_some, before, contents_of}
-use Rattle.stage_log.specs.Seen.{HasSeen}
-use Rattle.stage_log.specs.Table.{Log, is_complete, posts_in}
-use Rattle.stage_log.proofs.Fronts.{some_is}
+use Rattle.stage_log.specs.Table.{posts_in}
 use Rattle.bulk_descriptor.specs.declared.slot_state.SlotState.{SlotState}
-use Rattle.transcript_form.specs.declared.transcript.Transcript.{Transcript}
 use Rattle.shuffle_blame.specs.Asked.{past_of}
-use Rattle.round_spec.specs.Course.{Stand, closing_of, is_open, stand_behind}
-use Rattle.round_spec.specs.Result.{Outcome, Waiting as WaitingFor, Blamed as BlamedBy, DoneWith, outcome_ended}
+use Rattle.round_spec.specs.Course.{closing_of, is_open, stand_behind}
+use Rattle.round_spec.specs.Result.{Outcome, Waiting as WaitingFor, outcome_ended}
 use Rattle.round_spec.specs.Say.{Configuration, shape_in}
-use Rattle.round_spec.specs.Slots.{final_stage, slots_of_past, submit_stage}
-use Rattle.round_spec.specs.Verdict.{ClosedStage, Verdict, Goes, Done, Convicts, is_bad, is_closing, shape_at, verdict_of}
+use Rattle.round_spec.specs.Slots.{slots_of_past, submit_stage}
+use Rattle.round_spec.specs.Verdict.{ClosedStage, Verdict, Goes, Done, Convicts, is_closing, shape_at, verdict_of}
 use Rattle.honest_say.specs.declared.group_keys.GroupKeys.{GroupKeys}
 use Rattle.honest_say.specs.declared.opening.Slots.{Slots}
 use Rattle.honest_say.specs.Pasts.{posts_before}
 use Rattle.honest_say.proofs.PastLemmas.{posts-are}
 use Rattle.honest_say.proofs.StageLemmas.{submit-slot}
 use Rattle.closing_verdict.specs.declared.convicting.Conviction.{Conviction}
-use Rattle.closing_verdict.specs.Convicting.{IsConvictionBy, TellsConviction}
-use Rattle.closing_verdict.specs.Judgement.{Completed, stage_closed, verdict_in}
+use Rattle.closing_verdict.specs.Convicting.{TellsConviction}
+use Rattle.closing_verdict.specs.Judgement.{verdict_in}
 use Rattle.member_spec.specs.declared.mood.Mood.{Mood}
 use Rattle.member_spec.specs.declared.mood.Mood.TheVariants.{Unasked, PutOff, Spoken, Mute}
-use Rattle.member_spec.specs.Actor.{Actor, actor_behind_stage, actor_behind_step, stage_posts}
+use Rattle.member_spec.specs.Actor.{Actor, actor_behind_stage, actor_behind_step}
 use Rattle.member_spec.specs.Outcomes.{members_missing, outcome_of}
 use Rattle.member_spec.specs.Replies.{Replies}
 use Rattle.member_spec.proofs.Steps.{open-step, posts-within}
 use Rattle.member_core.specs.declared.ending.Ending.{Ending}
-use Rattle.member_core.specs.declared.ending.Ending.TheVariants.{Open, Done as EndingDone, Blamed, Stopped}
+use Rattle.member_core.specs.declared.ending.Ending.TheVariants.{Open, Done as EndingDone, Blamed}
 use Rattle.member_core.specs.declared.machine.Machine.{Machine}
 use Rattle.member_core.specs.declared.secrets.Secrets.{Secrets}
-use Rattle.member_core.specs.Membership.{Holdings, IsOpen, completed_of, holdings_of, posts_made}
+use Rattle.member_core.specs.Membership.{Holdings, completed_of, holdings_of}
 use Rattle.member_core.specs.Needs.{AreSecretsOf, was_asked}
 use Rattle.member_core.specs.Sound.{IsFormed, IsReady}
 use Rattle.member_core.specs.Stands.{AnswersBy, GoesOn, HasEntered, IsAt, IsOwnOf, KeepsOwn, ShowsOutcome, StandsFor}
-use Rattle.member_core.proofs.Belonging.{IsOfGroup, of-group, seat-of, shape-is}
-use Rattle.member_core.proofs.Judging.{shape-of-group}
-use Rattle.member_core.proofs.Passing.{NextPast, asked-behind, machine_past, next-past, spoken-or-silent}
-use Rattle.member_core.proofs.Shown.{goes-on}
+use Rattle.member_core.proofs.Belonging.{IsOfGroup, of-group}
+use Rattle.member_core.proofs.Passing.{asked-behind, machine_past, spoken-or-silent}
 
 -- ---- the pure machine
 

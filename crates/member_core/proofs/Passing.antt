@@ -1,19 +1,17 @@
 -- Going past a stage that is complete: what a member holds behind it.
 use Rattle.std.proofs.Common.{◌≡◌, ◌⊎◌, ℕ, ◌+◌, ◌<◌, ◌≤◌, Bool, true, false, List, ◌++◌, take, Option, Some, None, Vec, Global, ap, sym, ◌∙◌, refl, subst, arith, inl, inr}
-use Rattle.std.specs.Prelude.{IsSome, IsTrue, is_some, nat_lt, not, ◌&&◌}
+use Rattle.std.specs.Prelude.{IsSome, is_some, nat_lt, not, ◌&&◌}
 use Rattle.std.specs.List.{slice_range}
 use Rattle.std.specs.Option.{option_map}
 use Rattle.std.proofs.lemmas.Bool.{cases_Bool, cases_lt, false_from_ne_true, lt-ltb, ltb-true}
 use Rattle.phase_message.specs.declared.post.Post.{Post}
-use Rattle.phase_message.specs.declared.stage.Slot.{Slot}
-use Rattle.phase_message.specs.Shape.{Shape}
 use Rattle.phase_message.specs.Slots.{slots_before, stage_count}
 use Rattle.phase_message.specs.Stages.{is_slot}
 use Rattle.phase_message.proofs.SlotLists.{slots_before-rises}
 use Rattle.stage_log.specs.declared.seen.Seen.{Seen}
 use Rattle.stage_log.specs.Log.{all_some, before}
 use Rattle.stage_log.specs.Seen.{HasSeen}
-use Rattle.stage_log.specs.Table.{Log, is_complete, kept_in, posts_in}
+use Rattle.stage_log.specs.Table.{Log, is_complete, posts_in}
 use Rattle.stage_log.proofs.Fronts.{before-complete, before-front, complete-before, front-next, some_is}
 use Rattle.stage_log.proofs.Pasts.{all_some-map, posts_in-past}
 use Rattle.shuffle_blame.specs.Asked.{past_of}
@@ -31,7 +29,7 @@ use Rattle.member_core.specs.declared.machine.Machine.{Machine}
 use Rattle.member_core.specs.declared.secrets.Secrets.{Secrets}
 use Rattle.member_core.specs.Membership.{holdings_of}
 use Rattle.member_core.specs.Needs.{AreSecretsOf, HoldsNeeded, is_going, is_mute, needs, no_secrets, was_asked}
-use Rattle.member_core.specs.Sound.{CarriesKeys, IsEmptyFrom, IsFormed, IsMachineOf, IsMoodOf, IsReady}
+use Rattle.member_core.specs.Sound.{CarriesKeys, IsEmptyFrom, IsFormed, IsMoodOf, IsReady}
 use Rattle.member_core.proofs.Belonging.{IsOfGroup, of-group}
 
 -- ---- the posts
@@ -57,7 +55,7 @@ next-past log stage past e full =
       posts = slice_range posts a b;
       here = ap all_some (posts_in-past log stage (stage + 1) posts (omega arith) all.1) ∙ all_some-map (slice_range posts a b);
       next = before-front log (stage + 1) (stage + 1) posts (omega arith) all.1
-        ∙ ap (λ (ps : List Post). Some ps) (front-next posts a b rises ∙ ap (λ (ps : List Post). ps ++ slice_range posts a b) (sym past-is));
+          ∙ ap (λ (ps : List Post). Some ps) (front-next posts a b rises ∙ ap (λ (ps : List Post). ps ++ slice_range posts a b) (sym past-is));
     }
   where
     all : (posts : List Post) × (before log (stage + 1) ≡ Some posts)
@@ -129,15 +127,18 @@ pub formed-past : (m : Machine) (keys : Option GroupKeys) (seen : Seen) (secrets
     (ending : Ending) → IsFormed m → ((c : Configuration) → AreSecretsOf c m.secrets → AreSecretsOf c secrets)
     → IsFormed (machine_past m keys seen secrets opened slots ending)
 formed-past m keys seen secrets opened slots ending formed left = record {
-  entered = (formed.entered.0, record {
-    roster = formed.entered.1.roster;
-    seat = formed.entered.1.seat;
-    message = formed.entered.1.message;
-    secrets = left formed.entered.0 formed.entered.1.secrets;
-    hidden = formed.entered.1.hidden;
-    hidden_short = formed.entered.1.hidden_short;
-    pad = formed.entered.1.pad;
-  });
+  entered = (
+    formed.entered.0,
+    record {
+      roster = formed.entered.1.roster;
+      seat = formed.entered.1.seat;
+      message = formed.entered.1.message;
+      secrets = left formed.entered.0 formed.entered.1.secrets;
+      hidden = formed.entered.1.hidden;
+      hidden_short = formed.entered.1.hidden_short;
+      pad = formed.entered.1.pad;
+    },
+  );
   message = formed.message;
   log = formed.log;
   shape = formed.shape;
@@ -196,11 +197,11 @@ needed-past m keys seen opened slots formed ready there needed =
     let group : IsOfGroup m = of-group m formed in
     record {
       first = needed.first ∙ same-need m (final_stage m.log.shape 1) formed ready there
-        (final-slot m.log.shape 1 m.seat.number (omega arith) (omega arith) group.first group.last);
+          (final-slot m.log.shape 1 m.seat.number (omega arith) (omega arith) group.first group.last);
       bulk = needed.bulk ∙ same-need m (submit_stage m.log.shape 2) formed ready there
-        (submit-slot m.log.shape 2 m.seat.number (omega arith) (omega arith) group.first group.last);
+          (submit-slot m.log.shape 2 m.seat.number (omega arith) (omega arith) group.first group.last);
       second = needed.second ∙ same-need m (final_stage m.log.shape 2) formed ready there
-        (final-slot m.log.shape 2 m.seat.number (omega arith) (omega arith) group.first group.last);
+          (final-slot m.log.shape 2 m.seat.number (omega arith) (omega arith) group.first group.last);
     }
 
 none-needed : (going mute asked : Bool) → going ≡ false → false ≡ (going && (not mute && not asked))
@@ -211,11 +212,11 @@ none-needed true mute asked e = absurd cc
 pub needed-ended : (m : Machine) → is_going m.ending ≡ false → m.secrets ≡ no_secrets → HoldsNeeded (holdings_of m)
 needed-ended m ended none = record {
   first = ap (λ (s : Secrets). is_some s.first) none
-    ∙ none-needed (is_going m.ending) (is_mute m.mood) (was_asked m.stage m.mood (final_stage m.log.shape 1)) ended;
+      ∙ none-needed (is_going m.ending) (is_mute m.mood) (was_asked m.stage m.mood (final_stage m.log.shape 1)) ended;
   bulk = ap (λ (s : Secrets). is_some s.bulk) none
-    ∙ none-needed (is_going m.ending) (is_mute m.mood) (was_asked m.stage m.mood (submit_stage m.log.shape 2)) ended;
+      ∙ none-needed (is_going m.ending) (is_mute m.mood) (was_asked m.stage m.mood (submit_stage m.log.shape 2)) ended;
   second = ap (λ (s : Secrets). is_some s.second) none
-    ∙ none-needed (is_going m.ending) (is_mute m.mood) (was_asked m.stage m.mood (final_stage m.log.shape 2)) ended;
+      ∙ none-needed (is_going m.ending) (is_mute m.mood) (was_asked m.stage m.mood (final_stage m.log.shape 2)) ended;
 }
 
 -- what is not held is of nobody

@@ -1,6 +1,6 @@
 -- A post that a member makes: what is true of the member stays true, and it stands for the pure machine behind that post.
-use Rattle.std.proofs.Common.{◌≡◌, ◌⊎◌, ℕ, ◌+◌, ◌-◌, ◌*◌, ◌<◌, ◌≤◌, ◌^◌, Bool, true, false, List, [], ◌∷◌, ◌++◌, length, Option, Some, None, ap, sym, ◌∙◌, refl, subst, arith, inl, inr, append-nil, append_assoc, length-append, eq-eqb}
-use Rattle.std.specs.Prelude.{◌==◌, ◌&&◌, IsSome, count_by, is_ok}
+use Rattle.std.proofs.Common.{◌≡◌, ℕ, ◌+◌, ◌-◌, ◌*◌, ◌<◌, ◌≤◌, ◌^◌, Bool, true, false, List, [], ◌∷◌, ◌++◌, length, Option, Some, None, ap, sym, ◌∙◌, refl, subst, arith, inl, inr, append-nil, length-append, eq-eqb}
+use Rattle.std.specs.Prelude.{◌==◌, ◌&&◌, count_by, is_ok}
 use Rattle.std.specs.Int.{w32, to_be_bytes}
 use Rattle.std.specs.List.{range_with_len}
 use Rattle.std.specs.Option.{option_map, option_to_list}
@@ -17,13 +17,12 @@ use Rattle.phase_message.specs.declared.stage.StageKind.TheVariants.{Keys, Submi
 use Rattle.phase_message.specs.Offence.{content_read}
 use Rattle.phase_message.specs.Post.{post_spelling}
 use Rattle.phase_message.specs.Shape.{Shape}
-use Rattle.phase_message.specs.Slots.{stage_count}
 use Rattle.phase_message.specs.Stages.{is_slot, kind_of_stage, shape_of}
 use Rattle.phase_message.proofs.SlotBounds.{slot-bounds}
 use Rattle.group_roster.specs.Roster.{Roster, shape_of_roster}
 use Rattle.signed_post.specs.declared.post.TheConstants.{LONGEST_SIGNATURE}
 use Rattle.signed_post.proofs.Lengths.{valid-short}
-use Rattle.stage_log.specs.Log.{before, contents_of}
+use Rattle.stage_log.specs.Log.{before}
 use Rattle.stage_log.specs.Seen.{HasSeen}
 use Rattle.stage_log.specs.Put.{put_log}
 use Rattle.stage_log.specs.Table.{IsKept, Log, filled, kept_in}
@@ -37,7 +36,7 @@ use Rattle.round_spec.specs.Slots.{submit_stage}
 use Rattle.round_spec.specs.Course.{is_open}
 use Rattle.closing_verdict.specs.Carried.{stage_found, stage_opened}
 use Rattle.member_spec.specs.declared.mood.Mood.{Mood}
-use Rattle.member_spec.specs.declared.mood.Mood.TheVariants.{Mute, PutOff, Spoken, Unasked}
+use Rattle.member_spec.specs.declared.mood.Mood.TheVariants.{Mute, Spoken, Unasked}
 use Rattle.member_spec.specs.Actor.{Actor, actor_behind_post, descriptor_made}
 use Rattle.member_spec.specs.Outcomes.{outcome_of}
 use Rattle.member_spec.specs.Replies.{KeepsSlot, Replies}
@@ -51,7 +50,7 @@ use Rattle.member_core.specs.Membership.{Holdings, IsOpen, holdings_of, own_post
 use Rattle.member_core.specs.Needs.{HoldsNeeded, is_going, no_secrets, was_asked}
 use Rattle.member_core.specs.Shorts.{IsShortLog, most_in, own_limit}
 use Rattle.member_core.specs.Sound.{IsEmptyFrom, IsFormed, IsMachineOf, IsMoodOf, IsReady, IsSound, slot_here}
-use Rattle.member_core.specs.Stands.{AnswersBy, HasEntered, IsOwnOf, ShowsOutcome, StandsFor}
+use Rattle.member_core.specs.Stands.{HasEntered, IsOwnOf, ShowsOutcome, StandsFor}
 use Rattle.member_core.proofs.OwnPosts.{fewer-said, kept-cases, one-more, own-elsewhere, own-here, said-before}
 use Rattle.member_core.proofs.Saying.{filled-stands, ok-read, put-fills, read-kept, read-stands}
 use Rattle.member_core.proofs.Storing.{answers-stay, asked-within, before-stays, keys-stay, open-shown, opened-stay, past-stays, posts-stay, shown-open, slots-stay, some-mapped}
@@ -78,7 +77,8 @@ here-others m asked silent = record {
 
 made-kept : (m : Machine) → IsSilent m → posts_made (holdings_of m) ≡ own_posts_kept m.log m.seat.number
 made-kept m silent =
-    ap (λ (o : Option Post). own_posts_kept m.log m.seat.number ++ option_to_list o) silent.stray ∙ append-nil (own_posts_kept m.log m.seat.number)
+    ap (λ (o : Option Post). own_posts_kept m.log m.seat.number ++ option_to_list o) silent.stray
+    ∙ append-nil (own_posts_kept m.log m.seat.number)
 
 -- a leaf is left for its post
 pub leaf-left : (m : Machine) → IsFormed m → IsReady m → IsToBeAsked m → 0 < m.leaves.left
@@ -118,7 +118,8 @@ signed-post m bytes told signature held same held_is signed valid short = record
 }
 
 -- what is told of bytes is told of its content
-pub told-reads : (m : Machine) (bytes told : List ℕ) (b : Bool) → IsFormed m → told ≡ bytes → b ≡ is_ok (content_read (shape_of m.seat.shape) told)
+pub told-reads : (m : Machine) (bytes told : List ℕ) (b : Bool) → IsFormed m → told ≡ bytes
+    → b ≡ is_ok (content_read (shape_of m.seat.shape) told)
     → is_ok (content_read m.log.shape bytes) ≡ b
 told-reads m bytes told b f same value =
     ap (λ (shape : Shape). is_ok (content_read shape bytes)) f.shape
@@ -141,7 +142,8 @@ limit-small (Some Confirm) = omega arith
 
 -- a content of the grammar for its slot can be kept there
 pub own-content : (m : Machine) (post : Post) → IsBytes post.content → is_ok (content_read m.log.shape post.content) ≡ true
-    → KeepsSlot m.log.shape (slot_here m) post.content → length post.content ≤ own_limit (kind_of_stage m.log.shape m.stage) → IsOwnContent m post
+    → KeepsSlot m.log.shape (slot_here m) post.content → length post.content ≤ own_limit (kind_of_stage m.log.shape m.stage)
+    → IsOwnContent m post
 own-content m post are reads keeps short =
     let read = ok-read (content_read m.log.shape post.content) reads in
     let small = limit-small (kind_of_stage m.log.shape m.stage) in
@@ -164,20 +166,23 @@ spelled-long post =
     omega (arith, length-append (head ++ post.content) post.signature, length-append head post.content)
 
 -- the log goes on to have no post that is too long
-short-posted : (m : Machine) (post : Post) → IsFormed m → IsToBeAsked m → IsSigned m post → IsShortLog m.seat.number (filled m.log (slot_here m) post)
-short-posted m post f asked signed stage sender kept e = elim (kept-cases m.log (slot_here m) (record { stage = stage; sender = sender }) post kept f.log asked.speaks e) [
-  | inl old ↦ f.short stage sender kept old
-  | inr new ↦
-      let number : ℕ = m.seat.number in
-      let most : most_in m.log.shape number stage sender ≡ own_limit (kind_of_stage m.log.shape m.stage) + (4 + LONGEST_SIGNATURE) =
-      ap (λ (s : Slot). most_in m.log.shape number s.stage s.sender) new.0
-      ∙ cond-true (number == number) (own_limit (kind_of_stage m.log.shape m.stage) + (4 + LONGEST_SIGNATURE)) POST_LIMIT (eq-eqb number number refl) in
-      let same = ap (λ (p : Post). length (post_spelling p)) new.1 in
-      let long = spelled-long post in
-      let content = signed.short in
-      let signature = valid-short (own_public m.leaves.parts) post.content post.signature signed.valid in
-      omega (arith, most, same, long, content, signature)
-]
+short-posted : (m : Machine) (post : Post) → IsFormed m → IsToBeAsked m → IsSigned m post
+    → IsShortLog m.seat.number (filled m.log (slot_here m) post)
+short-posted m post f asked signed stage sender kept e = elim (kept-cases m.log (slot_here m) (record { stage = stage; sender = sender })
+    post kept f.log asked.speaks e) [
+      | inl old ↦ f.short stage sender kept old
+      | inr new ↦
+          let number : ℕ = m.seat.number in
+          let most : most_in m.log.shape number stage sender ≡ own_limit (kind_of_stage m.log.shape m.stage) + (4 + LONGEST_SIGNATURE) =
+          ap (λ (s : Slot). most_in m.log.shape number s.stage s.sender) new.0
+          ∙ cond-true (number == number) (own_limit (kind_of_stage m.log.shape m.stage) + (4 + LONGEST_SIGNATURE)) POST_LIMIT
+          (eq-eqb number number refl) in
+          let same = ap (λ (p : Post). length (post_spelling p)) new.1 in
+          let long = spelled-long post in
+          let content = signed.short in
+          let signature = valid-short (own_public m.leaves.parts) post.content post.signature signed.valid in
+          omega (arith, most, same, long, content, signature)
+    ]
 
 -- ---- behind a post that it keeps
 
@@ -190,10 +195,12 @@ made-more own more stray post none e =
 pub posted-made : (m : Machine) (post : Post) → IsFormed m → IsToBeAsked m → IsSilent m
     → posts_made (holdings_of (posted m post)) ≡ posts_made (holdings_of m) ++ post ∷ []
 posted-made m post f asked silent =
-    made-more (own_posts_kept m.log m.seat.number) (own_posts_kept (filled m.log (slot_here m) post) m.seat.number) m.stray post silent.stray
+    made-more (own_posts_kept m.log m.seat.number) (own_posts_kept (filled m.log (slot_here m) post) m.seat.number) m.stray post
+    silent.stray
     (one-more m.log m.seat.number m.stage post f.log asked.speaks silent.empty)
 
-pub posted-formed : (m : Machine) (post : Post) → IsFormed m → IsReady m → IsToBeAsked m → IsSigned m post → IsOwnContent m post → IsFormed (posted m post)
+pub posted-formed : (m : Machine) (post : Post) → IsFormed m → IsReady m → IsToBeAsked m → IsSigned m post → IsOwnContent m post
+    → IsFormed (posted m post)
 posted-formed m post f r asked signed own =
     let silent = silent-here m r asked in
     let left = leaf-left m f r asked in
@@ -201,7 +208,18 @@ posted-formed m post f r asked signed own =
     let made = ap length (posted-made m post f asked silent) in
     let longer = length-append (posts_made (holdings_of m)) (post ∷ []) in
     record {
-      entered = (f.entered.0, record { roster = e.roster; seat = e.seat; message = e.message; secrets = e.secrets; hidden = e.hidden; hidden_short = e.hidden_short; pad = e.pad });
+      entered = (
+        f.entered.0,
+        record {
+          roster = e.roster;
+          seat = e.seat;
+          message = e.message;
+          secrets = e.secrets;
+          hidden = e.hidden;
+          hidden_short = e.hidden_short;
+          pad = e.pad;
+        },
+      );
       message = f.message;
       log = filled-is_log m.log (slot_here m) post f.log own.kept;
       shape = f.shape;
@@ -219,26 +237,31 @@ posted-ready m post f r asked =
     let past = some_of (before m.log m.stage) r.past in
     record {
       stage = r.stage;
-      past = some_is (before (filled m.log (slot_here m) post) m.stage) past.0 (before-stays m.log (m.seat.number + 1) (slot_here m) post m.stage past.0 others past.1);
+      past = some_is (before (filled m.log (slot_here m) post) m.stage) past.0
+          (before-stays m.log (m.seat.number + 1) (slot_here m) post m.stage past.0 others past.1);
       seen = subst (λ (said : List (List ℕ)). HasSeen m.log.shape said m.stage m.seen)
           (sym (past-stays m.log (m.seat.number + 1) (slot_here m) post m.stage m.stage others r.past (omega arith))) r.seen;
       keys = keys-stay m.log (slot_here m) post m.stage m.keys
           (λ there. past-stays m.log (m.seat.number + 1) (slot_here m) post 1 m.stage others r.past (r.keys_behind there)) r.keys;
       opened = opened-stay m.log (slot_here m) post m.stage (option_map (λ items. items.items) m.opened)
-          (λ there. past-stays m.log (m.seat.number + 1) (slot_here m) post (stage_opened m.log) m.stage others r.past (r.opened_behind (some-mapped (λ items. items.items) m.opened there))) r.opened;
+          (λ there. past-stays m.log (m.seat.number + 1) (slot_here m) post (stage_opened m.log) m.stage others r.past
+          (r.opened_behind (some-mapped (λ items. items.items) m.opened there))) r.opened;
       slots = slots-stay m.log (slot_here m) post m.stage m.slots
-          (λ there. past-stays m.log (m.seat.number + 1) (slot_here m) post (stage_found m.log) m.stage others r.past (r.slots_behind there)) r.slots;
+          (λ there. past-stays m.log (m.seat.number + 1) (slot_here m) post (stage_found m.log) m.stage others r.past
+          (r.slots_behind there)) r.slots;
       keys_behind = r.keys_behind;
       opened_behind = r.opened_behind;
       slots_behind = r.slots_behind;
       mood = (
         λ later le. own-elsewhere m.log m.seat.number m.stage later post asked.speaks (λ e. omega arith) ∙ silent.empty later (omega arith),
         silent.stray,
-        some_is (kept_in (filled m.log (slot_here m) post) (slot_here m)) post (own-here m.log m.seat.number m.stage post f.log asked.speaks)
+        some_is (kept_in (filled m.log (slot_here m) post) (slot_here m)) post
+            (own-here m.log m.seat.number m.stage post f.log asked.speaks),
       );
     }
 
-pub posted-sound : (m : Machine) (post : Post) → IsFormed m → IsReady m → IsSpeakable m → IsSigned m post → IsOwnContent m post → IsSound (posted m post)
+pub posted-sound : (m : Machine) (post : Post) → IsFormed m → IsReady m → IsSpeakable m → IsSigned m post → IsOwnContent m post
+    → IsSound (posted m post)
 posted-sound m post f r able signed own =
     let n : HoldsNeeded (asked_at (holdings_of m) Spoken) = able.needed in
     record {
@@ -249,7 +272,8 @@ posted-sound m post f r able signed own =
 
 -- ---- behind a post that it does not keep
 
-pub strayed-made : (m : Machine) (post : Post) → IsSilent m → posts_made (holdings_of (strayed m post)) ≡ posts_made (holdings_of m) ++ post ∷ []
+pub strayed-made : (m : Machine) (post : Post) → IsSilent m → posts_made (holdings_of (strayed m post)) ≡ posts_made (holdings_of m)
+    ++ post ∷ []
 strayed-made m post silent =
     sym (ap (λ (posts : List Post). posts ++ post ∷ []) (made-kept m silent))
 
@@ -261,8 +285,18 @@ strayed-formed m post f r asked signed =
     let made = ap length (strayed-made m post silent) in
     let longer = length-append (posts_made (holdings_of m)) (post ∷ []) in
     record {
-      entered = (f.entered.0, record { roster = e.roster; seat = e.seat; message = e.message; secrets = record { first = tt; bulk = tt; second = tt };
-        hidden = e.hidden; hidden_short = e.hidden_short; pad = e.pad });
+      entered = (
+        f.entered.0,
+        record {
+          roster = e.roster;
+          seat = e.seat;
+          message = e.message;
+          secrets = record { first = tt; bulk = tt; second = tt };
+          hidden = e.hidden;
+          hidden_short = e.hidden_short;
+          pad = e.pad;
+        },
+      );
       message = f.message;
       log = f.log;
       shape = f.shape;
@@ -355,10 +389,12 @@ pub post-is : (c : Configuration) (a : Actor) (m : Machine) (post : Post) → Is
 post-is c a m post f r asked signed entered at =
     ap (λ (s : List ℕ). record { content = post.content; signature = s }) (signed.signed
     ∙ ap (λ (key : SecretParts). lms_signature key m.leaves.first post.content) entered.key
-    ∙ ap (λ (leaf : ℕ). lms_signature c.key leaf post.content) (leaf-is c m f r asked entered ∙ ap (λ (stage : ℕ). c.first + number_said_before c stage) at))
+    ∙ ap (λ (leaf : ℕ). lms_signature c.key leaf post.content) (leaf-is c m f r asked entered
+    ∙ ap (λ (stage : ℕ). c.first + number_said_before c stage) at))
 
 -- what an open round shows hangs on nothing else
-pub shows-open : (c : Configuration) (a b : Actor) (ending : Ending) → IsOpen ending → b.ending ≡ a.ending → ShowsOutcome ending (outcome_of c a)
+pub shows-open : (c : Configuration) (a b : Actor) (ending : Ending) → IsOpen ending → b.ending ≡ a.ending
+    → ShowsOutcome ending (outcome_of c a)
     → ShowsOutcome ending (outcome_of c b)
 shows-open c a b Open still same shows = shown-open c b (ap is_open same ∙ open-shown c a shows)
 shows-open c a b (Done slots) still same shows = absurd still
@@ -366,7 +402,8 @@ shows-open c a b (Blamed conviction) still same shows = absurd still
 shows-open c a b Stopped still same shows = absurd still
 
 -- behind a post that it keeps the member stands for the pure machine that keeps it
-pub posted-stands : (now start : Replies) (c : Configuration) (a : Actor) (m : Machine) (post : Post) → IsFormed m → IsReady m → IsToBeAsked m
+pub posted-stands : (now start : Replies) (c : Configuration) (a : Actor) (m : Machine) (post : Post) → IsFormed m → IsReady m
+    → IsToBeAsked m
     → IsSigned m post → is_ok (content_read m.log.shape post.content) ≡ true → StandsAsked now start c a (holdings_of m)
     → StandsFor now start c (actor_behind_post c a (signed_at c a.stand.at post.content)) (holdings_of (posted m post))
 posted-stands now start c a m post f r asked signed reads s =
@@ -378,7 +415,8 @@ posted-stands now start c a m post f r asked signed reads s =
         round = s.entered.round;
         message = s.entered.message;
         key = s.entered.key;
-        next = (let used = s.entered.next in let longer = length-append (posts_made (holdings_of m)) (post ∷ []) in let more = ap length made in omega (arith, used, longer, more));
+        next = (let used = s.entered.next in let longer = length-append (posts_made (holdings_of m)) (post ∷ []) in let more = ap length
+            made in omega (arith, used, longer, more));
         secrets = s.entered.secrets;
       };
       at = record {
@@ -392,12 +430,14 @@ posted-stands now start c a m post f r asked signed reads s =
       conduct = answers-stay now start c (past_of m.log 1) (past_of log 1) (was_asked m.stage Spoken 1) (past_same 1) s.conduct;
       own = record {
         descriptor = λ was. made_own.descriptor was
-            ∙ ap (descriptor_made start c) (sym (posts-stay m.log (m.seat.number + 1) (slot_here m) post 1 m.stage others r.past (asked-within m.stage Spoken 1 was)));
+            ∙ ap (descriptor_made start c) (sym (posts-stay m.log (m.seat.number + 1) (slot_here m) post 1 m.stage others r.past
+            (asked-within m.stage Spoken 1 was)));
         pad = made_own.pad;
         first = λ was not_yet. made_own.first was not_yet
             ∙ ap (λ (past : List (List ℕ)). (own_submission c m.own.descriptor past 1).inner_ciphertext) (sym (past_same 1 was));
         second = λ was. made_own.second was
-            ∙ ap (λ (past : List (List ℕ)). (own_submission c m.own.descriptor past 2).inner_ciphertext) (sym (past_same (submit_stage m.log.shape 2) was));
+            ∙ ap (λ (past : List (List ℕ)). (own_submission c m.own.descriptor past 2).inner_ciphertext)
+            (sym (past_same (submit_stage m.log.shape 2) was));
       };
     })
   where
@@ -427,7 +467,9 @@ posted-stands now start c a m post f r asked signed reads s =
     }
 
     behind : actor_behind_post c a (signed_at c a.stand.at post.content) ≡ next
-    behind = cond-true (is_ok (content_read (shape_in c) post.content)) _ _ (ap (λ (shape : Shape). is_ok (content_read shape post.content)) (sym (round-shape c m f (entered-asked c (holdings_of m) Spoken s.entered))) ∙ reads)
+    behind = cond-true (is_ok (content_read (shape_in c) post.content)) _ _
+        (ap (λ (shape : Shape). is_ok (content_read shape post.content))
+        (sym (round-shape c m f (entered-asked c (holdings_of m) Spoken s.entered))) ∙ reads)
 
     log_is : log ≡ filled a.log (record { stage = a.stand.at; sender = c.number }) (signed_at c a.stand.at post.content)
     log_is = ap (λ (l : Log). filled l (slot_here m) post) s.at.log
@@ -436,10 +478,12 @@ posted-stands now start c a m post f r asked signed reads s =
         ∙ ap (λ (p : Post). filled a.log (record { stage = a.stand.at; sender = c.number }) p) same
 
     past_same : (stage : ℕ) → was_asked m.stage Spoken stage ≡ true → past_of log stage ≡ past_of m.log stage
-    past_same stage was = past-stays m.log (m.seat.number + 1) (slot_here m) post stage m.stage others r.past (asked-within m.stage Spoken stage was)
+    past_same stage was = past-stays m.log (m.seat.number + 1) (slot_here m) post stage m.stage others r.past
+        (asked-within m.stage Spoken stage was)
 
 -- and behind one that it does not keep for the mute one
-pub strayed-stands : (now start : Replies) (c : Configuration) (a : Actor) (m : Machine) (post : Post) → IsFormed m → IsReady m → IsToBeAsked m
+pub strayed-stands : (now start : Replies) (c : Configuration) (a : Actor) (m : Machine) (post : Post) → IsFormed m → IsReady m
+    → IsToBeAsked m
     → IsSigned m post → is_ok (content_read m.log.shape post.content) ≡ false → StandsAsked now start c a (holdings_of m)
     → StandsFor now start c (actor_behind_post c a (signed_at c a.stand.at post.content)) (holdings_of (strayed m post))
 strayed-stands now start c a m post f r asked signed outside s =
@@ -451,7 +495,8 @@ strayed-stands now start c a m post f r asked signed outside s =
         round = s.entered.round;
         message = s.entered.message;
         key = s.entered.key;
-        next = (let used = s.entered.next in let longer = length-append (posts_made (holdings_of m)) (post ∷ []) in let more = ap length made in omega (arith, used, longer, more));
+        next = (let used = s.entered.next in let longer = length-append (posts_made (holdings_of m)) (post ∷ []) in let more = ap length
+            made in omega (arith, used, longer, more));
         secrets = record { first = tt; bulk = tt; second = tt };
       };
       at = record {
@@ -460,7 +505,8 @@ strayed-stands now start c a m post f r asked signed outside s =
         past = s.at.past;
         mood = refl;
         made = made ∙ ap (λ (posts : List Post). posts ++ post ∷ []) s.at.made
-            ∙ ap (λ (p : Post). a.made ++ p ∷ []) (post-is c a m post f r asked signed (entered-asked c (holdings_of m) Spoken s.entered) s.at.stage);
+            ∙ ap (λ (p : Post). a.made ++ p ∷ []) (post-is c a m post f r asked signed (entered-asked c (holdings_of m) Spoken s.entered)
+            s.at.stage);
         ending = shows-open c a next m.ending asked.going refl s.at.ending;
       };
       conduct = tt;
@@ -474,15 +520,19 @@ strayed-stands now start c a m post f r asked signed outside s =
     next = record a { mood = Mute; made = a.made ++ signed_at c a.stand.at post.content ∷ [] }
 
     behind : actor_behind_post c a (signed_at c a.stand.at post.content) ≡ next
-    behind = cond-false (is_ok (content_read (shape_in c) post.content)) _ _ (ap (λ (shape : Shape). is_ok (content_read shape post.content)) (sym (round-shape c m f (entered-asked c (holdings_of m) Spoken s.entered))) ∙ outside)
+    behind = cond-false (is_ok (content_read (shape_in c) post.content)) _ _
+        (ap (λ (shape : Shape). is_ok (content_read shape post.content))
+        (sym (round-shape c m f (entered-asked c (holdings_of m) Spoken s.entered))) ∙ outside)
 
 -- ---- as the code holds it
 
 -- the log that the code puts the post into
-pub put-here : (m : Machine) (post : Post) (slot : Slot) (log : Log) → IsReady m → IsToBeAsked m → slot ≡ slot_here m → log ≡ put_log m.log slot post
+pub put-here : (m : Machine) (post : Post) (slot : Slot) (log : Log) → IsReady m → IsToBeAsked m → slot ≡ slot_here m
+    → log ≡ put_log m.log slot post
     → log ≡ filled m.log (slot_here m) post
 put-here m post slot log r asked here put =
-    put ∙ ap (λ (s : Slot). put_log m.log s post) here ∙ put-fills m.log (slot_here m) post ((silent-here m r asked).empty m.stage (omega arith))
+    put ∙ ap (λ (s : Slot). put_log m.log s post) here ∙ put-fills m.log (slot_here m) post
+    ((silent-here m r asked).empty m.stage (omega arith))
 
 -- what is said of the member behind a post is so of the code, which has these leaves and this log
 pub posted-so : (P : Machine → Type 0) (m : Machine) (post : Post) (leaves : RunState) (log : Log) → leaves ≡ leaf_spent m.leaves
@@ -494,4 +544,5 @@ posted-so P m post leaves log spent filled_is so =
 pub strayed-so : (P : Machine → Type 0) (m n : Machine) (post : Post) (leaves : RunState) → leaves ≡ leaf_spent m.leaves
     → n ≡ record m { leaves = leaves; stray = Some post; secrets = no_secrets; mood = Mute } → P (strayed m post) → P n
 strayed-so P m n post leaves spent e so =
-    subst P (sym e) (subst (λ (l : RunState). P (record m { leaves = l; stray = Some post; secrets = no_secrets; mood = Mute })) (sym spent) so)
+    subst P (sym e) (subst (λ (l : RunState). P (record m { leaves = l; stray = Some post; secrets = no_secrets; mood = Mute })) (sym spent)
+    so)

@@ -1,14 +1,13 @@
 -- A plain member keeps what is promised of its round.
-use Rattle.std.proofs.Common.{◌≡◌, ℕ, List, [], Option, Some, None, Result, Ok, Err, ap, sym, ◌∙◌, refl, subst}
+use Rattle.std.proofs.Common.{[], ◌≡◌, ℕ, List, Option, Some, None, Result, Ok, Err, ap, sym, ◌∙◌, refl, subst}
 use Rattle.std.specs.Prelude.{All, IfOk, IfSome, option_map}
 use Rattle.wire_core.specs.Bytes.{IsBytes}
 use Rattle.phase_message.specs.declared.post.Post.{Post}
 use Rattle.stage_log.specs.Table.{Log}
-use Rattle.transcript_form.specs.declared.claim.Claim.{Claim}
 use Rattle.transcript_form.specs.declared.transcript.Transcript.{Transcript}
 use Rattle.transcript_form.specs.Transcript.{transcript_spelling}
 use Rattle.bulk_descriptor.specs.declared.slot_state.SlotState.{SlotState}
-use Rattle.round_spec.specs.Result.{Outcome, Waiting as WaitingFor, Blamed as BlamedBy, DoneWith, log_after, posts_of, result_of}
+use Rattle.round_spec.specs.Result.{Outcome, Waiting as WaitingFor, Blamed as BlamedBy, DoneWith, posts_of, result_of}
 use Rattle.round_spec.specs.Runs.{CanEnter, IsConfiguration, Run, posts_said, run_after}
 use Rattle.round_spec.specs.Say.{Configuration}
 use Rattle.round_spec.proofs.Honesty.{run_after_is_honest}
@@ -20,15 +19,15 @@ use Rattle.accountability.proofs.Messages.{done_has_messages}
 use Rattle.accountability.proofs.Naming.{open_names}
 use Rattle.accountability.proofs.SameList.{same_list}
 use Rattle.member_spec.specs.declared.state.State.{State}
-use Rattle.member_spec.specs.declared.state.State.TheVariants.{Done, Blamed}
+use Rattle.member_spec.specs.declared.state.State.TheVariants.{Done}
 use Rattle.member_spec.specs.Actor.{Actor, actor_after}
 use Rattle.member_spec.specs.Outcomes.{evidence_shown, slots_shown, state_of}
 use Rattle.member_spec.specs.Plain.{ComesTo, EndsOnce, KeepsAtMost}
 use Rattle.member_spec.specs.Replies.{IsPlain, Replies}
 use Rattle.member_spec.proofs.PlainLaws.{plain_comes_to_result, plain_ends_once, plain_posts_are_said}
 use Rattle.member_spec.proofs.Room.{plain_keeps_at_most}
-use Rattle.member_core.specs.Membership.{Membership, posts_made, state_by}
-use Rattle.member_core.specs.Promises.{ConvictsFaulty, HasRosterKey, HoldsMessages, IsAllHonest, IsEvidence, IsOneList, IsPlainMember, KeepsPromise, KeepsRun, WaitsForMissed, WaitsIfOpen}
+use Rattle.member_core.specs.Membership.{Membership, state_by}
+use Rattle.member_core.specs.Promises.{ConvictsFaulty, HasRosterKey, HoldsMessages, IsAllHonest, IsEvidence, IsOneList, IsPlainMember, KeepsPromise, KeepsRun, WaitsIfOpen}
 use Rattle.member_core.specs.Stands.{Stands}
 use Rattle.member_core.proofs.Shown.{state-shown}
 
@@ -95,7 +94,8 @@ shown-slots c delivered slots e = by_result (result_of c delivered) refl e
 
 pub holds-messages : (c : Configuration) (delivered : List (List ℕ)) (slots : List SlotState) → Some slots ≡ slots_shown (result_of c delivered)
     → HoldsMessages c delivered slots
-holds-messages c delivered slots shown runs among distinct = done_has_messages c delivered runs slots among distinct (shown-slots c delivered slots shown)
+holds-messages c delivered slots shown runs among distinct = done_has_messages c delivered runs slots among distinct
+    (shown-slots c delivered slots shown)
 
 pub one-list : (c : Configuration) (delivered : List (List ℕ)) (slots : List SlotState) → Some slots ≡ slots_shown (result_of c delivered)
     → IsOneList c delivered slots
@@ -112,7 +112,8 @@ shown-evidence c delivered state bytes is are state_is shown = by_result (result
       accused = t.accused;
       claim = t.claim;
       blames = s;
-      convicts = subst (λ (x : List ℕ). ConvictsFaulty c delivered x t.accused t.claim) (sym (bytes-same bytes (transcript_spelling t) b)) (convicts c delivered t is are e);
+      convicts = subst (λ (x : List ℕ). ConvictsFaulty c delivered x t.accused t.claim) (sym (bytes-same bytes (transcript_spelling t) b))
+          (convicts c delivered t is are e);
     }
     by_result (WaitingFor stage named) e s b = absurd cc
     by_result (DoneWith slots) e s b = absurd cc
@@ -120,7 +121,8 @@ shown-evidence c delivered state bytes is are state_is shown = by_result (result
 -- ---- the run
 
 -- its own posts are those that the run of its deliveries said
-said-after : (replies : Replies) (c : Configuration) (delivered : List (List ℕ)) (a : Actor) → a ≡ actor_after replies c delivered → ComesTo c delivered a
+said-after : (replies : Replies) (c : Configuration) (delivered : List (List ℕ)) (a : Actor) → a ≡ actor_after replies c delivered
+    → ComesTo c delivered a
     → a.made ≡ posts_said (record { config = c; log = a.log }) → a.made ≡ posts_said (run_after c delivered)
 said-after replies c delivered a is comes said = said ∙ ap (λ (log : Log). posts_said (record { config = c; log = log })) comes.log
 
@@ -136,7 +138,8 @@ plain-run replies_of c delivered m is =
     record {
       log = at.log ∙ comes.log;
       said = at.made ∙ said-after start c delivered a refl comes (plain_posts_are_said start c delivered is.plain enters are);
-      ends = λ shuffle. subst (λ (made : List Post). EndsOnce c made shuffle) (sym at.made) (plain_ends_once start c delivered shuffle is.plain enters are);
+      ends = λ shuffle. subst (λ (made : List Post). EndsOnce c made shuffle) (sym at.made)
+          (plain_ends_once start c delivered shuffle is.plain enters are);
       room = subst (KeepsAtMost c) (sym at.log) (plain_keeps_at_most start c delivered is.plain enters are);
       honest = λ key. run_after_is_honest c delivered (configured c enters key) are;
     }
@@ -148,7 +151,8 @@ posts-said replies_of c delivered m is =
     let enters = is.stands.stands.can_enter in
     let are = is.stands.strings in
     let comes = plain_comes_to_result is.start c delivered is.plain enters are in
-    sym comes.posts ∙ said-after is.start c delivered (actor_after is.start c delivered) refl comes (plain_posts_are_said is.start c delivered is.plain enters are)
+    sym comes.posts ∙ said-after is.start c delivered (actor_after is.start c delivered) refl comes
+    (plain_posts_are_said is.start c delivered is.plain enters are)
 
 -- ---- clauses
 
@@ -176,7 +180,8 @@ plain-start replies_of start c m plain stands = record { start = start; plain = 
 
 -- where one stands for more deliveries than the other did by the same answers, it is plain if the other was
 pub plain-goes-on : {A : Type 0} (replies_of : A → Replies) (old new : Membership A) (more : List (List ℕ) → List (List ℕ))
-    → ((start : Replies) (c : Configuration) (delivered : List (List ℕ)) → Stands replies_of start c delivered old → Stands replies_of start c (more delivered) new)
+    → ((start : Replies) (c : Configuration) (delivered : List (List ℕ)) → Stands replies_of start c delivered old
+    → Stands replies_of start c (more delivered) new)
     → (c : Configuration) (delivered : List (List ℕ)) → IsPlainMember replies_of c delivered old → IsPlainMember replies_of c (more delivered) new
 plain-goes-on replies_of old new more stands c delivered is =
     record { start = is.start; plain = is.plain; stands = stands is.start c delivered is.stands }

@@ -1,5 +1,5 @@
 -- Asking again about what was put off.
-use Rattle.std.proofs.Common.{◌≡◌, ℕ, ◌+◌, Bool, true, false, List, Option, Some, None, ap, sym, ◌∙◌, refl, subst}
+use Rattle.std.proofs.Common.{◌≡◌, ℕ, List, ap, sym, ◌∙◌, refl, subst}
 use Rattle.std.specs.Prelude.{IsTrue, not, ◌&&◌}
 use Rattle.shuffle_blame.specs.Asked.{past_of}
 use Rattle.round_spec.specs.Say.{Configuration}
@@ -93,7 +93,7 @@ stands-again now start c a h bytes e s = record {
     next = s.entered.next;
     secrets = s.entered.secrets;
   };
-  at = record { log = s.at.log; stage = s.at.stage; past = s.at.past; mood = refl; made = s.at.made; ending = s.at.ending; };
+  at = record { log = s.at.log; stage = s.at.stage; past = s.at.past; mood = refl; made = s.at.made; ending = s.at.ending };
   conduct = subst (λ (mood : Mood). AnswersBy now start c (past_of h.log 1) (was_asked h.stage mood 1)) e
       (subst (λ (mood : Mood). GoesOn now start c h mood) e s.conduct);
   own = record {

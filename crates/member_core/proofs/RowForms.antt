@@ -1,7 +1,7 @@
 -- What a member says is of the grammar where it stands, whatever its conduct made of its descriptor.
-use Rattle.std.proofs.Common.{◌≡◌, ℕ, zero, suc, ◌+◌, ◌-◌, ◌*◌, ◌<◌, ◌≤◌, ◌^◌, true, false, List, [], ◌∷◌, ◌++◌, length, map, drop, Option, Some, None, ap, sym, ◌∙◌, refl, subst, arith, inl, inr}
+use Rattle.std.proofs.Common.{◌≡◌, ℕ, zero, suc, ◌+◌, ◌-◌, ◌*◌, ◌<◌, ◌≤◌, ◌^◌, List, [], length, map, drop, Option, Some, None, ap, sym, ◌∙◌, refl, subst, arith, inl, inr}
 use Rattle.std.specs.Prelude.{◌⊎◌, Bool, ◌==◌, IsSome, bytes_eq, option_and_then, option_map, unwrap_or, if◌then◌else◌}
-use Rattle.std.specs.List.{AllByRecursion, range_with_len, slice_get}
+use Rattle.std.specs.List.{AllByRecursion, range_with_len}
 use Rattle.std.proofs.lemmas.Bool.{cases_Bool, cond-false, cond-true}
 use Rattle.std.proofs.lemmas.List.{length-drop, length-map, length-take-le}
 use Rattle.std.proofs.lemmas.List.FromFn.{length-map-range_with_len}
@@ -14,7 +14,6 @@ use Rattle.pad_stream.specs.Stream.{pad_of}
 use Rattle.phase_message.specs.declared.content.Body.{Body}
 use Rattle.phase_message.specs.declared.content.Body.TheVariants.{Keys as KeysBody, Submit as SubmitBody, Shuffled, Abort, Go as GoBody, Reveal, Dispute, Pads, Check as CheckBody, Confirm as ConfirmBody, Differ}
 use Rattle.phase_message.specs.declared.post.Post.{Post}
-use Rattle.phase_message.specs.declared.stage.Slot.{Slot}
 use Rattle.phase_message.specs.declared.stage.StageKind.{StageKind}
 use Rattle.phase_message.specs.declared.stage.StageKind.TheVariants.{Keys, Submit, Shuffle, Go, Final, Pad, Check, Confirm}
 use Rattle.phase_message.specs.Body.{level}
@@ -39,7 +38,7 @@ use Rattle.shuffle_core.proofs.Turns.{turn_says_bodies}
 use Rattle.bulk_descriptor.specs.Descriptor.{Description, descriptor_read, hash_of_pad, own_pad, pad_found, pad_hash_for, pad_if_hashed, pad_row}
 use Rattle.bulk_descriptor.proofs.MakingLemmas.{length-own_pad, length-pad_of}
 use Rattle.bulk_descriptor.proofs.SpellingLemmas.{in_grammar, passes, read_passes}
-use Rattle.go_nogo.specs.Rows.{check_row, confirm_row, final_row, go_row, posts_at, written}
+use Rattle.go_nogo.specs.Rows.{confirm_row, final_row, posts_at, written}
 use Rattle.go_nogo.specs.Stands.{StandAll}
 use Rattle.go_nogo.specs.Votes.{votes_agree}
 use Rattle.shuffle_blame.specs.Asked.{past_of}

@@ -1,8 +1,8 @@
 -- What a member says has room, whatever its conduct.
-use Rattle.std.proofs.Common.{◌≡◌, ℕ, zero, suc, ◌+◌, ◌-◌, ◌*◌, ◌<◌, ◌≤◌, ◌^◌, true, false, List, [], ◌∷◌, ◌++◌, length, length-append, map, replicate, take, drop, Option, Some, None, ap, sym, ◌∙◌, refl, subst, arith, rules, inl, inr}
+use Rattle.std.proofs.Common.{◌≡◌, ℕ, zero, suc, ◌+◌, ◌-◌, ◌*◌, ◌<◌, ◌≤◌, ◌^◌, true, List, [], ◌∷◌, ◌++◌, length, length-append, replicate, take, drop, Option, Some, None, ap, sym, ◌∙◌, refl, subst, arith, rules, inl, inr}
 use Rattle.std.specs.Prelude.{◌==◌, IsSome, option_map, if◌then◌else◌}
 use Rattle.std.specs.Int.{to_be_bytes, w32}
-use Rattle.std.specs.List.{AllByRecursion, flat_map, slice_get}
+use Rattle.std.specs.List.{flat_map, slice_get}
 use Rattle.std.proofs.lemmas.Bool.{cases_Bool, cases_eq, cases_lt, cond-false, cond-true, eq-eqb}
 use Rattle.std.proofs.lemmas.Nat.{mul-le}
 use Rattle.std.proofs.lemmas.List.{drop-map, length-map, length-replicate, take-map}
@@ -21,7 +21,7 @@ use Rattle.phase_message.specs.Body.{level}
 use Rattle.phase_message.specs.Grammar.{IsBody, OfGrammar, body_text, content_text}
 use Rattle.phase_message.specs.Post.{post_spelling}
 use Rattle.phase_message.specs.Shape.{Shape}
-use Rattle.phase_message.specs.Slots.{senders_of, slot_at, slot_number, slots_before, slots_of, stage_count}
+use Rattle.phase_message.specs.Slots.{slot_at, slot_number, slots_before, slots_of}
 use Rattle.phase_message.specs.Stages.{is_slot, kind_of_stage, speaks}
 use Rattle.phase_message.proofs.Counts.{slots_next}
 use Rattle.phase_message.proofs.Lengths.{fixed-length, pads-length, turn-length}
@@ -32,7 +32,7 @@ use Rattle.stage_log.specs.Log.{before, contents_of}
 use Rattle.stage_log.specs.Table.{IsLog, Log, kept_in}
 use Rattle.go_nogo.specs.Rows.{confirm_row, final_row, posts_at, written}
 use Rattle.go_nogo.specs.Votes.{votes_agree}
-use Rattle.round_spec.specs.Slots.{final_stage, pad_stage, submit_stage}
+use Rattle.round_spec.specs.Slots.{final_stage, pad_stage}
 use Rattle.round_spec.proofs.GoLists.{there}
 use Rattle.round_spec.proofs.OwnLengths.{content-long, take-less}
 use Rattle.round_spec.proofs.SealedBytes.{all-from}

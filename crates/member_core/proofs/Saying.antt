@@ -1,5 +1,5 @@
 -- What a member says: bytes of a content of the grammar in its slot, or bytes that are none.
-use Rattle.std.proofs.Common.{◌≡◌, ◌⊎◌, ℕ, ◌<◌, ◌≤◌, ◌^◌, Bool, true, false, List, length, Option, None, Result, Ok, Err, ap, sym, ◌∙◌, refl, subst, arith}
+use Rattle.std.proofs.Common.{◌≡◌, ℕ, ◌<◌, ◌^◌, true, List, length, Option, None, Result, Ok, Err, ap, refl, subst, arith}
 use Rattle.std.specs.Prelude.{IfOk, IsErr, is_ok}
 use Rattle.wire_core.specs.Bytes.{IsBytes}
 use Rattle.phase_message.specs.declared.content.Content.{Content}
@@ -11,8 +11,7 @@ use Rattle.phase_message.specs.Shape.{Shape}
 use Rattle.phase_message.specs.Stages.{is_slot}
 use Rattle.phase_message.proofs.Whole.{content-header, content-is_read, content-is_spelled}
 use Rattle.stage_log.specs.Put.{filled_if, put_log}
-use Rattle.stage_log.specs.Table.{IsKept, IsLog, Log, filled, kept_in}
-use Rattle.stage_log.proofs.Entries.{filled-is_log}
+use Rattle.stage_log.specs.Table.{IsKept, Log, filled, kept_in}
 use Rattle.go_nogo.specs.Stands.{StandAll, StandsIn}
 use Rattle.go_nogo.proofs.Standing.{stand-put, stand-read}
 use Rattle.round_spec.specs.Embedded.{slot_named}
@@ -33,7 +32,8 @@ text-slot shape content grammar =
 -- ---- bytes that are kept
 
 -- what is read can be kept
-pub read-kept : (shape : Shape) (bytes : List ℕ) (content : Content) → IsBytes bytes → content_read shape bytes ≡ Ok content → length bytes < 2 ^ 32
+pub read-kept : (shape : Shape) (bytes : List ℕ) (content : Content) → IsBytes bytes → content_read shape bytes ≡ Ok content
+    → length bytes < 2 ^ 32
     → IsKept bytes
 read-kept shape bytes content are e short =
     let spelled = content-is_spelled shape bytes content are e in
@@ -67,3 +67,8 @@ if-err (Err x) P is = tt
 pub ok-so : {A E : Type 0} (r : Result A E) (P Q : A → Type 0) → ((x : A) → P x → Q x) → IfOk r P → IfOk r Q
 ok-so (Ok x) P Q leads is = leads x is
 ok-so (Err x) P Q leads is = tt
+
+-- nor where memory was there, of what holds anyway
+pub ok-all : {A E : Type 0} (r : Result A E) (Q : A → Type 0) → ((x : A) → Q x) → IfOk r Q
+ok-all (Ok x) Q all = all x
+ok-all (Err x) Q all = tt

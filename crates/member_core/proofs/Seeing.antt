@@ -6,7 +6,7 @@ use Rattle.phase_message.specs.declared.post.Post.{Post}
 use Rattle.phase_message.specs.Shape.{Shape}
 use Rattle.phase_message.specs.Slots.{slots_before}
 use Rattle.stage_log.specs.declared.seen.Seen.{Seen}
-use Rattle.stage_log.specs.Log.{before, contents_of, first_wrong, view_of}
+use Rattle.stage_log.specs.Log.{before, contents_of}
 use Rattle.stage_log.specs.Running.{Carries}
 use Rattle.stage_log.specs.Seen.{HasSeen}
 use Rattle.stage_log.specs.Table.{Log}

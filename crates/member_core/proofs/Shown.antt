@@ -9,10 +9,9 @@ use Rattle.round_spec.specs.Course.{is_open}
 use Rattle.round_spec.specs.Result.{Outcome, Waiting as WaitingFor, Blamed as BlamedBy, DoneWith, outcome_ended, posts_of, result_of}
 use Rattle.round_spec.specs.Say.{Configuration}
 use Rattle.round_spec.specs.Verdict.{Verdict, Goes, Done as DoneVerdict, Convicts}
-use Rattle.member_spec.specs.declared.state.State.{State}
 use Rattle.member_spec.specs.declared.state.State.TheVariants.{Waiting, Done as StateDone, Blamed as StateBlamed}
 use Rattle.member_spec.specs.Actor.{Actor, actor_after}
-use Rattle.member_spec.specs.Outcomes.{bits_of, evidence_shown, members_missing, outcome_of, slots_shown, state_of}
+use Rattle.member_spec.specs.Outcomes.{evidence_shown, members_missing, outcome_of, slots_shown, state_of}
 use Rattle.member_spec.specs.Plain.{ComesTo}
 use Rattle.member_spec.specs.Replies.{IsPlain, Replies}
 use Rattle.member_spec.proofs.PlainLaws.{plain_comes_to_result}

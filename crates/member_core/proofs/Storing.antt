@@ -1,7 +1,7 @@
 -- A post of another member that is kept: what is true of a member stays true.
 use Rattle.std.proofs.Common.{◌≡◌, ◌⊎◌, ℕ, zero, suc, ◌+◌, ◌*◌, ◌^◌, ◌<◌, ◌≤◌, Bool, true, false, List, [], ◌∷◌, length, Option, Some, None, ap, sym, ◌∙◌, refl, subst, arith, inl, inr}
-use Rattle.std.specs.Prelude.{◌++◌, IsSome, IsTrue, ◌==◌, filter_map, unwrap_or, if◌then◌else◌}
-use Rattle.std.specs.List.{range_with_len, slice_get, slice_set}
+use Rattle.std.specs.Prelude.{◌++◌, IsSome, ◌==◌, unwrap_or, if◌then◌else◌}
+use Rattle.std.specs.List.{slice_get, slice_set}
 use Rattle.std.specs.Option.{option_flatten, option_map, option_to_list}
 use Rattle.std.proofs.lemmas.Bool.{cases_Bool, cond-false, cond-true, ltb-true}
 use Rattle.std.proofs.lemmas.Option.{none-some}
@@ -18,11 +18,10 @@ use Rattle.phase_message.proofs.SlotLists.{slot_at-number}
 use Rattle.signed_post.specs.declared.post.TheConstants.{LONGEST_SIGNATURE}
 use Rattle.stage_log.specs.Log.{before, contents_of}
 use Rattle.stage_log.specs.Seen.{HasSeen}
-use Rattle.stage_log.specs.Table.{IsKept, IsLog, Log, filled, kept_in}
+use Rattle.stage_log.specs.Table.{Log, filled, kept_in}
 use Rattle.stage_log.proofs.Entries.{filled-is_log}
 use Rattle.stage_log.proofs.Fronts.{before-front, before-put, some_is}
 use Rattle.stage_log.proofs.Pasts.{some_of}
-use Rattle.go_nogo.specs.Stands.{StandsIn}
 use Rattle.shuffle_blame.specs.Asked.{past_of}
 use Rattle.honest_say.specs.declared.group_keys.GroupKeys.{GroupKeys}
 use Rattle.honest_say.specs.declared.opening.Slots.{Slots}
@@ -34,7 +33,7 @@ use Rattle.round_spec.specs.Slots.{items_opened, submit_stage}
 use Rattle.round_spec.specs.Verdict.{Convicts, Done as DoneVerdict, Goes, Verdict}
 use Rattle.round_spec.specs.Course.{is_open}
 use Rattle.round_spec.specs.Result.{Waiting, outcome_ended}
-use Rattle.closing_verdict.specs.Carried.{AreKeysOf, AreItemsOf, CarriesOpened, CarriesSlots, stage_found, stage_opened}
+use Rattle.closing_verdict.specs.Carried.{CarriesOpened, CarriesSlots, stage_found, stage_opened}
 use Rattle.member_spec.specs.declared.mood.Mood.{Mood}
 use Rattle.member_spec.specs.declared.mood.Mood.TheVariants.{Unasked, PutOff, Spoken, Mute}
 use Rattle.member_spec.specs.Actor.{Actor, descriptor_made}
@@ -49,7 +48,7 @@ use Rattle.member_core.specs.Membership.{Holdings, IsOpen, holdings_of, own_post
 use Rattle.member_core.specs.Needs.{HoldsNeeded, stages_behind, was_asked}
 use Rattle.member_core.specs.Shorts.{IsShortLog, most_in, own_limit}
 use Rattle.member_core.specs.Sound.{CarriesKeys, IsFormed, IsMachineOf, IsMoodOf, IsReady, IsSound}
-use Rattle.member_core.specs.Stands.{AnswersBy, GoesOn, HasEntered, IsAt, IsOwnOf, KeepsOwn, ShowsOutcome, StandsFor}
+use Rattle.member_core.specs.Stands.{AnswersBy, GoesOn, IsOwnOf, KeepsOwn, ShowsOutcome, StandsFor}
 use Rattle.member_core.proofs.Saying.{filled-stands, put-fills}
 
 -- ---- places

@@ -1,6 +1,6 @@
 -- What a member made of its own, at the stages behind the one where it made it.
-use Rattle.std.proofs.Common.{◌≡◌, ℕ, ◌+◌, ◌-◌, ◌<◌, ◌≤◌, true, false, List, Option, Some, None, ap, sym, ◌∙◌, refl, subst, arith, rules}
-use Rattle.std.specs.Prelude.{IsSome, IsTrue, nat_lt}
+use Rattle.std.proofs.Common.{◌≡◌, ℕ, ◌<◌, ◌≤◌, true, false, List, Option, ap, sym, ◌∙◌, refl, subst, arith, rules}
+use Rattle.std.specs.Prelude.{IsSome, nat_lt}
 use Rattle.phase_message.specs.declared.post.Post.{Post}
 use Rattle.phase_message.specs.Shape.{Shape}
 use Rattle.stage_log.specs.Log.{before, contents_of}
@@ -12,13 +12,12 @@ use Rattle.bulk_descriptor.specs.Descriptor.{descriptor_text, made_descriptor, o
 use Rattle.accusation.specs.Item.{item_row}
 use Rattle.shuffle_blame.specs.Asked.{past_of}
 use Rattle.shuffle_blame.specs.Replay.{outer_place}
-use Rattle.round_spec.specs.Slots.{bulk_place, final_stage, inner_place, items_opened, keys_said, pad_stage, slots_of_past, submit_stage}
+use Rattle.round_spec.specs.Slots.{bulk_place, inner_place, items_opened, keys_said, slots_of_past, submit_stage}
 use Rattle.round_spec.specs.Say.{Configuration, own_description, own_item, own_layer_seeds, own_pad_seeds, own_submission, shape_in}
 use Rattle.honest_say.specs.Pasts.{posts_before}
 use Rattle.honest_say.specs.Stays.{AreReached}
 use Rattle.honest_say.proofs.Staying.{items_stay, keys_stay, slots_stay}
 use Rattle.member_spec.specs.declared.mood.Mood.{Mood}
-use Rattle.member_spec.specs.declared.mood.Mood.TheVariants.{Unasked}
 use Rattle.member_spec.specs.Actor.{Actor, descriptor_made}
 use Rattle.member_spec.specs.Replies.{Replies}
 use Rattle.member_core.specs.declared.machine.Machine.{Machine}

@@ -1,6 +1,6 @@
 -- What a member holds behind a stage, by what the stage came to.
 use Rattle.std.proofs.Common.{◌≡◌, ℕ, ◌+◌, ◌<◌, ◌≤◌, Bool, true, false, List, ◌++◌, Option, Some, None, Vec, Global, ap, sym, ◌∙◌, refl, subst, arith, inl, inr}
-use Rattle.std.specs.Prelude.{IsSome, is_some, nat_lt, option_and_then, ◌&&◌, if◌then◌else◌}
+use Rattle.std.specs.Prelude.{IsSome, is_some, nat_lt, option_and_then, ◌&&◌}
 use Rattle.std.specs.List.{list_any}
 use Rattle.std.specs.Option.{option_map}
 use Rattle.std.proofs.lemmas.Bool.{cases_Bool, cases_eq, cond-false, cond-true, ltb-true}
@@ -18,19 +18,17 @@ use Rattle.stage_log.specs.Table.{Log, is_complete, posts_in}
 use Rattle.stage_log.proofs.Fronts.{some_is}
 use Rattle.stage_log.proofs.Pasts.{some_of}
 use Rattle.shuffle_blame.specs.Asked.{past_of}
-use Rattle.bulk_descriptor.specs.declared.slot_state.SlotState.{SlotState}
-use Rattle.round_spec.specs.Course.{closing_of, is_open, stand_behind}
+use Rattle.round_spec.specs.Course.{closing_of, stand_behind}
 use Rattle.round_spec.specs.Say.{Configuration, shape_in}
-use Rattle.round_spec.specs.Slots.{final_stage, pad_stage, slots_of_past}
-use Rattle.round_spec.specs.Verdict.{Verdict, Goes, Done, Convicts, is_bad, is_closing, verdict_of}
+use Rattle.round_spec.specs.Slots.{slots_of_past}
+use Rattle.round_spec.specs.Verdict.{Verdict, Goes, Done, is_bad, is_closing, verdict_of}
 use Rattle.honest_say.specs.declared.group_keys.GroupKeys.{GroupKeys}
 use Rattle.honest_say.specs.declared.opening.Slots.{Slots}
 use Rattle.honest_say.specs.Stays.{AreReached}
 use Rattle.honest_say.proofs.Staying.{slots_stay}
-use Rattle.closing_verdict.specs.declared.convicting.Conviction.{Conviction}
 use Rattle.closing_verdict.specs.declared.judging.Judged.{Judged}
 use Rattle.closing_verdict.specs.declared.judging.Judged.TheVariants.{Goes as JudgedGoes, Opens, Finds, Agreed, Convicts as JudgedConvicts}
-use Rattle.closing_verdict.specs.Carried.{AreItemsOf, AreSlotsOf, CarriesOpened, CarriesSlots, stage_found, stage_opened}
+use Rattle.closing_verdict.specs.Carried.{AreSlotsOf, CarriesOpened, CarriesSlots, stage_found}
 use Rattle.closing_verdict.specs.Convicting.{TellsConviction}
 use Rattle.closing_verdict.specs.Judgement.{TellsVerdict, stage_closed, verdict_in}
 use Rattle.member_spec.specs.Actor.{Actor, actor_behind_stage, actor_behind_step}
@@ -39,9 +37,9 @@ use Rattle.member_spec.specs.Replies.{Replies}
 use Rattle.member_core.specs.declared.ending.Ending.{Ending}
 use Rattle.member_core.specs.declared.ending.Ending.TheVariants.{Open, Done as EndingDone, Blamed, Stopped}
 use Rattle.member_core.specs.declared.machine.Machine.{Machine}
-use Rattle.member_core.specs.Concluding.{HasSlotsFor, is_filled, machine_behind, machine_by, machine_done, machine_ended, machine_with_slots}
+use Rattle.member_core.specs.Concluding.{HasSlotsFor, is_filled, machine_behind, machine_by, machine_done}
 use Rattle.member_core.specs.Membership.{IsOpen, IsRunning, completed_of, holdings_of}
-use Rattle.member_core.specs.Needs.{AreSecretsOf, HoldsNeeded, is_going, no_secrets}
+use Rattle.member_core.specs.Needs.{HoldsNeeded, is_going, no_secrets}
 use Rattle.member_core.specs.Sound.{CarriesKeys, IsFormed, IsReady, IsSound}
 use Rattle.member_core.specs.Stands.{HasEntered, IsAt, ShowsOutcome, StandsFor}
 use Rattle.member_core.proofs.Belonging.{past-is, reaches, seat-of, shape-is}
@@ -127,9 +125,9 @@ steps-open m keys seen opened slots can carried goes = record {
   runs = open-runs m.ending can.going;
   handed = refl;
   stands = stands-step m (machine_past m keys seen m.secrets opened slots m.ending) keys seen m.ending can
-    (λ c a posts entered at next verdict. subst (λ (e : Ending). ShowsOutcome e (outcome_of c (actor_behind_stage c a (stand_behind c a.stand posts))))
-    (open-is m.ending can.going) (shows-goes c a posts (verdict ∙ goes)))
-    (stands-past m keys seen m.secrets opened slots m.ending can.formed can.ready can.there (λ c are. are));
+      (λ c a posts entered at next verdict. subst (λ (e : Ending). ShowsOutcome e (outcome_of c (actor_behind_stage c a (stand_behind c a.stand posts))))
+      (open-is m.ending can.going) (shows-goes c a posts (verdict ∙ goes)))
+      (stands-past m keys seen m.secrets opened slots m.ending can.formed can.ready can.there (λ c are. are));
 }
 
 -- what is carried stays, unless this is the stage behind which it begins
@@ -176,7 +174,7 @@ steps-ended m keys seen slots ending can ended shut running shows = record {
   runs = running;
   handed = refl;
   stands = stands-step m (machine_past m keys seen no_secrets m.opened slots ending) keys seen ending can shows
-    (stands-past m keys seen no_secrets m.opened slots ending can.formed can.ready can.there (λ c are. no-secrets-of c));
+      (stands-past m keys seen no_secrets m.opened slots ending can.formed can.ready can.there (λ c are. no-secrets-of c));
 }
 
 -- the states of slots that were found are those of the past
@@ -291,15 +289,18 @@ full-there m formed ready filled =
 -- with other keys
 pub formed-keys : (m : Machine) (keys : Option GroupKeys) → IsFormed m → IsFormed (record m { keys = keys })
 formed-keys m keys formed = record {
-  entered = (formed.entered.0, record {
-    roster = formed.entered.1.roster;
-    seat = formed.entered.1.seat;
-    message = formed.entered.1.message;
-    secrets = formed.entered.1.secrets;
-    hidden = formed.entered.1.hidden;
-    hidden_short = formed.entered.1.hidden_short;
-    pad = formed.entered.1.pad;
-  });
+  entered = (
+    formed.entered.0,
+    record {
+      roster = formed.entered.1.roster;
+      seat = formed.entered.1.seat;
+      message = formed.entered.1.message;
+      secrets = formed.entered.1.secrets;
+      hidden = formed.entered.1.hidden;
+      hidden_short = formed.entered.1.hidden_short;
+      pad = formed.entered.1.pad;
+    },
+  );
   message = formed.message;
   log = formed.log;
   shape = formed.shape;

@@ -1,5 +1,5 @@
 -- What becomes of what a member holds where a stage is passed or the round ends.
-use Rattle.std.specs.Prelude.{◌≡◌, ℕ, ◌+◌, Bool, false, ◌&&◌, nat_lt, Option, Some, None, IsSome, if◌then◌else◌}
+use Rattle.std.specs.Prelude.{◌+◌, Bool, false, ◌&&◌, nat_lt, Option, Some, None, IsSome, if◌then◌else◌}
 use Rattle.std.specs.List.{list_any}
 use Rattle.phase_message.specs.Slots.{stage_count}
 use Rattle.phase_message.specs.Stages.{is_slot, shape_of}

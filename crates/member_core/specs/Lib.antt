@@ -6,5 +6,4 @@ pub mod Concluding
 pub mod Stands
 pub mod Found
 pub mod Promises
-pub mod Limits
 pub mod Asking

@@ -1,5 +1,5 @@
 -- What a member of a plain conduct promises of its round, in the words of the laws of rounds.
-use Rattle.std.specs.Prelude.{◌≡◌, ℕ, ◌<◌, ◌≤◌, List, Option, Some, length}
+use Rattle.std.specs.Prelude.{◌≡◌, ℕ, ◌<◌, ◌≤◌, List, Some, length}
 use Rattle.wire_core.specs.Bytes.{IsBytes}
 use Rattle.lms_tree.specs.Secret.{own_public}
 use Rattle.group_roster.specs.Roster.{key_of}

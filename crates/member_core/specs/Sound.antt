@@ -21,7 +21,7 @@ use Rattle.member_spec.specs.declared.mood.Mood.{Mood}
 use Rattle.member_spec.specs.declared.mood.Mood.TheVariants.{Unasked, PutOff, Spoken, Mute}
 use Rattle.member_spec.specs.Replies.{HasSlot}
 use Rattle.member_core.specs.declared.machine.Machine.{Machine}
-use Rattle.member_core.specs.Membership.{Holdings, IsOpen, holdings_of, posts_made}
+use Rattle.member_core.specs.Membership.{IsOpen, holdings_of, posts_made}
 use Rattle.member_core.specs.Needs.{AreSecretsOf, HoldsNeeded}
 use Rattle.member_core.specs.Shorts.{IsShortLog, own_limit}
 

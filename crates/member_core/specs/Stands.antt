@@ -1,5 +1,5 @@
 -- When a member stands for what it entered the round with and for the deliveries that it took.
-use Rattle.std.specs.Prelude.{◌≡◌, ℕ, ◌+◌, List, Bool, true, false, All, Option, Some, None, IsTrue, length}
+use Rattle.std.specs.Prelude.{◌≡◌, ℕ, ◌+◌, List, Bool, true, false, All, Some, IsTrue, length}
 use Rattle.wire_core.specs.Bytes.{IsBytes}
 use Rattle.lms_tree.specs.States.{RunState}
 use Rattle.group_roster.specs.Given.{roster_of}

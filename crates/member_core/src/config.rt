@@ -1,9 +1,11 @@
 //! What a member enters a round with.
 
-ghost use Rattle.std.specs.Prelude.{◌<◌, ◌^◌};
+ghost use Rattle.std.specs.Prelude.{◌<◌, ◌≤◌, ◌+◌, ◌^◌};
+ghost use Rattle.lms_tree.specs.Secret.{leaves};
 ghost use Rattle.wire_core.specs.Bytes.{IsBytes};
 
 use group_roster::Roster;
+use lms_tree::LeafRun;
 use wire_core::List;
 
 /// What a member enters a round with, beside the leaves that it signs with.
@@ -19,11 +21,19 @@ pub struct Config {
     pub message: List<u8>,
 }
 
-// What the types of a round and of a message say.
-pub(crate) fn have_bounds(config: &Config)
+// What the types of a round, of a message and of leaves say.
+pub(crate) fn have_bounds(config: &Config, run: &LeafRun)
     ensures round { config.now.round < 2 ^ 64 }
     ensures message { IsBytes config.now.message }
+    ensures leaves { run.now.first + run.now.left ≤ leaves run.now.parts }
 {
     let _round = config.round;
-    let _message = config.message.items();
+    are_bytes(config.message.items());
+    let _next = run.next();
+}
+
+fn are_bytes(bytes: &[u8])
+    ensures { IsBytes bytes.now }
+{
+    let _first = bytes.first();
 }

@@ -4,12 +4,14 @@
 
 mod config;
 mod ending;
+mod entering;
 mod machine;
 mod member;
 mod own;
 mod rows;
 mod secrets;
 mod speaking;
+mod submissions;
 mod taking;
 mod turning;
 

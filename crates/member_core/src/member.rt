@@ -109,7 +109,9 @@ impl<C: Conduct> Member<C> {
         }
     }
 
-    /// How the round stands. A plain conduct shows the result of the deliveries.
+    /// How the round stands. A plain conduct shows the result of the deliveries: it waits for exactly the members that are
+    /// missed; or, where its key is the roster's, the slots hold the message of each honest member, or the evidence
+    /// convicts a member without an honest run. The last two unless a signature was forged or two strings have one hash.
     pub fn state(&self) -> State
         ensures exact { result ≡ state_by self.now.holds self.now.holds.ending }
         ensures stands { (start : Replies) (c : Configuration) (delivered : List (List ℕ)) → Stands C.replies start c delivered self.now →
@@ -127,7 +129,9 @@ impl<C: Conduct> Member<C> {
         self.machine.state()
     }
 
-    /// The slots of the list, exactly where the round is done.
+    /// The slots of the list, exactly where the round is done. Of a plain conduct they hold the message of each honest
+    /// member of the round, at distinct places, and are those of each other one that is done; unless a signature was forged
+    /// or two strings have one hash.
     pub fn slots(&self) -> Option<&Vec<SlotState>>
         ensures exact { option_map (λ slots. slots.now.items) result ≡ slots_held self.now.holds.ending }
         ensures stands { (start : Replies) (c : Configuration) (delivered : List (List ℕ)) → Stands C.replies start c delivered self.now →
@@ -142,7 +146,9 @@ impl<C: Conduct> Member<C> {
         self.machine.slots()
     }
 
-    /// The transcript, as it is written, exactly where the member blames somebody.
+    /// The transcript, as it is written, exactly where the member blames somebody; it has fewer than 134,217,728 bytes. Of
+    /// a plain conduct whose key is the roster's it convicts the member that the state names, which has no honest run in
+    /// the round unless a signature was forged or two strings have one hash.
     pub fn evidence(&self) -> Option<&Vec<u8>>
         ensures exact { option_map (λ bytes. bytes.now.items) result ≡ evidence_held self.now.holds.ending }
         ensures stands { (start : Replies) (c : Configuration) (delivered : List (List ℕ)) → Stands C.replies start c delivered self.now →

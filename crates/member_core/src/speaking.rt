@@ -1,9 +1,10 @@
 //! Asking the conduct, and posting what it says.
 
-ghost use Rattle.std.specs.Prelude.{◌≡◌, ◌<◌, ◌≤◌, ◌^◌, IfOk, IsTrue, Some, is_ok, length};
+ghost use Rattle.std.specs.Prelude.{◌≡◌, ◌+◌, ◌<◌, ◌≤◌, ◌^◌, IfOk, IsTrue, Some, is_ok, length};
 ghost use Rattle.wire_core.specs.Bytes.{IsBytes};
+ghost use Rattle.phase_message.specs.declared.post.TheConstants.{LEAST_CONTENT};
 ghost use Rattle.phase_message.specs.declared.stage.StageKind.{StageKind as Kind};
-ghost use Rattle.phase_message.specs.Grammar.{IsBody, content_text};
+ghost use Rattle.phase_message.specs.Grammar.{IsBody, body_text, content_text};
 ghost use Rattle.phase_message.specs.Offence.{content_read};
 ghost use Rattle.phase_message.specs.Stages.{is_slot, kind_of_stage, shape_of};
 ghost use Rattle.stage_log.specs.Log.{view_of};
@@ -13,7 +14,7 @@ ghost use Rattle.honest_say.specs.Seats.{header_at};
 ghost use Rattle.member_spec.specs.declared.conduct.Speech.TheVariants.{Say as Says};
 ghost use Rattle.member_spec.specs.declared.mood.Mood.TheVariants.{Mute, Spoken};
 ghost use Rattle.member_spec.specs.Actor.{Actor, actor_behind_answer, actor_behind_question, content_to_say};
-ghost use Rattle.member_spec.specs.Replies.{KeepsSlot, Replies};
+ghost use Rattle.member_spec.specs.Replies.{HasSlot, KeepsSlot, Replies};
 ghost use Rattle.member_core.specs.Asking.{IsDue, IsPlainKind, IsSpeakable, IsToBeAsked, StandsAsked, asked_at, content_here};
 ghost use Rattle.member_core.specs.Membership.{IsOpen, holdings_of};
 ghost use Rattle.member_core.specs.Needs.{HoldsNeeded, no_secrets};
@@ -89,7 +90,8 @@ impl Machine {
         ensures handed { IfOk result (λ _. self.new.handed ≡ self.old.handed) }
         ensures stands { IfOk result (λ _. (start : Replies) (c : Configuration) (a : Actor) →
             StandsAsked (C.replies conduct.old) start c a (holdings_of self.old) →
-            StandsFor (C.replies conduct.new) start c (actor_behind_question start c a bytes.items) (holdings_of self.new)) }
+            StandsFor (C.replies conduct.new) start c (actor_behind_question start c a bytes.items)
+            (holdings_of self.new)) }
     {
         match conduct.content(alloc, self.stage, bytes, &self.log)? {
             Speech::Say(bytes) => self.say(alloc, bytes),
@@ -107,7 +109,8 @@ impl Machine {
     // The header of what it says at the stage that is being filled.
     fn header_here(&self) -> Header
         requires { IsReady self.now }
-        ensures { result ≡ header_at self.now.seat self.now.stage (view_of self.now.log.shape (past_of self.now.log self.now.stage) self.now.stage) }
+        ensures { result ≡ header_at self.now.seat self.now.stage
+            (view_of self.now.log.shape (past_of self.now.log self.now.stage) self.now.stage) }
     {
         let view = self.seen.view();
         self.seat.header(self.stage, &view)
@@ -119,13 +122,16 @@ impl Machine {
         requires ready { IsReady self.now }
         requires speaks { IsTrue (is_slot self.now.log.shape self.now.stage self.now.seat.number) }
         requires fits { IsBody self.now.log.shape self.now.stage body }
-        ensures { IfOk result (λ bytes. bytes.items ≡ content_text (content_here self.now body)) }
+        ensures spelled { IfOk result (λ bytes. bytes.items ≡ content_text (content_here self.now body)) }
+        ensures slot { IfOk result (λ bytes. HasSlot (slot_here self.now) bytes.items) }
+        ensures long { IfOk result (λ bytes. length bytes.items ≡ LEAST_CONTENT + length (body_text body)) }
     {
         let header = self.header_here();
         encode(alloc, self.seat.shape, &Content { header, body })
     }
 
     // The body that the rules give it to say at a stage of a kind that changes nothing else.
+    #[tactic(none)]
     fn row_due(&self, alloc: Global, kind: StageKind) -> Mem<Body>
         requires formed { IsFormed self.now }
         requires ready { IsReady self.now }
@@ -162,12 +168,14 @@ impl Machine {
             StandsFor (C.replies conduct.old) start c a (holdings_of self.old) →
             StandsAsked (C.replies conduct.new) start c a (holdings_of self.new)) }
     {
-        match stage_kind(self.seat.shape, self.stage) {
-            Some(StageKind::Submit { shuffle: 1 }) => self.first_submission_due(alloc, conduct),
-            Some(StageKind::Submit { .. }) => self.second_submission_due(alloc),
-            Some(StageKind::Final { shuffle }) => self.end_due(alloc, shuffle),
-            Some(kind) => self.row_due(alloc, kind),
-            None => unreachable!(),
+        let Some(kind) = stage_kind(self.seat.shape, self.stage) else {
+            unreachable!()
+        };
+        match kind {
+            StageKind::Submit { shuffle: 1 } => self.first_submission_due(alloc, conduct),
+            StageKind::Submit { .. } => self.second_submission_due(alloc),
+            StageKind::Final { shuffle } => self.end_due(alloc, shuffle),
+            _ => self.row_due(alloc, kind),
         }
     }
 
@@ -184,7 +192,8 @@ impl Machine {
         ensures handed { IfOk result (λ _. self.new.handed ≡ self.old.handed) }
         ensures stands { IfOk result (λ _. (start : Replies) (c : Configuration) (a : Actor) →
             StandsFor (C.replies conduct.old) start c a (holdings_of self.old) →
-            StandsFor (C.replies conduct.new) start c (actor_behind_question start c a (content_to_say start c a.stand)) (holdings_of self.new)) }
+            StandsFor (C.replies conduct.new) start c (actor_behind_question start c a (content_to_say start c a.stand))
+            (holdings_of self.new)) }
     {
         let body = self.body_due(alloc, conduct)?;
         let bytes = self.content_of(alloc, body)?;

@@ -1,123 +1,35 @@
 //! Going on from stage to stage.
 
-ghost use Rattle.std.specs.Prelude.{◌≡◌, IfOk, length};
+ghost use Rattle.std.specs.Prelude.{◌≡◌};
 ghost use Rattle.std.specs.List.{list_any};
-ghost use Rattle.group_roster.specs.Given.{roster_of};
-ghost use Rattle.group_roster.specs.Roster.{shape_of_roster};
-ghost use Rattle.stage_log.specs.Table.{empty_log};
-ghost use Rattle.round_spec.specs.Say.{Configuration, shape_in};
 ghost use Rattle.round_spec.specs.Verdict.{is_bad};
-ghost use Rattle.member_core.specs.Needs.{AreAll, AreSecretsOf};
 
-use crate::config::Config;
 use crate::ending::Ending;
 use crate::machine::Machine;
-use crate::own::Own;
-use crate::secrets::Secrets;
 use bulk_descriptor::SlotState;
 use closing_verdict::{Closing, Judged};
-use honest_say::{GroupKeys, Seat, Slots};
-use lms_tree::LeafRun;
+use honest_say::{GroupKeys, Slots};
 use member_spec::{Conduct, Mood};
 use phase_message::{StageKind, is_slot, stage_kind};
-use stage_log::{Seen, StageLog};
 use std::alloc::Global;
 use wire_core::{List, Mem};
 
 impl Machine {
-    ghost use Rattle.std.specs.Prelude.{◌≡◌, ◌≤◌, ◌<◌, ◌+◌, ℕ, IfOk, IsSome, None, Some, option_map, true, length};
-    ghost use Rattle.phase_message.specs.Slots.{stage_count};
+    ghost use Rattle.std.specs.Prelude.{◌≡◌, ◌<◌, ◌+◌, IfOk, IsSome, None, Some, option_map, true};
     ghost use Rattle.phase_message.specs.Stages.{shape_of};
-    ghost use Rattle.bulk_descriptor.specs.declared.making.TheConstants.{MESSAGE_LIMIT};
-    ghost use Rattle.group_roster.specs.Given.{roster_of};
-    ghost use Rattle.group_roster.specs.Roster.{shape_of_roster};
     ghost use Rattle.stage_log.specs.Log.{before};
     ghost use Rattle.stage_log.specs.Seen.{HasSeen};
-    ghost use Rattle.stage_log.specs.Table.{empty_log};
     ghost use Rattle.go_nogo.specs.Stands.{StandAll};
     ghost use Rattle.shuffle_blame.specs.Asked.{past_of};
-    ghost use Rattle.round_spec.specs.Say.{Configuration, shape_in};
+    ghost use Rattle.round_spec.specs.Say.{Configuration};
     ghost use Rattle.round_spec.specs.Verdict.{is_closing};
     ghost use Rattle.closing_verdict.specs.Judgement.{TellsVerdict};
-    ghost use Rattle.member_spec.specs.Actor.{Actor, actor_behind_step, actor_behind_steps, first_actor};
+    ghost use Rattle.member_spec.specs.Actor.{Actor, actor_behind_step, actor_behind_steps};
     ghost use Rattle.member_spec.specs.Replies.{Replies};
     ghost use Rattle.member_core.specs.Concluding.{HasSlotsFor, is_due_by, is_filled, machine_behind, machine_by, machine_done, machine_with_slots};
     ghost use Rattle.member_core.specs.Membership.{IsOpen, IsRunning, completed_of, holdings_of};
-    ghost use Rattle.member_core.specs.Needs.{AreAll, AreSecretsOf, HoldsNeeded};
     ghost use Rattle.member_core.specs.Sound.{CarriesKeys, IsFormed, IsReady, IsSound};
-    ghost use Rattle.member_core.specs.Stands.{StandsFor, configuration_of};
-
-    // Enters a round, before anything was said. Out of memory the leaves are retired.
-    pub(crate) fn enter(alloc: Global, config: Config, leaves: LeafRun) -> Mem<Machine>
-        requires first { 1 ≤ config.number }
-        requires last { config.number ≤ length config.roster.keys }
-        requires short { length config.message ≤ MESSAGE_LIMIT }
-        requires leaves { 12 ≤ leaves.left }
-        ensures sound { IfOk result IsSound }
-        ensures open { IfOk result (λ machine. IsOpen machine.ending) }
-        ensures handed { IfOk result (λ machine. machine.handed ≡ 0) }
-        ensures stands { IfOk result (λ machine. (now : Replies) → StandsFor now now (configuration_of config leaves)
-            (first_actor (configuration_of config leaves)) (holdings_of machine)) }
-    {
-        match log_and_secrets(alloc, &config) {
-            Ok((log, secrets)) => Ok(Machine::of(alloc, config, leaves, log, secrets)),
-            Err(error) => {
-                leaves.retire();
-                Err(error)
-            }
-        }
-    }
-
-    // At the first stage.
-    fn of(
-        alloc: Global,
-        config: Config,
-        leaves: LeafRun,
-        log: StageLog,
-        secrets: Secrets,
-    ) -> Machine
-        requires first { 1 ≤ config.number }
-        requires last { config.number ≤ length config.roster.keys }
-        requires short { length config.message ≤ MESSAGE_LIMIT }
-        requires leaves { 12 ≤ leaves.left }
-        requires log { log ≡ empty_log (shape_of_roster (roster_of config.roster)) }
-        requires secrets { (c : Configuration) → c.fresh ≡ config.fresh → c.round ≡ config.round →
-            (shape_in c).members ≡ length config.roster.keys → AreSecretsOf c secrets }
-        requires all { AreAll secrets }
-        ensures sound { IsSound result }
-        ensures open { IsOpen result.ending }
-        ensures handed { result.handed ≡ 0 }
-        ensures stands { (now : Replies) → StandsFor now now (configuration_of config leaves)
-            (first_actor (configuration_of config leaves)) (holdings_of result) }
-    {
-        let Config {
-            roster,
-            number,
-            round,
-            fresh: _,
-            message,
-        } = config;
-        let seat = Seat::new(&roster, round, number);
-        let seen = Seen::new(seat.shape);
-        Machine {
-            roster,
-            seat,
-            message,
-            leaves,
-            log,
-            seen,
-            stage: 0,
-            mood: Mood::Unasked,
-            stray: None,
-            handed: 0,
-            secrets,
-            own: Own::new(alloc),
-            keys: None,
-            opened: None,
-            slots: None,
-            ending: Ending::Open,
-        }
-    }
+    ghost use Rattle.member_core.specs.Stands.{StandsFor};
 
     // Whether the stage that is being filled is one of the round, and all its posts are there.
     fn is_stage_complete(&self) -> bool
@@ -311,19 +223,6 @@ impl Machine {
         }
         Ok(())
     }
-}
-
-// A log that holds nothing, and all secrets of the round.
-fn log_and_secrets(alloc: Global, config: &Config) -> Mem<(StageLog, Secrets)>
-    ensures log { IfOk result (λ made. made.0 ≡ empty_log (shape_of_roster (roster_of config.now.roster))) }
-    ensures secrets { IfOk result (λ made. (c : Configuration) → c.fresh ≡ config.now.fresh → c.round ≡ config.now.round →
-        (shape_in c).members ≡ length config.now.roster.keys → AreSecretsOf c made.1) }
-    ensures all { IfOk result (λ made. AreAll made.1) }
-{
-    let shape = config.roster.shape();
-    let log = StageLog::new(alloc, shape)?;
-    let secrets = Secrets::derive(alloc, &config.fresh, config.round, shape.members)?;
-    Ok((log, secrets))
 }
 
 // Whether a pad that was sent for a slot does not fit.

@@ -1,4 +1,4 @@
-use Rattle.std.proofs.Common.{arith, sym, ◌∙◌}
+use Rattle.std.proofs.Common.{arith}
 use Rattle.member_core.proofs.speaking.is_of_grammar.Goals as goal
 
 pub returns-clause-bytes : goal.returns-clause-bytes

@@ -1,9 +1,9 @@
-use Rattle.std.proofs.Common.{◌≡◌, ℕ, ◌+◌, ◌≤◌, All, List, length, ap, sym, ◌∙◌, subst, arith}
+use Rattle.std.proofs.Common.{◌≡◌, ℕ, ◌≤◌, All, List, length, ap, sym, ◌∙◌, subst, arith}
 use Rattle.phase_message.specs.Shape.{Shape}
 use Rattle.shuffle_blame.specs.Asked.{past_of}
 use Rattle.bulk_descriptor.specs.declared.slot_state.SlotState.{SlotState}
 use Rattle.accusation.specs.Item.{NamesWithin}
-use Rattle.round_spec.specs.Slots.{items_opened, slots_of_past, submit_stage}
+use Rattle.round_spec.specs.Slots.{items_opened, slots_of_past}
 use Rattle.round_spec.specs.Say.{own_item, shape_in}
 use Rattle.honest_say.specs.Own.{AreBulkSecrets}
 use Rattle.honest_say.specs.Stays.{AreReached}

@@ -1,17 +1,15 @@
 -- The conduct is asked, and what it answers is done.
-use Rattle.std.proofs.Common.{◌≡◌, ◌≤◌, List, ℕ, length, arith, ap, sym, ◌∙◌, refl, subst}
+use Rattle.std.proofs.Common.{◌≡◌, sym, ◌∙◌, refl, subst}
 use Rattle.phase_message.specs.Stages.{kind_of_stage}
-use Rattle.round_spec.specs.Say.{Configuration}
-use Rattle.member_spec.specs.declared.conduct.Speech.{Speech}
 use Rattle.member_spec.specs.declared.conduct.Speech.TheVariants.{Say as Says, Wait as Waits, Silent as IsSilent}
-use Rattle.member_spec.specs.Actor.{Actor, actor_behind_question}
-use Rattle.member_spec.specs.Replies.{HasAtMost, HasSlot, IsForSlot, Replies}
+use Rattle.member_spec.specs.Actor.{actor_behind_question}
+use Rattle.member_spec.specs.Replies.{HasAtMost, IsForSlot, Replies}
 use Rattle.member_core.specs.declared.machine.Machine.{Machine}
 use Rattle.member_core.specs.Membership.{IsOpen, holdings_of}
 use Rattle.member_core.specs.Shorts.{own_limit}
 use Rattle.member_core.specs.Sound.{IsFormed, IsSound, slot_here}
 use Rattle.member_core.specs.Stands.{StandsFor}
-use Rattle.member_core.proofs.Answered.{muted-formed, muted-sound, muted-stands, put_off, put_off-formed, put_off-sound, put_off-stands, question-so}
+use Rattle.member_core.proofs.Answered.{muted-formed, muted-sound, muted-stands, put_off, put_off-sound, put_off-stands, question-so}
 use Rattle.member_core.proofs.Posting.{muted}
 use Rattle.member_core.proofs.Saying.{if-err, ok-so}
 use Rattle.member_core.proofs.Storing.{own-least}
@@ -56,7 +54,8 @@ pub say-requires-clause-short : goal.say-requires-clause-short
 say-requires-clause-short g c =
     let m = c.args.self.now in
     let most = own_limit (kind_of_stage m.log.shape m.stage) in
-    subst (HasAtMost most) c.in-Say.is (c.in_ok-bytes.ensures.short most (own-least (kind_of_stage m.log.shape m.stage)) c.requires.question.short)
+    subst (HasAtMost most) c.in-Say.is (c.in_ok-bytes.ensures.short most (own-least (kind_of_stage m.log.shape m.stage))
+    c.requires.question.short)
 
 pub returns-in-Say-clause-formed : goal.returns-in-Say-clause-formed
 returns-in-Say-clause-formed g c = c.say.ensures.formed
@@ -73,7 +72,8 @@ returns-in-Say-clause-handed g c = c.say.ensures.handed
 pub returns-in-Say-clause-stands : goal.returns-in-Say-clause-stands
 returns-in-Say-clause-stands g c = ok-so c.say.result _ _ (λ _ so start conf a s.
     let now = g.C.Conduct.replies c.args.conduct.now in
-    subst (λ (x : Replies). StandsFor x start conf (actor_behind_question start conf a c.args.bytes.items) (holdings_of c.say.new.self)) (sym c.in_ok-bytes.ensures.same)
+    subst (λ (x : Replies). StandsFor x start conf (actor_behind_question start conf a c.args.bytes.items) (holdings_of c.say.new.self))
+    (sym c.in_ok-bytes.ensures.same)
     (question-so now start conf a c.args.self.now c.say.new.self c.args.bytes.items (Says c.in-Say.bytes) c.requires.formed c.requires.ready
     (sym c.in-Say.is ∙ c.in_ok-bytes.ensures.told) s (so now start conf a s))) c.say.ensures.stands
 
@@ -85,7 +85,8 @@ sound-off g c =
     let most = own_limit (kind_of_stage m.log.shape m.stage) in
     put_off-sound m c.in-Wait.bytes c.requires.formed c.requires.ready c.requires.speakable
     (subst (IsForSlot m.log.shape (slot_here m)) c.in-Wait.is (c.in_ok-bytes.ensures.slot (slot_here m) c.requires.question.slot))
-    (subst (HasAtMost most) c.in-Wait.is (c.in_ok-bytes.ensures.short most (own-least (kind_of_stage m.log.shape m.stage)) c.requires.question.short))
+    (subst (HasAtMost most) c.in-Wait.is (c.in_ok-bytes.ensures.short most (own-least (kind_of_stage m.log.shape m.stage))
+    c.requires.question.short))
 
 pub returns-in-Wait-clause-formed : goal.returns-in-Wait-clause-formed
 returns-in-Wait-clause-formed g c = (sound-off g c).formed
@@ -103,9 +104,12 @@ pub returns-in-Wait-clause-stands : goal.returns-in-Wait-clause-stands
 returns-in-Wait-clause-stands g c start conf a s =
     let m = c.args.self.now in
     let now = g.C.Conduct.replies c.args.conduct.now in
-    subst (λ (x : Replies). StandsFor x start conf (actor_behind_question start conf a c.args.bytes.items) (holdings_of (put_off m c.in-Wait.bytes))) (sym c.in_ok-bytes.ensures.same)
-    (question-so now start conf a m (put_off m c.in-Wait.bytes) c.args.bytes.items (Waits c.in-Wait.bytes) c.requires.formed c.requires.ready
-    (sym c.in-Wait.is ∙ c.in_ok-bytes.ensures.told) s (put_off-stands now start conf a m c.in-Wait.bytes c.requires.speakable.to_be_asked s))
+    subst (λ (x : Replies). StandsFor x start conf (actor_behind_question start conf a c.args.bytes.items)
+    (holdings_of (put_off m c.in-Wait.bytes))) (sym c.in_ok-bytes.ensures.same)
+    (question-so now start conf a m (put_off m c.in-Wait.bytes) c.args.bytes.items (Waits c.in-Wait.bytes) c.requires.formed
+    c.requires.ready
+    (sym c.in-Wait.is ∙ c.in_ok-bytes.ensures.told) s (put_off-stands now start conf a m c.in-Wait.bytes c.requires.speakable.to_be_asked
+    s))
 
 -- ---- nothing is said
 
@@ -129,7 +133,9 @@ pub returns-in-Silent-clause-stands : goal.returns-in-Silent-clause-stands
 returns-in-Silent-clause-stands g c start conf a s =
     let m = c.args.self.now in
     let now = g.C.Conduct.replies c.args.conduct.now in
-    so-muted (λ (n : Machine). StandsFor (g.C.Conduct.replies c.content.new.self) start conf (actor_behind_question start conf a c.args.bytes.items) (holdings_of n)) g c
-    (subst (λ (x : Replies). StandsFor x start conf (actor_behind_question start conf a c.args.bytes.items) (holdings_of (muted m))) (sym c.in_ok-bytes.ensures.same)
+    so-muted (λ (n : Machine). StandsFor (g.C.Conduct.replies c.content.new.self) start conf
+    (actor_behind_question start conf a c.args.bytes.items) (holdings_of n)) g c
+    (subst (λ (x : Replies). StandsFor x start conf (actor_behind_question start conf a c.args.bytes.items) (holdings_of (muted m)))
+    (sym c.in_ok-bytes.ensures.same)
     (question-so now start conf a m (muted m) c.args.bytes.items IsSilent c.requires.formed c.requires.ready
     (sym c.in-Silent.is ∙ c.in_ok-bytes.ensures.told) s (muted-stands now start conf a m c.requires.speakable.to_be_asked s)))

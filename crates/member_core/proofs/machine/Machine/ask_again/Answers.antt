@@ -1,10 +1,6 @@
-use Rattle.std.proofs.Common.{◌≡◌, ℕ, List, ap, sym, ◌∙◌, refl, subst, rules}
-use Rattle.std.specs.Prelude.{IfOk}
-use Rattle.round_spec.specs.Say.{Configuration}
-use Rattle.member_spec.specs.declared.mood.Mood.{Mood}
-use Rattle.member_spec.specs.declared.mood.Mood.TheVariants.{Unasked, PutOff}
+use Rattle.std.proofs.Common.{◌≡◌, ℕ, List, ap, sym, ◌∙◌, refl, subst}
+use Rattle.member_spec.specs.declared.mood.Mood.TheVariants.{Unasked}
 use Rattle.member_spec.specs.Actor.{Actor, actor_behind_question, actor_behind_repeat}
-use Rattle.member_spec.specs.Replies.{Replies}
 use Rattle.member_core.specs.Membership.{holdings_of}
 use Rattle.member_core.specs.Sound.{IsPutOff}
 use Rattle.member_core.specs.Stands.{StandsFor}
@@ -69,6 +65,6 @@ returns-clause-stands g c =
     let bytes : List ℕ = c.in-PutOff.bytes in
     let copied : c.in_ok-bytes.bytes.items ≡ bytes = c.in_ok-bytes.ensures.items ∙ c.deref.ensures.value ∙ c.items.ensures in
     if-ok _ _ c.ask.result (λ x stands start c' a s.
-      subst (λ (b : Actor). StandsFor (g.C.Conduct.replies c.ask.new.conduct) start c' b (holdings_of c.ask.new.self))
-      (ap (actor_behind_question start c' a) copied ∙ sym (ap (actor_behind_repeat start c' a) (sym s.at.mood ∙ c.in-PutOff.is)))
-      (stands start c' a (stands-again (g.C.Conduct.replies c.args.conduct.now) start c' a (holdings_of c.args.self.now) bytes c.in-PutOff.is s))) c.ask.ensures.stands
+    subst (λ (b : Actor). StandsFor (g.C.Conduct.replies c.ask.new.conduct) start c' b (holdings_of c.ask.new.self))
+    (ap (actor_behind_question start c' a) copied ∙ sym (ap (actor_behind_repeat start c' a) (sym s.at.mood ∙ c.in-PutOff.is)))
+    (stands start c' a (stands-again (g.C.Conduct.replies c.args.conduct.now) start c' a (holdings_of c.args.self.now) bytes c.in-PutOff.is s))) c.ask.ensures.stands

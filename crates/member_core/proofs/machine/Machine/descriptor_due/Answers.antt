@@ -1,14 +1,13 @@
-use Rattle.std.proofs.Common.{◌≡◌, ℕ, ◌+◌, ◌*◌, ◌≤◌, List, length, refl, ap, sym, ◌∙◌, arith}
+use Rattle.std.proofs.Common.{◌≡◌, ℕ, ◌+◌, ◌*◌, List, length, refl, ap, ◌∙◌, arith}
 use Rattle.std.proofs.lemmas.Result.{err_from_is_err_and}
 use Rattle.phase_message.specs.Shape.{Shape}
-use Rattle.bulk_descriptor.specs.Descriptor.{Description, descriptor_text}
+use Rattle.bulk_descriptor.specs.Descriptor.{descriptor_text}
 use Rattle.bulk_descriptor.specs.Fields.{description_of}
 use Rattle.shuffle_blame.specs.Asked.{past_of}
 use Rattle.round_spec.specs.Slots.{bulk_place, keys_said}
-use Rattle.round_spec.specs.Say.{own_description, shape_in}
+use Rattle.round_spec.specs.Say.{own_description}
 use Rattle.honest_say.specs.Own.{AreBulkSecrets}
 use Rattle.closing_verdict.specs.Carried.{AreKeysOf}
-use Rattle.member_core.specs.Sound.{IsMachineOf}
 use Rattle.member_core.proofs.Belonging.{carried-keys, carries-first, held-is, keys-here, not-missing, seeds-count, shape-is}
 use Rattle.member_core.proofs.Describing.{own-hashes, text-long}
 use Rattle.member_core.proofs.machine.Machine.descriptor_due.Goals as goal

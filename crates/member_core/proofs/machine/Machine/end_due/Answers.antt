@@ -1,7 +1,6 @@
-use Rattle.std.proofs.Common.{◌≡◌, ℕ, ◌+◌, ◌-◌, ◌≤◌, refl, ap, sym, ◌∙◌, subst, arith}
+use Rattle.std.proofs.Common.{◌≡◌, ℕ, ◌-◌, refl, sym, ◌∙◌, subst, arith}
 use Rattle.std.specs.Prelude.{IsSome}
 use Rattle.std.proofs.lemmas.Result.{IfOk-weaker}
-use Rattle.phase_message.specs.declared.content.Body.{Body}
 use Rattle.phase_message.specs.declared.stage.StageKind.TheVariants.{Final}
 use Rattle.stage_log.specs.Log.{before}
 use Rattle.go_nogo.specs.Rows.{final_row}
@@ -51,15 +50,18 @@ returns-clause-formed c =
     let entered = c.requires.formed.entered in
     let own : IsMachineOf entered.0 m = entered.1 in
     subst (λ (s : Secrets). IsFormed (record m { secrets = s })) (sym c.take_shuffle.ensures.left)
-    (formed-with m (without_shuffle m.secrets c.args.shuffle) m.own c.requires.formed (entered.0, record {
-      roster = own.roster;
-      seat = own.seat;
-      message = own.message;
-      secrets = secrets-shuffle entered.0 m.secrets c.args.shuffle own.secrets;
-      hidden = own.hidden;
-      hidden_short = own.hidden_short;
-      pad = own.pad;
-    }))
+    (formed-with m (without_shuffle m.secrets c.args.shuffle) m.own c.requires.formed (
+      entered.0,
+      record {
+        roster = own.roster;
+        seat = own.seat;
+        message = own.message;
+        secrets = secrets-shuffle entered.0 m.secrets c.args.shuffle own.secrets;
+        hidden = own.hidden;
+        hidden_short = own.hidden_short;
+        pad = own.pad;
+      },
+    ))
 
 pub returns-clause-same : goal.returns-clause-same
 returns-clause-same c = refl

@@ -1,6 +1,5 @@
-use Rattle.std.proofs.Common.{ℕ, ◌≤◌, arith, ap, sym, ◌∙◌}
+use Rattle.std.proofs.Common.{arith}
 use Rattle.phase_message.specs.declared.stage.StageKind.TheVariants.{Keys}
-use Rattle.round_spec.specs.Slots.{final_stage, submit_stage}
 use Rattle.honest_say.specs.Own.{AreBulkSecrets, AreShuffleSecrets}
 use Rattle.member_core.proofs.Belonging.{held-is, holds-bulk, holds-first, holds-second, not-missing}
 use Rattle.member_core.proofs.Due.{keys-due}

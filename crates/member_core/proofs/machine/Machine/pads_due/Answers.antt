@@ -1,8 +1,8 @@
-use Rattle.std.proofs.Common.{◌≡◌, ℕ, ◌+◌, ◌≤◌, List, length, ap, sym, ◌∙◌, subst, arith}
+use Rattle.std.proofs.Common.{◌≡◌, ℕ, List, ap, ◌∙◌, arith}
 use Rattle.std.proofs.lemmas.Result.{IfOk-weaker}
 use Rattle.phase_message.specs.declared.stage.StageKind.TheVariants.{Pad}
 use Rattle.shuffle_blame.specs.Asked.{past_of}
-use Rattle.round_spec.specs.Slots.{items_opened, submit_stage}
+use Rattle.round_spec.specs.Slots.{items_opened}
 use Rattle.round_spec.specs.Say.{pads_row}
 use Rattle.honest_say.specs.Own.{AreBulkSecrets}
 use Rattle.closing_verdict.specs.Carried.{AreItemsOf, stage_opened}

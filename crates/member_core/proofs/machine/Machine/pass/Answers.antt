@@ -1,9 +1,8 @@
-use Rattle.std.proofs.Common.{◌≡◌, ℕ, ◌+◌, ◌<◌, true, ap, sym, ◌∙◌, subst, arith}
+use Rattle.std.proofs.Common.{◌+◌, sym, subst}
 use Rattle.std.specs.Prelude.{IsSome}
 use Rattle.stage_log.specs.Log.{before}
 use Rattle.member_core.specs.declared.machine.Machine.{Machine}
 use Rattle.member_core.specs.Concluding.{HasSlotsFor}
-use Rattle.member_core.specs.Membership.{IsOpen}
 use Rattle.member_core.specs.Sound.{IsFormed}
 use Rattle.member_core.proofs.Verdicts.{formed-keys, full-there, has-slots, passes-all, steps-sound}
 use Rattle.member_core.proofs.machine.Machine.pass.Goals as goal

@@ -1,8 +1,7 @@
-use Rattle.std.proofs.Common.{◌≡◌, ℕ, zero, suc, ◌+◌, ◌-◌, ◌*◌, ◌<◌, ◌≤◌, List, Option, Some, None, refl, ap, sym, ◌∙◌, arith}
+use Rattle.std.proofs.Common.{◌≡◌, ℕ, zero, suc, ◌+◌, ◌<◌, ◌≤◌, List, Option, Some, None, refl, ap, sym, ◌∙◌, arith}
 use Rattle.std.specs.List.{slice_get}
 use Rattle.std.specs.Option.{option_copied, option_to_list}
 use Rattle.phase_message.specs.declared.post.Post.{Post}
-use Rattle.phase_message.specs.Shape.{Shape}
 use Rattle.phase_message.specs.Slots.{stage_count}
 use Rattle.member_core.proofs.MadePosts.{first-from, from-first, from-last, later-from, posts_from, same-from}
 use Rattle.member_core.proofs.machine.Machine.post_made.Goals.{in-Some+else-left-eq0, in_default}

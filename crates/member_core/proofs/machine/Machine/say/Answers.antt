@@ -1,5 +1,5 @@
 -- Bytes are signed with the next leaf; the post is kept in the own slot if they are a content of the grammar.
-use Rattle.std.proofs.Common.{◌≡◌, ◌≤◌, List, ℕ, length, true, arith, ap, sym, ◌∙◌, refl, subst}
+use Rattle.std.proofs.Common.{◌≡◌, List, ℕ, length, true, arith, ap, sym, ◌∙◌, refl, subst}
 use Rattle.std.specs.Prelude.{IsTrue, is_ok}
 use Rattle.wire_core.specs.Bytes.{IsBytes}
 use Rattle.lms_tree.specs.States.{RunState}
@@ -8,15 +8,11 @@ use Rattle.phase_message.specs.declared.stage.Slot.{Slot}
 use Rattle.phase_message.specs.Offence.{content_read}
 use Rattle.phase_message.specs.Stages.{is_slot, kind_of_stage}
 use Rattle.stage_log.specs.Table.{filled}
-use Rattle.round_spec.specs.Say.{Configuration}
 use Rattle.member_spec.specs.declared.conduct.Speech.TheVariants.{Say as Says}
 use Rattle.member_spec.specs.declared.mood.Mood.TheVariants.{Spoken}
-use Rattle.member_spec.specs.Actor.{Actor, actor_behind_answer}
-use Rattle.member_spec.specs.Replies.{Replies}
+use Rattle.member_spec.specs.Actor.{actor_behind_answer}
 use Rattle.member_core.specs.declared.machine.Machine.{Machine}
-use Rattle.member_core.specs.Asking.{StandsAsked}
 use Rattle.member_core.specs.Membership.{IsOpen, holdings_of}
-use Rattle.member_core.specs.Shorts.{own_limit}
 use Rattle.member_core.specs.Sound.{IsFormed, IsSound, slot_here}
 use Rattle.member_core.specs.Stands.{StandsFor}
 use Rattle.member_core.proofs.Posting.{IsOwnContent, IsSigned, leaf-left, limit-small, own-content, posted-so, posted-sound, posted-stands, put-here, signed-post, strayed-formed, strayed, strayed-so, strayed-sound, strayed-stands, told-reads}
@@ -62,15 +58,18 @@ is_of_grammar-is_content-requires c =
 pub put-requires-clause-slot : goal.put-requires-clause-slot
 put-requires-clause-slot c =
     let m = c.args.self.now in
-    subst (λ (slot : Slot). IsTrue (is_slot m.log.shape slot.stage slot.sender)) (sym c.own_slot-slot.ensures) c.requires.speakable.to_be_asked.speaks
+    subst (λ (slot : Slot). IsTrue (is_slot m.log.shape slot.stage slot.sender)) (sym c.own_slot-slot.ensures)
+    c.requires.speakable.to_be_asked.speaks
 
 pub put-requires-clause-content : goal.put-requires-clause-content
 put-requires-clause-content c =
     let m = c.args.self.now in
     let same = c.deref-2.ensures.value ∙ c.items-2.ensures in
     let are : IsBytes c.args.bytes = subst IsBytes same c.is_of_grammar-is_content.ensures.bytes in
-    let reads = told-reads m c.args.bytes c.deref-2.result.now c.is_of_grammar-is_content.result c.requires.formed same c.is_of_grammar-is_content.ensures.value in
-    (own-content m (record { content = c.args.bytes; signature = c.of.result }) are (reads ∙ c.if-is_content.true) c.requires.slot c.requires.short).kept
+    let reads = told-reads m c.args.bytes c.deref-2.result.now c.is_of_grammar-is_content.result c.requires.formed same
+    c.is_of_grammar-is_content.ensures.value in
+    (own-content m (record { content = c.args.bytes; signature = c.of.result }) are (reads ∙ c.if-is_content.true) c.requires.slot
+    c.requires.short).kept
 
 -- ---- a post that is kept
 
@@ -84,7 +83,8 @@ signed-kept c =
 
 reads-kept : (c : Joined-self) → is_ok (content_read c.args.self.now.log.shape c.args.bytes) ≡ true
 reads-kept c =
-    told-reads c.args.self.now c.args.bytes c.deref-2.result.now c.is_of_grammar-is_content.result c.requires.formed (c.deref-2.ensures.value ∙ c.items-2.ensures) c.is_of_grammar-is_content.ensures.value
+    told-reads c.args.self.now c.args.bytes c.deref-2.result.now c.is_of_grammar-is_content.result c.requires.formed
+    (c.deref-2.ensures.value ∙ c.items-2.ensures) c.is_of_grammar-is_content.ensures.value
     ∙ c.if-is_content.true
 
 content-kept : (c : Joined-self) → IsOwnContent c.args.self.now (post-kept c)
@@ -94,7 +94,8 @@ content-kept c =
 
 log-kept : (c : Joined-self) → c.put.new.self ≡ filled c.args.self.now.log (slot_here c.args.self.now) (post-kept c)
 log-kept c =
-    put-here c.args.self.now (post-kept c) c.own_slot-slot.result c.put.new.self c.requires.ready c.requires.speakable.to_be_asked c.own_slot-slot.ensures c.put.ensures.log
+    put-here c.args.self.now (post-kept c) c.own_slot-slot.result c.put.new.self c.requires.ready c.requires.speakable.to_be_asked
+    c.own_slot-slot.ensures c.put.ensures.log
 
 sound-kept : (c : Joined-self) → IsSound (record c.args.self.now { leaves = c.sign.new.self; log = c.put.new.self; mood = Spoken })
 sound-kept c =
@@ -117,7 +118,8 @@ pub returns-then-is_content-clause-stands : goal.returns-then-is_content-clause-
 returns-then-is_content-clause-stands c now start conf a s =
     posted-so (λ (n : Machine). StandsFor now start conf (actor_behind_answer conf a (Says c.args.bytes)) (holdings_of n))
     c.args.self.now (post-kept c) c.sign.new.self c.put.new.self c.in_ok-signature.ensures.spent (log-kept c)
-    (posted-stands now start conf a c.args.self.now (post-kept c) c.requires.formed c.requires.ready c.requires.speakable.to_be_asked (signed-kept c) (reads-kept c) s)
+    (posted-stands now start conf a c.args.self.now (post-kept c) c.requires.formed c.requires.ready c.requires.speakable.to_be_asked
+    (signed-kept c) (reads-kept c) s)
 
 -- ---- a post that is not kept
 
@@ -130,15 +132,18 @@ signed-strayed c =
     (c.deref.ensures.value ∙ c.items.ensures) c.of.ensures c.in_ok-signature.ensures.signed c.in_ok-signature.ensures.valid c.requires.short
 
 so-strayed : (P : Machine → Type 0) (c : After-fall_mute) → P (strayed c.args.self.now (post-strayed c)) → P c.fall_mute.new.self
-so-strayed P c so = strayed-so P c.args.self.now c.fall_mute.new.self (post-strayed c) c.sign.new.self c.in_ok-signature.ensures.spent c.fall_mute.ensures so
+so-strayed P c so = strayed-so P c.args.self.now c.fall_mute.new.self (post-strayed c) c.sign.new.self c.in_ok-signature.ensures.spent
+    c.fall_mute.ensures so
 
 pub returns-else-is_content-clause-formed : goal.returns-else-is_content-clause-formed
 returns-else-is_content-clause-formed c =
-    so-strayed IsFormed c (strayed-formed c.args.self.now (post-strayed c) c.requires.formed c.requires.ready c.requires.speakable.to_be_asked (signed-strayed c))
+    so-strayed IsFormed c (strayed-formed c.args.self.now (post-strayed c) c.requires.formed c.requires.ready
+    c.requires.speakable.to_be_asked (signed-strayed c))
 
 pub returns-else-is_content-clause-sound : goal.returns-else-is_content-clause-sound
 returns-else-is_content-clause-sound c =
-    so-strayed IsSound c (strayed-sound c.args.self.now (post-strayed c) c.requires.formed c.requires.ready c.requires.speakable.to_be_asked (signed-strayed c))
+    so-strayed IsSound c (strayed-sound c.args.self.now (post-strayed c) c.requires.formed c.requires.ready c.requires.speakable.to_be_asked
+    (signed-strayed c))
 
 pub returns-else-is_content-clause-going : goal.returns-else-is_content-clause-going
 returns-else-is_content-clause-going c = so-strayed (λ (n : Machine). IsOpen n.ending) c c.requires.speakable.to_be_asked.going
@@ -148,7 +153,9 @@ returns-else-is_content-clause-handed c = so-strayed (λ (n : Machine). n.handed
 
 pub returns-else-is_content-clause-stands : goal.returns-else-is_content-clause-stands
 returns-else-is_content-clause-stands c now start conf a s =
-    let outside = told-reads c.args.self.now c.args.bytes c.deref-2.result.now c.is_of_grammar-is_content.result c.requires.formed (c.deref-2.ensures.value ∙ c.items-2.ensures) c.is_of_grammar-is_content.ensures.value
-        ∙ c.if-is_content.false in
+    let outside = told-reads c.args.self.now c.args.bytes c.deref-2.result.now c.is_of_grammar-is_content.result c.requires.formed
+    (c.deref-2.ensures.value ∙ c.items-2.ensures) c.is_of_grammar-is_content.ensures.value
+    ∙ c.if-is_content.false in
     so-strayed (λ (n : Machine). StandsFor now start conf (actor_behind_answer conf a (Says c.args.bytes)) (holdings_of n)) c
-    (strayed-stands now start conf a c.args.self.now (post-strayed c) c.requires.formed c.requires.ready c.requires.speakable.to_be_asked (signed-strayed c) outside s)
+    (strayed-stands now start conf a c.args.self.now (post-strayed c) c.requires.formed c.requires.ready c.requires.speakable.to_be_asked
+    (signed-strayed c) outside s)

@@ -1,4 +1,4 @@
-use Rattle.std.proofs.Common.{◌≡◌, ℕ, List, ap, sym, ◌∙◌, refl, subst}
+use Rattle.std.proofs.Common.{ap, sym, ◌∙◌, subst}
 use Rattle.phase_message.specs.declared.post.Post.{Post}
 use Rattle.stage_log.specs.Table.{filled}
 use Rattle.round_spec.specs.Embedded.{slot_named}
@@ -10,7 +10,7 @@ use Rattle.member_core.specs.Sound.{IsFormed, IsSound}
 use Rattle.member_core.specs.Stands.{StandsFor}
 use Rattle.member_core.proofs.Answering.{answer-stored, open-runs}
 use Rattle.member_core.proofs.Results.{if-err}
-use Rattle.member_core.proofs.Storing.{sound-stays, stands-stays, with_post}
+use Rattle.member_core.proofs.Storing.{sound-stays, stands-stays}
 use Rattle.member_core.proofs.machine.Machine.store.Goals as goal
 
 pub keep-requires-clause-speaks : goal.keep-requires-clause-speaks

@@ -1,13 +1,11 @@
-use Rattle.std.proofs.Common.{◌≡◌, ℕ, ◌+◌, ◌≤◌, ap, sym, ◌∙◌, subst, arith, inl, inr}
+use Rattle.std.proofs.Common.{ℕ, ap, sym, ◌∙◌, subst, arith}
 use Rattle.std.specs.Prelude.{IsSome}
-use Rattle.std.proofs.lemmas.Bool.{cases_eq}
 use Rattle.std.proofs.lemmas.Result.{IfOk-weaker}
 use Rattle.phase_message.specs.declared.stage.StageKind.TheVariants.{Shuffle}
 use Rattle.shuffle_blame.specs.Asked.{past_of}
 use Rattle.stage_log.specs.Log.{before}
-use Rattle.round_spec.specs.Slots.{final_stage, submit_stage}
 use Rattle.round_spec.specs.Say.{turn_row}
-use Rattle.member_core.proofs.Belonging.{holds-shuffle, of-group, secrets-for}
+use Rattle.member_core.proofs.Belonging.{holds-shuffle, secrets-for}
 use Rattle.member_core.proofs.Due.{turn-due}
 use Rattle.member_core.proofs.StageKinds.{kind-place}
 use Rattle.member_core.proofs.machine.Machine.turn_due.Goals as goal

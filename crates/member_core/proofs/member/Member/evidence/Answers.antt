@@ -1,4 +1,4 @@
-use Rattle.std.proofs.Common.{◌≡◌, ap, sym, ◌∙◌}
+use Rattle.std.proofs.Common.{ap, ◌∙◌}
 use Rattle.member_core.specs.Membership.{Membership, evidence_held}
 use Rattle.member_core.proofs.Shown.{plain-evidence}
 use Rattle.round_spec.specs.Result.{result_of}

@@ -1,16 +1,13 @@
-use Rattle.std.proofs.Common.{◌≡◌, ℕ, ◌+◌, ◌≤◌, List, length, Option, Some, None, ap, sym, ◌∙◌, refl, subst, arith}
+use Rattle.std.proofs.Common.{◌≡◌, ℕ, ◌+◌, ◌≤◌, List, length, Some, None, ap, sym, ◌∙◌, refl, subst, arith}
 use Rattle.std.specs.Prelude.{option_map}
-use Rattle.std.specs.List.{slice_get}
 use Rattle.std.specs.Option.{option_copied}
-use Rattle.phase_message.specs.declared.post.Post.{Post}
 use Rattle.phase_message.specs.Post.{post_spelling}
-use Rattle.member_core.specs.Membership.{IsOutOfMemory, IsRunning, Membership, handed_next, holdings_of, posts_made}
+use Rattle.member_core.specs.Membership.{IsRunning, Membership, handed_next, posts_made}
 use Rattle.member_core.specs.Needs.{HoldsNeeded}
 use Rattle.member_core.specs.Promises.{IsPlainMember}
 use Rattle.member_core.specs.Sound.{IsSound}
 use Rattle.member_core.specs.Stands.{Stands}
 use Rattle.member_core.proofs.Handing.{handed-small, handed-sound, needed-handed, next-plain, next-said, next_made, runs-still, runs-unless, stands-handed, stopped-sound}
-use Rattle.member_core.proofs.Promised.{plain-goes-on}
 use Rattle.member_core.proofs.member.Member.next_post.Goals as goal
 
 pub returns-in_default-post_made : goal.returns-in_default-post_made
@@ -20,7 +17,8 @@ returns-in_default-post_made g c =
     let none : next_made m ≡ None = subst (λ (m : Membership D). next_made m ≡ None) c.self.view_is
     (sym c.post_made.ensures.post ∙ ap option_copied c.in_default-post_made.is) in
     let nothing : None ≡ option_map post_spelling (next_made m) = sym (ap (option_map post_spelling) none) in
-    let runs : IsRunning m.holds.ending = subst (λ (m : Membership D). IsRunning m.holds.ending) c.self.view_is (runs-unless c.self.inside.machine.ending c.in_default.not-Stopped) in
+    let runs : IsRunning m.holds.ending = subst (λ (m : Membership D). IsRunning m.holds.ending) c.self.view_is
+    (runs-unless c.self.inside.machine.ending c.in_default.not-Stopped) in
     record {
       post = nothing;
       plain = λ start c' delivered stands plain. next-plain g.C.Conduct.replies start c' delivered m None nothing stands plain;
@@ -55,12 +53,14 @@ returns-in-Ok g c =
     (sym c.post_made.ensures.post ∙ ap option_copied c.in-Some.is) in
     let bytes : Some c.in-Ok.bytes.items ≡ option_map post_spelling (next_made m) =
     ap (λ (x : List ℕ). Some x) c.in-Ok.ensures.text ∙ sym (ap (option_map post_spelling) there) in
-    let runs : IsRunning m.holds.ending = subst (λ (m : Membership D). IsRunning m.holds.ending) c.self.view_is (runs-unless c.self.inside.machine.ending c.in_default.not-Stopped) in
+    let runs : IsRunning m.holds.ending = subst (λ (m : Membership D). IsRunning m.holds.ending) c.self.view_is
+    (runs-unless c.self.inside.machine.ending c.in_default.not-Stopped) in
     let next = ap (λ (m : Membership D). handed_next m (Some c.in-Ok.bytes)) c.self.view_is in
     record {
       post = bytes;
       plain = λ start c' delivered stands plain. next-plain g.C.Conduct.replies start c' delivered m _ bytes stands plain;
-      stands = λ start c' delivered stands. subst (Stands g.C.Conduct.replies start c' delivered) (sym next) (stands-handed g.C.Conduct.replies start c' delivered m c.in-Ok.bytes stands);
+      stands = λ start c' delivered stands. subst (Stands g.C.Conduct.replies start c' delivered) (sym next)
+          (stands-handed g.C.Conduct.replies start c' delivered m c.in-Ok.bytes stands);
       plain_member = λ c' delivered is. subst (IsPlainMember g.C.Conduct.replies c' delivered) (sym next)
           (record { start = is.start; plain = is.plain; stands = stands-handed g.C.Conduct.replies is.start c' delivered m c.in-Ok.bytes is.stands });
       said = λ c' delivered is. next-said g.C.Conduct.replies c' delivered m _ bytes is;

@@ -1,4 +1,4 @@
-use Rattle.std.proofs.Common.{◌≡◌, ap, sym, ◌∙◌, subst}
+use Rattle.std.proofs.Common.{ap, sym, ◌∙◌, subst}
 use Rattle.member_core.specs.Membership.{Membership, state_by}
 use Rattle.member_core.proofs.Shown.{plain-state, state-shown}
 use Rattle.member_core.specs.Promises.{KeepsPromise, WaitsIfOpen}
