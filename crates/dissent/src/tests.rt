@@ -1,10 +1,17 @@
 //! Commands over files and sinks in memory, and the adapters over real files.
 
-use super::*;
+use crate::draw;
 use crate::evidence::first_other_line;
-use crash_disk::{Disk, DiskAnswer, DiskRead, MemoryDisk};
-use std::alloc::Global;
-use std::os::unix::fs::PermissionsExt;
+use crash_disk::{Disk, MemoryDisk};
+use host_disk::{HostDisk, Lock};
+use offline_commands::{
+    FileRead, FileWrite, Files, HostFiles, MemoryFiles, MemorySink, Sink, SinkAnswer, WriterSink,
+    run_offline,
+};
+use std::alloc::{AllocError, Global};
+use std::io;
+use std::random::RandomSource;
+use std::rt::Runtime;
 use std::test::Fail;
 use std::thread::Threads;
 
@@ -442,34 +449,6 @@ where
     )?;
     std::fs::remove_file(rt, REAL_NAME)?;
     Ok(made.is(0, key) && is_key_file(&read) && again.is(8, b"disk fault\n"))
-}
-
-#[test]
-fn a_real_file_is_a_disk(rt: HostRuntime) -> Result<(), Fail> {
-    let alloc = rt.alloc();
-    let name = String::from_str(alloc, "dissent-disk-test")?;
-    let _ = std::fs::remove_file(&rt, name.as_str());
-    let mut disk = HostDisk::new(&rt);
-    assert_eq!(rt; disk.sync(), DiskAnswer::Failed);
-    assert_eq!(rt; disk.choose(&name, true), DiskAnswer::Done);
-    let mode = std::fs::metadata(&rt, name.as_str())?.permissions().mode();
-    assert_eq!(rt; mode & 0o777, 0o600);
-    // A second opener can't choose the file while it is chosen.
-    let mut other = HostDisk::new(&rt);
-    assert_eq!(rt; other.choose(&name, false), DiskAnswer::Failed);
-    assert_eq!(rt; disk.write_at(0, b"a disk"), DiskAnswer::Done);
-    assert_eq!(rt; disk.write_at(2, b"DISK"), DiskAnswer::Done);
-    assert_eq!(rt; disk.sync(), DiskAnswer::Done);
-    let mut read = [0; 8];
-    assert_eq!(rt; disk.read_at(0, &mut read), DiskRead::Read { taken: 6 });
-    assert_eq!(rt; &read, b"a DISK\0\0");
-    assert_eq!(rt; disk.read_at(6, &mut read), DiskRead::Read { taken: 0 });
-    assert_eq!(rt; disk.choose(&name, true), DiskAnswer::Failed);
-    assert_eq!(rt; disk.read_at(0, &mut read), DiskRead::Failed);
-    assert_eq!(rt; disk.choose(&name, false), DiskAnswer::Done);
-    assert_eq!(rt; disk.read_at(2, &mut read), DiskRead::Read { taken: 4 });
-    std::fs::remove_file(&rt, name.as_str())?;
-    Ok(())
 }
 
 #[test]

@@ -1,5 +1,5 @@
 -- What is printed of a round of a whole group, and the transcript that is kept of it.
-use Rattle.std.specs.Prelude.{ℕ, zero, suc, ◌+◌, ◌-◌, ◌/◌, ◌%◌, ◌^◌, ◌==◌, ◌&&◌, List, [], ◌∷◌, ◌++◌, length, drop, Bool, true, false, not, Option, Some, None, is_some, find, unwrap_or, option_and_then, count_by, codes, decimal, if◌then◌else◌}
+use Rattle.std.specs.Prelude.{ℕ, ◌+◌, ◌-◌, ◌/◌, ◌%◌, ◌^◌, ◌==◌, ◌&&◌, List, [], ◌∷◌, ◌++◌, length, drop, Bool, true, false, not, Option, is_some, find, unwrap_or, option_and_then, count_by, codes, decimal, if◌then◌else◌}
 use Rattle.std.specs.List.{flat_map, range_with_len, sum_by}
 use Rattle.hex.specs.Hex.{encode_lower}
 use Rattle.bulk_descriptor.specs.declared.slot_state.SlotState.{SlotState}
@@ -21,7 +21,7 @@ abbrev pub is_set : ℕ → ℕ → Bool
 is_set bits member = bits / 2 ^ (member - 1) % 2 == 1
 
 -- a comma and the digit of a member whose bit is set
-abbrev pub listed : ℕ → ℕ → List ℕ
+unfoldable pub listed : ℕ → ℕ → List ℕ
 listed bits member = if is_set bits member then 44 ∷ (48 + member) ∷ [] else []
 
 -- those of the first members, rising
@@ -44,7 +44,7 @@ abbrev pub member_words : MemberEnd → List ℕ
 member_words member = if member.faulty then codes "faulty" else state_words member.state
 
 -- the line of a member
-abbrev pub member_line : MemberEnd → List ℕ
+unfoldable pub member_line : MemberEnd → List ℕ
 member_line member = line_of (codes "member " ∷ decimal member.number ∷ codes " " ∷ member_words member ∷ [])
 
 -- ---- slots
@@ -62,7 +62,7 @@ slot_words Mismatched = codes "mismatched"
 slot_words (Message bytes) = codes "message " ++ decimal (length bytes) ++ codes " " ++ message_digits bytes
 
 -- the line of a slot
-abbrev pub slot_line : ℕ → SlotState → List ℕ
+unfoldable pub slot_line : ℕ → SlotState → List ℕ
 slot_line number slot = line_of (codes "slot " ∷ decimal number ∷ codes " " ∷ slot_words slot ∷ [])
 
 -- the lines of slots, of which the first has this number
@@ -130,12 +130,12 @@ message_size (Message bytes) = length bytes
 message_size slot = 0
 
 -- the line of what honest members came to
-abbrev pub members_line : List MemberEnd → List ℕ
+unfoldable pub members_line : List MemberEnd → List ℕ
 members_line members = line_of (codes "members " ∷ decimal (length members) ∷ codes " done " ∷ decimal (honest_count is_done members)
     ∷ codes " open " ∷ decimal (honest_count is_open members) ∷ codes " blamed " ∷ decimal (honest_count is_blamed members) ∷ [])
 
 -- the line of the messages of slots
-abbrev pub messages_line : List SlotState → List ℕ
+unfoldable pub messages_line : List SlotState → List ℕ
 messages_line slots = line_of (codes "messages " ∷ decimal (count_by is_message slots) ∷ codes " bytes "
     ∷ decimal (sum_by message_size slots) ∷ [])
 

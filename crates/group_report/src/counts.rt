@@ -1,6 +1,6 @@
 //! How many members stand so, and how many messages there are.
 
-ghost use Rattle.std.specs.Prelude.{◌≡◌, ◌++◌, IfOk, OnOk};
+ghost use Rattle.std.specs.Prelude.{◌≡◌, ◌+◌, ◌++◌, IfOk, OnOk};
 ghost use Rattle.std.specs.List.{count_by, sum_by};
 ghost use Rattle.group_report.specs.Report.{honest_count, is_blamed, is_done, is_honest, is_message, is_open, members_line, message_size, messages_line};
 
@@ -11,6 +11,7 @@ use std::alloc::{AllocError, Global};
 use wire_core::{Mem, put_bytes};
 
 /// Puts the line of what honest members came to behind a text.
+#[tactic(auto, unfolding(crate::specs::Report::members_line))]
 pub(crate) fn put_members(alloc: Global, text: &mut Vec<u8>, members: &Vec<MemberEnd>) -> Mem<()>
     ensures { OnOk result (text.new.items ≡ text.old.items ++ members_line members.now.items) }
 {
@@ -25,7 +26,10 @@ pub(crate) fn put_members(alloc: Global, text: &mut Vec<u8>, members: &Vec<Membe
 fn done_count(members: &Vec<MemberEnd>) -> usize
     ensures { result ≡ honest_count is_done members.now.items }
 {
-    members.iter().filter(|member| is_honest_done(member)).count()
+    members
+        .iter()
+        .filter(|member| is_honest_done(member))
+        .count()
 }
 
 fn is_honest_done(member: &MemberEnd) -> bool
@@ -37,7 +41,10 @@ fn is_honest_done(member: &MemberEnd) -> bool
 fn open_count(members: &Vec<MemberEnd>) -> usize
     ensures { result ≡ honest_count is_open members.now.items }
 {
-    members.iter().filter(|member| is_honest_open(member)).count()
+    members
+        .iter()
+        .filter(|member| is_honest_open(member))
+        .count()
 }
 
 fn is_honest_open(member: &MemberEnd) -> bool
@@ -49,7 +56,10 @@ fn is_honest_open(member: &MemberEnd) -> bool
 fn blamed_count(members: &Vec<MemberEnd>) -> usize
     ensures { result ≡ honest_count is_blamed members.now.items }
 {
-    members.iter().filter(|member| is_honest_blamed(member)).count()
+    members
+        .iter()
+        .filter(|member| is_honest_blamed(member))
+        .count()
 }
 
 fn is_honest_blamed(member: &MemberEnd) -> bool
@@ -59,6 +69,7 @@ fn is_honest_blamed(member: &MemberEnd) -> bool
 }
 
 /// Puts the line of the messages of slots behind a text.
+#[tactic(auto, unfolding(crate::specs::Report::messages_line))]
 pub(crate) fn put_messages(alloc: Global, text: &mut Vec<u8>, slots: &Vec<SlotState>) -> Mem<()>
     ensures { OnOk result (text.new.items ≡ text.old.items ++ messages_line slots.now.items) }
 {
@@ -85,13 +96,20 @@ fn message_bytes(slots: &Vec<SlotState>) -> Mem<u64>
     ensures { IfOk result (λ size. size ≡ sum_by message_size slots.now.items) }
 {
     let mut size = 0u64;
-    for slot in slots {
-        let Some(more) = size.checked_add(message_size(slot)) else {
-            return Err(AllocError);
-        };
-        size = more;
+    for place in 0..slots.len() {
+        let sum = added(size, message_size(&slots[place]))?;
+        size = sum;
     }
     Ok(size)
+}
+
+fn added(size: u64, more: u64) -> Mem<u64>
+    ensures { IfOk result (λ sum. sum ≡ size + more) }
+{
+    match size.checked_add(more) {
+        Some(sum) => Ok(sum),
+        None => Err(AllocError),
+    }
 }
 
 fn message_size(slot: &SlotState) -> u64

@@ -8,9 +8,11 @@ use group_spec::MemberEnd;
 use hex::encode;
 use member_spec::State;
 use std::alloc::Global;
+use transcript_form::Claim;
 use wire_core::{List, Mem, put_bytes};
 
 /// Puts the line of a member behind a text.
+#[tactic(auto, unfolding(crate::specs::Report::member_line))]
 pub(crate) fn put_member(alloc: Global, text: &mut Vec<u8>, member: &MemberEnd) -> Mem<()>
     ensures { OnOk result (text.new.items ≡ text.old.items ++ member_line member.now) }
 {
@@ -40,11 +42,19 @@ fn state_words(alloc: Global, state: State) -> Mem<Vec<u8>>
     match state {
         State::Waiting { stage, missing } => waiting_words(alloc, stage, missing),
         State::Done => Ok(format!(in alloc; "done")?.into_bytes()),
-        State::Blamed { accused, claim } => {
-            Ok(format!(in alloc; "blames {accused} {claim}")?.into_bytes())
-        }
+        State::Blamed { accused, claim } => blamed_words(alloc, accused, claim),
         State::Stopped => Ok(format!(in alloc; "stopped")?.into_bytes()),
     }
+}
+
+// Whom it blames, and of what.
+fn blamed_words(alloc: Global, accused: u8, claim: Claim) -> Mem<Vec<u8>>
+    ensures { IfOk result (λ text. text.items ≡ state_words (State.Blamed accused claim)) }
+{
+    let mut text = format!(in alloc; "blames {accused} ")?.into_bytes();
+    let name = format!(in alloc; "{claim}")?;
+    put_bytes(&mut text, name.as_bytes())?;
+    Ok(text)
 }
 
 // At which stage it waits, and for whom.
@@ -80,6 +90,7 @@ fn listed_with_commas(alloc: Global, bits: u32) -> Mem<Vec<u8>>
 }
 
 // Puts a comma and the digit of a member behind a text, if its bit is set.
+#[tactic(auto, unfolding(crate::specs::Report::listed))]
 fn put_listed(text: &mut Vec<u8>, bits: u32, member: u8) -> Mem<()>
     requires least { 1 ≤ member }
     requires most { member ≤ 8 }
@@ -101,28 +112,43 @@ fn is_set(bits: u32, member: u8) -> bool
 }
 
 /// Puts the line of a slot behind a text.
-pub(crate) fn put_slot(alloc: Global, text: &mut Vec<u8>, number: usize, slot: &SlotState) -> Mem<()>
+#[tactic(auto, unfolding(crate::specs::Report::slot_line))]
+pub(crate) fn put_slot(
+    alloc: Global,
+    text: &mut Vec<u8>,
+    number: usize,
+    slot: &SlotState,
+) -> Mem<()>
     ensures { OnOk result (text.new.items ≡ text.old.items ++ slot_line number slot.now) }
 {
+    let front = format!(in alloc; "slot {number} ")?;
+    put_bytes(text, front.as_bytes())?;
     let words = slot_words(alloc, slot)?;
-    let line = format!(in alloc; "slot {number} {words}\n")?;
-    put_bytes(text, line.as_bytes())
+    put_bytes(text, &words)?;
+    put_bytes(text, &[b'\n'])
 }
 
 // What a slot comes to.
-fn slot_words(alloc: Global, slot: &SlotState) -> Mem<String>
-    ensures { IfOk result (λ text. string_bytes text ≡ slot_words slot.now) }
+fn slot_words(alloc: Global, slot: &SlotState) -> Mem<Vec<u8>>
+    ensures { IfOk result (λ text. text.items ≡ slot_words slot.now) }
 {
     match slot {
-        SlotState::Empty => format!(in alloc; "empty"),
-        SlotState::Bad { first } => format!(in alloc; "bad {first}"),
-        SlotState::Mismatched => format!(in alloc; "mismatched"),
-        SlotState::Message(bytes) => {
-            let size = bytes.items().len();
-            let digits = message_digits(alloc, bytes)?;
-            format!(in alloc; "message {size} {digits}")
-        }
+        SlotState::Empty => Ok(format!(in alloc; "empty")?.into_bytes()),
+        SlotState::Bad { first } => Ok(format!(in alloc; "bad {first}")?.into_bytes()),
+        SlotState::Mismatched => Ok(format!(in alloc; "mismatched")?.into_bytes()),
+        SlotState::Message(bytes) => message_words(alloc, bytes),
     }
+}
+
+// How many bytes a message has, and which.
+fn message_words(alloc: Global, bytes: &List<u8>) -> Mem<Vec<u8>>
+    ensures { IfOk result (λ text. text.items ≡ slot_words (SlotState.Message bytes.now)) }
+{
+    let size = bytes.items().len();
+    let mut text = format!(in alloc; "message {size} ")?.into_bytes();
+    let digits = message_digits(alloc, bytes)?;
+    put_bytes(&mut text, digits.as_bytes())?;
+    Ok(text)
 }
 
 // The bytes of a message in digits.

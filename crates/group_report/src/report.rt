@@ -2,7 +2,7 @@
 
 ghost use Rattle.std.specs.Prelude.{◌≡◌, ◌++◌, IfOk, OnOk, find};
 ghost use Rattle.std.specs.List.{flat_map};
-ghost use Rattle.std.specs.Option.{option_map};
+ghost use Rattle.std.specs.Option.{option_copied, option_map};
 ghost use Rattle.group_report.specs.Report.{evidence_seen, group_output, has_evidence, has_slots, make_output, member_line, slot_lines, slots_found};
 
 use crate::counts::{put_members, put_messages};
@@ -18,14 +18,15 @@ pub fn group_text(alloc: Global, members: &Vec<MemberEnd>) -> Mem<Vec<u8>>
 {
     let mut text = Vec::new(alloc);
     put_all_members(alloc, &mut text, members)?;
-    if let Some(slots) = slots_found(members) {
-        put_slots(alloc, &mut text, slots)?;
+    match slots_found(members) {
+        Some(slots) => put_slots(alloc, &mut text, slots)?,
+        None => put_slots(alloc, &mut text, &Vec::new(alloc))?,
     }
     Ok(text)
 }
 
-/// What `make` prints of members: how many honest ones are done, open or blame somebody, and how many messages the least
-/// honest one that is done has, with how many bytes.
+/// What `make` prints of members: how many honest ones are done, open or blame somebody, and how many messages the
+/// least honest one that is done has, with how many bytes.
 pub fn make_text(alloc: Global, members: &Vec<MemberEnd>) -> Mem<Vec<u8>>
     ensures { IfOk result (λ text. text.items ≡ make_output members.now.items) }
 {
@@ -42,10 +43,17 @@ pub fn make_text(alloc: Global, members: &Vec<MemberEnd>) -> Mem<Vec<u8>>
 pub fn evidence(members: &Vec<MemberEnd>) -> Option<&Vec<u8>>
     ensures { option_map (λ bytes. bytes.now.items) result ≡ evidence_seen members.now.items }
 {
-    match members.iter().find(|member| has_evidence(member)) {
+    match blaming(members) {
         Some(member) => evidence_of(member),
         None => None,
     }
+}
+
+// The least honest member that blames somebody.
+fn blaming(members: &Vec<MemberEnd>) -> Option<&MemberEnd>
+    ensures { option_copied result ≡ find has_evidence members.now.items }
+{
+    members.iter().find(|member| has_evidence(member))
 }
 
 fn evidence_of(member: &MemberEnd) -> Option<&Vec<u8>>
@@ -67,10 +75,17 @@ fn has_evidence(member: &MemberEnd) -> bool
 fn slots_found(members: &Vec<MemberEnd>) -> Option<&Vec<SlotState>>
     ensures { option_map (λ slots. slots.now.items) result ≡ slots_found members.now.items }
 {
-    match members.iter().find(|member| has_slots(member)) {
+    match done(members) {
         Some(member) => slots_of(member),
         None => None,
     }
+}
+
+// The least honest member that is done.
+fn done(members: &Vec<MemberEnd>) -> Option<&MemberEnd>
+    ensures { option_copied result ≡ find has_slots members.now.items }
+{
+    members.iter().find(|member| has_slots(member))
 }
 
 fn slots_of(member: &MemberEnd) -> Option<&Vec<SlotState>>
