@@ -5,4 +5,4 @@ mod ending;
 mod laws;
 
 pub use ending::MemberEnd;
-pub use laws::{honest_conducts, queue_empties};
+pub use laws::{deliveries_posted, honest_conducts, queue_empties};
