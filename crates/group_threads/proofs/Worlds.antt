@@ -93,10 +93,10 @@ one-turned turned was out seats players first before after place old new have is
       count = length-set players place new ∙ have.count;
       before = λ k player s lt here was_there. elim (same-or-not k place) [
         | inl e ↦ (
-          let same : new ≡ player = set-same players place new player (subst (λ (i : ℕ). slice_get (slice_set players place new) i ≡ Some player) e here) in
-          let other : seat ≡ s = some-same (sym there.1 ∙ subst (λ (i : ℕ). slice_get seats i ≡ Some s) e was_there) in
-          subst (λ (p : Player). Plays p (turned s) (posts_of (turned s))) same
-          (subst (λ (x : Seat). Plays new (turned x) (posts_of (turned x))) other (plays seat now)))
+            let same : new ≡ player = set-same players place new player (subst (λ (i : ℕ). slice_get (slice_set players place new) i ≡ Some player) e here) in
+            let other : seat ≡ s = some-same (sym there.1 ∙ subst (λ (i : ℕ). slice_get seats i ≡ Some s) e was_there) in
+            subst (λ (p : Player). Plays p (turned s) (posts_of (turned s))) same
+            (subst (λ (x : Seat). Plays new (turned x) (posts_of (turned x))) other (plays seat now)))
         | inr ne ↦ have.before k player s (omega (arith, lt, ne)) (sym (set-other players place k new ne) ∙ here) was_there
       ];
       after = λ k player s le here was_there.
@@ -116,15 +116,16 @@ pub all-turned : (turned : Seat → Seat) (was : Seat → ℕ) (out : Seat → L
     HaveTurned turned was out seats players first after place → length players ≤ place →
     (after ≡ first ++ map written_entry (flat_map out seats)) × ArePlayed players (map turned seats) posts_of
 all-turned turned was out seats players first after place have le =
-    let whole : take place seats ≡ seats = take-all seats place (omega (arith, le, have.count)) in
-    (have.posted ∙ ap (λ (l : List Seat). first ++ map written_entry (flat_map out l)) whole,
-    record {
-      count = have.count ∙ sym (mapped-length turned seats);
-      each = λ k player s here there.
-          let from = get-mapped turned seats k s there in
-          let lt = slice_get_within players k player here in
-          subst (λ (x : Seat). Plays player x (posts_of x)) from.2 (have.before k player from.0 (omega (arith, lt, le)) here from.1);
-    })
+    let whole : take place seats ≡ seats = take-all seats place (omega (arith, le, have.count)) in (
+      have.posted ∙ ap (λ (l : List Seat). first ++ map written_entry (flat_map out l)) whole,
+      record {
+        count = have.count ∙ sym (mapped-length turned seats);
+        each = λ k player s here there.
+            let from = get-mapped turned seats k s there in
+            let lt = slice_get_within players k player here in
+            subst (λ (x : Seat). Plays player x (posts_of x)) from.2 (have.before k player from.0 (omega (arith, lt, le)) here from.1);
+      },
+    )
   where
     take-all : {A : Type 0} (xs : List A) (n : ℕ) → length xs ≤ n → take n xs ≡ xs
     take-all [] zero le = refl

@@ -164,12 +164,7 @@ fn append(queue: &mut Vec<Entry>, posted: Vec<Entry>) -> Mem<()>
 }
 
 // An entry is delivered to its recipients, and all members are asked for their posts.
-fn serve_all(
-    alloc: Global,
-    players: &mut Vec<Player>,
-    entry: &Entry,
-    repeat: u8,
-) -> Mem<Vec<Entry>>
+fn serve_all(alloc: Global, players: &mut Vec<Player>, entry: &Entry, repeat: u8) -> Mem<Vec<Entry>>
     ensures { IfOk result (λ posted. (carriage : Carriage) (onway : OnItsWay) (seats : Items Seat) → carriage.repeat ≡ repeat →
         entry.now ≡ written_entry onway → ArePlayed players.old.items seats posts_of →
         (posted.items ≡ map written_entry (flat_map (entries_behind carriage onway) seats))

@@ -129,7 +129,13 @@ impl Player {
     }
 
     /// Gives the member an entry so many times, if it is for it, and puts the entries of what it posts then behind these.
-    pub fn serve(&mut self, alloc: Global, entry: &Entry, times: u8, entries: &mut Vec<Entry>) -> Mem<()>
+    pub fn serve(
+        &mut self,
+        alloc: Global,
+        entry: &Entry,
+        times: u8,
+        entries: &mut Vec<Entry>,
+    ) -> Mem<()>
         ensures entries { IfOk result (λ _. (carriage : Carriage) (onway : OnItsWay) (seat : Seat) → carriage.repeat ≡ times →
             entry.now ≡ written_entry onway → Plays self.old seat (posts_of seat) →
             entries.new.items ≡ entries.old.items ++ map written_entry (entries_behind carriage onway seat)) }

@@ -81,8 +81,8 @@ fn secret_of(alloc: Global, script: &Script, member: u8) -> Mem<LmsSecret>
 
 fn roster_of(alloc: Global, keys: &Vec<LmsSecret>) -> Mem<Roster>
     ensures { IfOk result (λ roster. roster_of roster ≡ record {
-        version = 1;
-        keys = map (λ key. key_bytes (own_public key.parts)) keys.now.items;
+      version = 1;
+      keys = map (λ key. key_bytes (own_public key.parts)) keys.now.items;
     }) }
 {
     let public = public_of(alloc, keys)?;

@@ -12,14 +12,15 @@ pub loop-player-preserved : goal.loop-player-preserved
 loop-player-preserved c = λ seats are.
     let last = played-last c.loop-player.yielded c.in-Some.player seats posts_of are in
     let before = c.loop-player.invariant last.front last.others in
-    let end = c.in_ok-end.ensures last.seat (posts_of last.seat) last.plays in
-    (c.in_ok-push.ensures.items ∙ ap (λ (l : List MemberEnd). l ++ c.in_ok-end.end ∷ []) before.0
-    ∙ ap (λ (e : MemberEnd). map shown-end last.front ++ e ∷ []) end.0 ∙ sym (mapped-last shown-end last.front last.seat)
-    ∙ ap (λ (l : List Seat). map shown-end l) (sym last.all),
-    c.in_ok-push-2.ensures.items ∙ ap (λ (l : List (List (List ℕ))). l ++ c.in_ok-end.delivered ∷ []) before.1
-    ∙ ap (λ (e : List (List ℕ)). map (λ (s : Seat). s.delivered) last.front ++ e ∷ []) end.1
-    ∙ sym (mapped-last (λ (s : Seat). s.delivered) last.front last.seat)
-    ∙ ap (λ (l : List Seat). map (λ (s : Seat). s.delivered) l) (sym last.all))
+    let end = c.in_ok-end.ensures last.seat (posts_of last.seat) last.plays in (
+      c.in_ok-push.ensures.items ∙ ap (λ (l : List MemberEnd). l ++ c.in_ok-end.end ∷ []) before.0
+          ∙ ap (λ (e : MemberEnd). map shown-end last.front ++ e ∷ []) end.0 ∙ sym (mapped-last shown-end last.front last.seat)
+          ∙ ap (λ (l : List Seat). map shown-end l) (sym last.all),
+      c.in_ok-push-2.ensures.items ∙ ap (λ (l : List (List (List ℕ))). l ++ c.in_ok-end.delivered ∷ []) before.1
+          ∙ ap (λ (e : List (List ℕ)). map (λ (s : Seat). s.delivered) last.front ++ e ∷ []) end.1
+          ∙ sym (mapped-last (λ (s : Seat). s.delivered) last.front last.seat)
+          ∙ ap (λ (l : List Seat). map (λ (s : Seat). s.delivered) l) (sym last.all),
+    )
 
 pub returns-clause-shows : goal.returns-clause-shows
 returns-clause-shows c = λ seats are.

@@ -16,8 +16,13 @@ loop-place-init c = record {
 
 pub loop-place-preserved : goal.loop-place-preserved
 loop-place-preserved c =
-    let within : c.loop-place.place < length c.loop-place.players.items = omega (arith, c.loop-place-test.true, c.loop-place.invariant.same,
-    c.len-place-end.ensures, c.args.players.now.ok.0) in
+    let within : c.loop-place.place < length c.loop-place.players.items = omega (
+      arith,
+      c.loop-place-test.true,
+      c.loop-place.invariant.same,
+      c.len-place-end.ensures,
+      c.args.players.now.ok.0,
+    ) in
     record {
       same = length-set c.loop-place.players.items c.loop-place.place c.posts.new.self ∙ c.loop-place.invariant.same;
       turned = λ seats are. one-turned (λ s. s) (λ _. 0) (entries_beyond 0) seats c.loop-place.players.items [] c.loop-place.posted.items c.posts.new.entries.items
@@ -28,8 +33,13 @@ loop-place-preserved c =
 
 pub returns : goal.returns
 returns c = λ seats are.
-    let past : length c.loop-place.players.items ≤ c.loop-place.place = omega (arith, c.loop-place-test.false, c.loop-place.invariant.same,
-    c.len-place-end.ensures, c.args.players.now.ok.0) in
+    let past : length c.loop-place.players.items ≤ c.loop-place.place = omega (
+      arith,
+      c.loop-place-test.false,
+      c.loop-place.invariant.same,
+      c.len-place-end.ensures,
+      c.args.players.now.ok.0,
+    ) in
     let all = all-turned (λ s. s) (λ _. 0) (entries_beyond 0) seats c.loop-place.players.items [] c.loop-place.posted.items c.loop-place.place
     (c.loop-place.invariant.turned seats are) past in
     (all.0, subst (λ (ss : List Seat). ArePlayed c.loop-place.players.items ss posts_of) (mapped-same seats) all.1)

@@ -17,8 +17,13 @@ loop-place-init c = record {
 
 pub loop-place-preserved : goal.loop-place-preserved
 loop-place-preserved c =
-    let within : c.loop-place.place < length c.loop-place.players.items = omega (arith, c.loop-place-test.true, c.loop-place.invariant.same,
-    c.len-place-end.ensures, c.args.players.now.ok.0) in
+    let within : c.loop-place.place < length c.loop-place.players.items = omega (
+      arith,
+      c.loop-place-test.true,
+      c.loop-place.invariant.same,
+      c.len-place-end.ensures,
+      c.args.players.now.ok.0,
+    ) in
     record {
       same = length-set c.loop-place.players.items c.loop-place.place c.serve.new.self ∙ c.loop-place.invariant.same;
       turned = λ carriage onway seats repeat is are. one-turned (seat_behind carriage onway) posts_of (entries_behind carriage onway) seats
@@ -31,8 +36,13 @@ loop-place-preserved c =
 
 pub returns : goal.returns
 returns c = λ carriage onway seats repeat is are.
-    let past : length c.loop-place.players.items ≤ c.loop-place.place = omega (arith, c.loop-place-test.false, c.loop-place.invariant.same,
-    c.len-place-end.ensures, c.args.players.now.ok.0) in
+    let past : length c.loop-place.players.items ≤ c.loop-place.place = omega (
+      arith,
+      c.loop-place-test.false,
+      c.loop-place.invariant.same,
+      c.len-place-end.ensures,
+      c.args.players.now.ok.0,
+    ) in
     let all = all-turned (seat_behind carriage onway) posts_of (entries_behind carriage onway) seats c.loop-place.players.items [] c.loop-place.posted.items
     c.loop-place.place (c.loop-place.invariant.turned carriage onway seats repeat is are) past in
     (all.0, all.1)

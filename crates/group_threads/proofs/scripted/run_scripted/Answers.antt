@@ -22,7 +22,7 @@ drive-requires-clause-most c = omega (arith, c.unwrap_or-repeat.ensures, repeat-
 pub returns-clause-exact : goal.returns-clause-exact
 returns-clause-exact c = ok-so c.drive.result _ _ c.drive.ensures.exact (λ end shows.
     let seats = made-seats c.args.script.now (roster_of c.in_ok-roster.roster) c.in_ok-configs.configs.items c.in_ok-runs.runs.0.items c.in_ok-runs.runs.1.items
-    c.in_ok-faults.faults.items 
+    c.in_ok-faults.faults.items
     (is-made c.args.script.now (roster_of c.in_ok-roster.roster) c.in_ok-configs.configs.items c.in_ok-runs.runs.0.items c.in_ok-runs.runs.1.items
     c.in_ok-faults.faults.items c.in_ok-keys.keys.items c.in_ok-keys.ensures c.in_ok-roster.ensures c.in_ok-configs.ensures c.in_ok-runs.ensures.own
     c.in_ok-runs.ensures.spare c.in_ok-faults.ensures) in
