@@ -97,7 +97,8 @@ impl<'a> Closing<'a> {
         ensures { IfOk result (FindsOf (completed_of self.entry) member) }
     {
         let content = self.closing_content(alloc, member)?;
-        let Some(log) = justifying_log_after(alloc, self.roster, self.round, &content, known)? else {
+        let Some(log) = justifying_log_after(alloc, self.roster, self.round, &content, known)?
+        else {
             return Ok(Found::Bad);
         };
         let second = self.second_content(alloc, &content, &log)?;

@@ -151,7 +151,13 @@ fn log_embedded(
     ensures keeps { IfOk result (λ log. IfSome log (KeepsEmbedded (roster_of roster.now) round content.now)) }
     ensures stand { IfOk result (λ log. IfSome log StandAll) }
 {
-    if let Some(KnownLog { content: other, log }) = known {
+    if let Some(
+        KnownLog {
+            content: other,
+            log,
+        },
+    ) = known
+    {
         if embeds_same(&other, content) {
             return Ok(Some(log));
         }

@@ -1,4 +1,4 @@
-use Rattle.std.proofs.Common.{◌≡◌, ℕ, take}
+use Rattle.std.proofs.Common.{◌≡◌, take}
 use Rattle.embedded_log.proofs.known.are_same.Given as goal
 
 -- the byte strings so far are the same

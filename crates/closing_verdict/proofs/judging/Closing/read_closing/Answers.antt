@@ -21,9 +21,11 @@ pub loop-member-preserved : goal.loop-member-preserved
 loop-member-preserved c =
     let of : Completed = completed_of c.args.self in
     let found : IsJustifiedOf of c.loop-member.member c.in-Justified.told c.in-Justified.other × IsKnown of.roster of.round c.in-Justified.found
-    = subst (λ (f : Found). FindsOf of c.loop-member.member f) c.in-Justified.is c.in_ok-read_member.ensures in
-    (next-read of c.loop-member.member c.loop-member.all.items c.push.new.self.items c.loop-member.second c.or-second.result c.in-Justified.told c.in-Justified.other (omega arith)
-    c.loop-member.invariant.0 found.0 c.in_ok-push-in-Justified.ensures.items c.or-second.ensures, found.1)
+    = subst (λ (f : Found). FindsOf of c.loop-member.member f) c.in-Justified.is c.in_ok-read_member.ensures in (
+      next-read of c.loop-member.member c.loop-member.all.items c.push.new.self.items c.loop-member.second c.or-second.result c.in-Justified.told c.in-Justified.other (omega arith)
+          c.loop-member.invariant.0 found.0 c.in_ok-push-in-Justified.ensures.items c.or-second.ensures,
+      found.1,
+    )
 
 pub returns-in-Some : goal.returns-in-Some
 returns-in-Some c =
