@@ -2,6 +2,7 @@
 use Rattle.std.specs.Prelude.{◌≡◌, ℕ, List, true, false, Option, Some, None}
 use Rattle.phase_message.specs.declared.content.Body.{Body}
 use Rattle.phase_message.specs.declared.content.Body.TheVariants.{Reveal, Dispute, Confirm}
+use Rattle.embedded_log.specs.Embedding.{IsKnown}
 use Rattle.round_spec.specs.Slots.{by_member}
 use Rattle.round_spec.specs.Verdict.{Verdict, bad_log, closing_body, closing_content, equivocation, equivocation_in, is_read_justified}
 use Rattle.closing_verdict.specs.declared.convicting.Conviction.{Conviction}
@@ -49,4 +50,4 @@ pub record IsJustifiedOf (c : Completed) (member : ℕ) (told : Told) (second : 
 -- what one content comes to
 abbrev pub FindsOf : Completed → ℕ → Found → Type 0
 FindsOf c member Bad = is_read_justified (stage_closed c) (closing_content (stage_closed c) member) ≡ false
-FindsOf c member (Justified told second) = IsJustifiedOf c member told second
+FindsOf c member (Justified told second known) = IsJustifiedOf c member told second × IsKnown c.roster c.round known

@@ -1,6 +1,6 @@
 //! What the closing contents of all members come to, one by one: each is to be justified, and to embed what was kept.
 
-ghost use Rattle.std.specs.Prelude.{◌≡◌, ◌≤◌, ◌<◌, ◌+◌, ◌-◌, [], ℕ, length, slice_index_or, IfOk, IsTrue, Some, Ok};
+ghost use Rattle.std.specs.Prelude.{◌≡◌, ◌≤◌, ◌<◌, ◌+◌, ◌-◌, [], ℕ, length, slice_index_or, IfOk, IfSome, IsTrue, Some, Ok};
 ghost use Rattle.phase_message.specs.Slots.{slot_number};
 ghost use Rattle.phase_message.specs.Stages.{is_slot, shape_of};
 ghost use Rattle.go_nogo.specs.Closing.{posts_embedded};
@@ -12,7 +12,7 @@ ghost use Rattle.closing_verdict.specs.Convicting.{TellsConviction};
 
 use crate::convicting::{Charge, Conviction, contradicted, post_written};
 use crate::judging::Closing;
-use embedded_log::{first_embedded, justifying_log, posts_embedded};
+use embedded_log::{KnownLog, first_embedded, justifying_log_after, posts_embedded};
 use go_nogo::compare_logs;
 use phase_message::{Body, Content, DecodeRefusal, Shape, Slot, decode, slot_number};
 use shuffle_blame::Shown;
@@ -49,13 +49,13 @@ enum Found {
     // It is not justified.
     Bad,
     // It is justified, and tells this; it embeds another content than was kept, which convicts the sender of that slot, or
-    // what was kept.
-    Justified(Told, Option<Conviction>),
+    // what was kept. What it embeds is known from now on.
+    Justified(Told, Option<Conviction>, KnownLog),
 }
 
 impl<'a> Closing<'a> {
     ghost use Rattle.phase_message.specs.Grammar.{OfGrammar};
-    ghost use Rattle.embedded_log.specs.Embedding.{KeepsEmbedded};
+    ghost use Rattle.embedded_log.specs.Embedding.{IsKnown, KeepsEmbedded};
     ghost use Rattle.round_spec.specs.Verdict.{bad_log_of, closing_content, equivocation_in};
     ghost use Rattle.closing_verdict.specs.Closed.{FindsOf, ReadsClosing, TellsSecond};
     ghost use Rattle.closing_verdict.specs.Judgement.{IsToBeJudged, completed_of, stage_closed};
@@ -68,15 +68,17 @@ impl<'a> Closing<'a> {
         let members = self.roster.shape().members;
         let mut all = Vec::with_capacity(alloc, usize::from(members))?;
         let mut second = None;
+        let mut known = None;
         for member in 1..members + 1 {
-            match self.read_member(alloc, member)? {
+            match self.read_member(alloc, member, known)? {
                 Found::Bad => {
                     let conviction = self.bad_log(alloc, member)?;
                     return Ok(Reading::Convicts(conviction));
                 }
-                Found::Justified(told, other) => {
+                Found::Justified(told, other, found) => {
                     all.push(told)?;
                     second = second.or(other);
+                    known = Some(found);
                 }
             }
         }
@@ -86,19 +88,22 @@ impl<'a> Closing<'a> {
         }
     }
 
-    // What the closing content of a member comes to.
-    fn read_member(self, alloc: Global, member: u8) -> Mem<Found>
+    // What the closing content of a member comes to, by what is known of the content of another one: most embed the same.
+    fn read_member(self, alloc: Global, member: u8, known: Option<KnownLog>) -> Mem<Found>
         requires closing { IsToBeJudged self }
+        requires known { IfSome known (IsKnown (completed_of self).roster self.round) }
         requires least { 1 ≤ member }
         requires most { member ≤ self.log.now.shape.members }
         ensures { IfOk result (FindsOf (completed_of self.entry) member) }
     {
         let content = self.closing_content(alloc, member)?;
-        let Some(log) = justifying_log(alloc, self.roster, self.round, &content)? else {
+        let Some(log) = justifying_log_after(alloc, self.roster, self.round, &content, known)?
+        else {
             return Ok(Found::Bad);
         };
         let second = self.second_content(alloc, &content, &log)?;
-        Ok(Found::Justified(told_of(&content.body), second))
+        let told = told_of(&content.body);
+        Ok(Found::Justified(told, second, KnownLog { content, log }))
     }
 
     // The closing content of a member.

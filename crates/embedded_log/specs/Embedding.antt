@@ -9,12 +9,13 @@ use Rattle.signed_post.specs.declared.post.PostRefusal.{PostRefusal}
 use Rattle.group_roster.specs.Roster.{Roster, shape_of_roster}
 use Rattle.stage_log.specs.Table.{IsKept, Log}
 use Rattle.go_nogo.specs.Closing.{is_assent, posts_embedded}
-use Rattle.go_nogo.specs.Stands.{StandsIn}
+use Rattle.go_nogo.specs.Stands.{StandAll, StandsIn}
 use Rattle.round_spec.specs.Embedded.{WhyNot, posts_in_content}
 use Rattle.embedded_log.specs.declared.embedding.Checked.{Checked}
 use Rattle.embedded_log.specs.declared.embedding.EmbeddedRefusal.{EmbeddedRefusal}
 use Rattle.embedded_log.specs.declared.embedding.EmbeddedRefusal.TheVariants.{Bad, Memory}
 use Rattle.embedded_log.specs.declared.embedding.Placed.{Placed}
+use Rattle.embedded_log.specs.declared.known.KnownLog.{KnownLog}
 
 -- the number of the first slot that a closing content embeds
 abbrev pub first_embedded : Shape → Content → ℕ
@@ -55,8 +56,15 @@ pub record KeepsEmbedded (roster : Roster) (round : ℕ) (content : Content) (lo
   pub posts : List Post
   pub found : posts_in_content roster round content ≡ Ok posts
   pub long : length posts ≡ length (posts_embedded content.body)
-  pub keeps : log ≡ record {
-    shape = shape_of_roster roster;
-    posts = places_of (first_embedded (shape_of_roster roster) content)
-        (slot_count (shape_of_roster roster)) posts;
-  }
+  pub keeps : log ≡ record { shape = shape_of_roster roster; posts = places_of (first_embedded (shape_of_roster roster) content) (slot_count (shape_of_roster roster)) posts }
+
+-- a log is that of what its content embeds, and all that it keeps is of the grammar and stands in its slots
+pub record IsKnown (roster : Roster) (round : ℕ) (known : KnownLog) : Type 0 where
+  pub keeps : KeepsEmbedded roster round known.content known.log
+  pub stand : StandAll known.log
+
+-- two closing contents embed the same posts for the same slots
+pub record EmbedsSame (known content : Content) : Type 0 where
+  pub stage : known.header.stage ≡ content.header.stage
+  pub assent : is_assent known.body ≡ is_assent content.body
+  pub posts : posts_embedded known.body ≡ posts_embedded content.body

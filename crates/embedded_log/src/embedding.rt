@@ -1,7 +1,7 @@
 //! The log of the posts that a closing content embeds.
 
 ghost use Rattle.group_roster.specs.Given.{roster_of};
-ghost use Rattle.std.specs.Prelude.{◌≡◌, ◌<◌, ◌≤◌, ◌^◌, Some, Ok, Err, IfOk, IfSome, IsTrue, is_some, length};
+ghost use Rattle.std.specs.Prelude.{◌≡◌, ◌<◌, ◌≤◌, ◌^◌, Some, Ok, Err, false, IfOk, IfSome, IsTrue, is_some, length};
 ghost use Rattle.wire_core.specs.Answers.{Gives, fault_as};
 ghost use Rattle.phase_message.specs.declared.stage.Slot.{Slot as GivenSlot};
 ghost use Rattle.phase_message.specs.Grammar.{OfGrammar};
@@ -11,8 +11,9 @@ ghost use Rattle.group_roster.specs.Roster.{shape_of_roster};
 ghost use Rattle.go_nogo.specs.Closing.{IsClosing, is_assent, posts_embedded};
 ghost use Rattle.go_nogo.specs.Stands.{StandAll};
 ghost use Rattle.round_spec.specs.Embedded.{checked_post, embedded_log, is_content_justified, post_for_slot};
-ghost use Rattle.embedded_log.specs.Embedding.{IsChecked, KeepsEmbedded, IsPlacedPost, StandsThere, first_embedded, place_of_bad};
+ghost use Rattle.embedded_log.specs.Embedding.{IsChecked, IsKnown, KeepsEmbedded, IsPlacedPost, StandsThere, first_embedded, place_of_bad};
 
+use crate::known::{KnownLog, embeds_same};
 use go_nogo::justified;
 use group_roster::Roster;
 use phase_message::{Body, Content, Header, Shape, Slot, first_offence, slot_number, slots_before};
@@ -104,15 +105,67 @@ pub fn justifying_log(
     ensures keeps { IfOk result (λ log. IfSome log (KeepsEmbedded (roster_of roster.now) round content.now)) }
     ensures stand { IfOk result (λ log. IfSome log StandAll) }
 {
-    let log = match embedded(alloc, roster, round, content) {
-        Ok(log) => log,
-        Err(EmbeddedRefusal::Bad { .. }) => return Ok(None),
-        Err(EmbeddedRefusal::Memory) => return Err(AllocError),
+    justifying_log_after(alloc, roster, round, content, None)
+}
+
+/// The same as `justifying_log`, by what is known already: where the known content embeds the same posts for the same
+/// slots, its log is taken, and no post is checked again.
+pub fn justifying_log_after(
+    alloc: Global,
+    roster: &Roster,
+    round: u64,
+    content: &Content,
+    known: Option<KnownLog>,
+) -> Mem<Option<StageLog>>
+    requires grammar { OfGrammar (shape_of_roster (roster_of roster.now)) content.now }
+    requires closing { IsClosing (shape_of_roster (roster_of roster.now)) content.now }
+    requires known { IfSome known (IsKnown (roster_of roster.now) round) }
+    ensures justified { IfOk result (λ log. is_some log ≡ is_content_justified (roster_of roster.now) round content.now) }
+    ensures keeps { IfOk result (λ log. IfSome log (KeepsEmbedded (roster_of roster.now) round content.now)) }
+    ensures stand { IfOk result (λ log. IfSome log StandAll) }
+{
+    let Some(log) = log_embedded(alloc, roster, round, content, known)? else {
+        return Ok(None);
     };
     if justified(alloc, content, &log)? {
         Ok(Some(log))
     } else {
         Ok(None)
+    }
+}
+
+// The log of what a closing content embeds, or of the known content if that embeds the same. There is none only where
+// an embedded post is bad.
+fn log_embedded(
+    alloc: Global,
+    roster: &Roster,
+    round: u64,
+    content: &Content,
+    known: Option<KnownLog>,
+) -> Mem<Option<StageLog>>
+    requires grammar { OfGrammar (shape_of_roster (roster_of roster.now)) content.now }
+    requires closing { IsClosing (shape_of_roster (roster_of roster.now)) content.now }
+    requires known { IfSome known (IsKnown (roster_of roster.now) round) }
+    ensures bad { IfOk result (λ log. is_some log ≡ false →
+        is_content_justified (roster_of roster.now) round content.now ≡ false) }
+    ensures keeps { IfOk result (λ log. IfSome log (KeepsEmbedded (roster_of roster.now) round content.now)) }
+    ensures stand { IfOk result (λ log. IfSome log StandAll) }
+{
+    if let Some(
+        KnownLog {
+            content: other,
+            log,
+        },
+    ) = known
+    {
+        if embeds_same(&other, content) {
+            return Ok(Some(log));
+        }
+    }
+    match embedded(alloc, roster, round, content) {
+        Ok(log) => Ok(Some(log)),
+        Err(EmbeddedRefusal::Bad { .. }) => Ok(None),
+        Err(EmbeddedRefusal::Memory) => Err(AllocError),
     }
 }
 
@@ -139,7 +192,7 @@ pub fn first_embedded(shape: Shape, content: &Content) -> u32
     }
 }
 
-fn is_assent(body: &Body) -> bool
+pub(crate) fn is_assent(body: &Body) -> bool
     ensures { result ≡ is_assent body.now }
 {
     matches!(body, Body::Reveal { .. } | Body::Confirm { .. })

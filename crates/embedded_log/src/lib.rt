@@ -2,5 +2,9 @@
 #![tactic(auto)]
 
 mod embedding;
+mod known;
 
-pub use embedding::{EmbeddedRefusal, embedded, first_embedded, justifying_log, posts_embedded};
+pub use embedding::{
+    EmbeddedRefusal, embedded, first_embedded, justifying_log, justifying_log_after, posts_embedded,
+};
+pub use known::KnownLog;
