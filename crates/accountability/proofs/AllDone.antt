@@ -81,10 +81,14 @@ record Places (P : ℕ → ℕ → Type 0) (count : ℕ) : Type 0 where
   pub of : (place : ℕ) → Contains list place → (member : ℕ) × (1 ≤ member) × (member ≤ count) × P member place
   pub distinct : IsDistinct (λ (a : ℕ) (b : ℕ). a == b) list
 
-apart-all : (place : ℕ) (list : List ℕ) → ((other : ℕ) → Contains list other → place ≡ other → ⊥) → AllByRecursion (λ (y : ℕ). (place == y) ≡ false) list
+apart-all : (place : ℕ) (list : List ℕ) → ((other : ℕ) → Contains list other → place ≡ other → ⊥)
+    → AllByRecursion (λ (y : ℕ). (place == y) ≡ false) list
 apart-all place [] apart = tt
-apart-all place (x ∷ xs) apart =
-    (false_from_ne_true (place == x) (λ same. apart x (contains-here x xs) (eqb-true place x same)), apart-all place xs (λ other listed. apart other (contains-later x xs other listed)))
+apart-all place (x ∷ xs) apart = (
+  false_from_ne_true (place == x) (λ same. apart x (contains-here x xs) (eqb-true place x same)),
+  apart-all place xs
+      (λ other listed. apart other (contains-later x xs other listed)),
+)
 
 places-of : (P : ℕ → ℕ → Type 0) (count : ℕ) → ((member : ℕ) → 1 ≤ member → member ≤ count → (place : ℕ) × P member place)
     → ((a b place : ℕ) → P a place → P b place → a ≡ b) → Places P count
@@ -114,13 +118,15 @@ places-of P (suc n) each one = more (places-of P n (λ member least most. each m
     }
 
 -- where these are below the number, each number below it is one of them
-each-place : (P : ℕ → ℕ → Type 0) (count : ℕ) → Places P count → ((member place : ℕ) → P member place → place < count) → (place : ℕ) → place < count
+each-place : (P : ℕ → ℕ → Type 0) (count : ℕ) → Places P count → ((member place : ℕ) → P member place → place < count) → (place : ℕ)
+    → place < count
     → (member : ℕ) × (1 ≤ member) × (member ≤ count) × P member place
 unfolding IsDistinct
 each-place P count places under place lt = elim (cases_Bool (list_any (λ (y : ℕ). place == y) places.list)) [
   | inl there_is ↦ places.of place (Contains-from_any (λ x y same. eqb-true x y same) place places.list there_is)
   | inr none ↦ absurd (
-      let long = length-le_from_distinct_below (place ∷ places.list) count (none-apart places.list none, places.distinct) (λ q listed. within q listed) in
+      let long = length-le_from_distinct_below (place ∷ places.list) count (none-apart places.list none, places.distinct)
+      (λ q listed. within q listed) in
       let many = places.long in
       omega (arith, long, many))
 ]
@@ -135,10 +141,11 @@ each-place P count places under place lt = elim (cases_Bool (list_any (λ (y : �
         or-none true b e = absurd cc
 
     within : (q : ℕ) → list_any (λ (y : ℕ). q == y) (place ∷ places.list) ≡ true → q < count
-    within q listed = elim (contains-cases place places.list q (Contains-from_any (λ x y same. eqb-true x y same) q (place ∷ places.list) listed)) [
-      | inl here ↦ omega (arith, here, lt)
-      | inr later ↦ (let found = places.of q later in under found.0 q found.3)
-    ]
+    within q listed = elim (contains-cases place places.list q (Contains-from_any (λ x y same. eqb-true x y same) q (place ∷ places.list)
+        listed)) [
+          | inl here ↦ omega (arith, here, lt)
+          | inr later ↦ (let found = places.of q later in under found.0 q found.3)
+        ]
 
 -- ---- each slot is that of a run
 
@@ -148,22 +155,27 @@ record StandsAt (c : Configuration) (runs : List Run) (posts : List Post) (membe
   pub is : IsRunOf runs member c.round run
   pub opens : OpensAt c posts 1 run place
 
-run-at : (c : Configuration) (delivered : List (List ℕ)) (runs : List Run) (stage : ℕ) (posts : List Post) (place : ℕ) → IsAgreedEnd c delivered runs stage posts
+run-at : (c : Configuration) (delivered : List (List ℕ)) (runs : List Run) (stage : ℕ) (posts : List Post) (place : ℕ)
+    → IsAgreedEnd c delivered runs stage posts
     → (shape_in c).members + 4 < stage → AllHaveRuns c runs → place < (shape_in c).members
     → (member : ℕ) × (1 ≤ member) × (member ≤ (shape_in c).members) × StandsAt c runs posts member place
 run-at c delivered runs stage posts place end late all lt =
     each-place (StandsAt c runs posts) (shape_in c).members
     (places-of (StandsAt c runs posts) (shape_in c).members
-    (λ member least most. (let run = all member least most in let found = place_opens c delivered runs stage posts run.0 end late run.1.listed run.1.round in (found.0, record { run = run.0; is = run.1; opens = found.1 })))
+    (λ member least most. (let run = all member least most in let found = place_opens c delivered runs stage posts run.0 end late
+    run.1.listed run.1.round in (found.0, record { run = run.0; is = run.1; opens = found.1 })))
     one-number)
-    (λ member place stands. (let within = slice_get_within (items_opened (shape_in c) (contents_of posts) 1) place _ stands.opens.opens in omega (arith, within, items-count c delivered stage posts end.kept late)))
+    (λ member place stands. (let within = slice_get_within (items_opened (shape_in c) (contents_of posts) 1) place _ stands.opens.opens in
+    omega (arith, within, items-count c delivered stage posts end.kept late)))
     place lt
   where
     one-number : (a b place : ℕ) → StandsAt c runs posts a place → StandsAt c runs posts b place → a ≡ b
     one-number a b place mine other = elim (cases_eq a b) [
       | inl same ↦ same
-      | inr apart ↦ absurd (places_differ c runs posts 1 mine.run other.run place place end.among.honest end.distinct mine.is.listed other.is.listed (contains-here 1 (2 ∷ []))
-          (first-seeds c delivered runs stage posts end late) (λ numbers. apart (sym mine.is.number ∙ numbers ∙ other.is.number)) mine.opens other.opens refl)
+      | inr apart ↦ absurd (places_differ c runs posts 1 mine.run other.run place place end.among.honest end.distinct mine.is.listed
+          other.is.listed (contains-here 1 (2 ∷ []))
+          (first-seeds c delivered runs stage posts end late) (λ numbers. apart (sym mine.is.number ∙ numbers ∙ other.is.number)) mine.opens
+          other.opens refl)
     ]
 
 -- ---- no pad is bad
@@ -172,26 +184,33 @@ run-at c delivered runs stage posts place end late all lt =
 own-keys-there : (run : Run) (later : ℕ) (posts : List Post) → (own : OwnSaid run posts 0)
     → said_in (shape_in run.config) (contents_of posts) 0 run.config.number ≡ KeysBody (own_keys run.config)
 unfolding said_in
-own-keys-there run later posts own = own-body run posts 0 own ∙ keys-are run own.text own.row (ap (kind_of_stage (shape_in run.config)) own.at)
+own-keys-there run later posts own = own-body run posts 0 own ∙ keys-are run own.text own.row
+    (ap (kind_of_stage (shape_in run.config)) own.at)
 
 -- the own bulk key stands under the own number
-bulk-there : (c : Configuration) (delivered : List (List ℕ)) (runs : List Run) (stage : ℕ) (posts : List Post) (run : Run) → AtEnd c delivered runs stage posts run
-    → slice_index_or (keys_said (shape_in c) (contents_of posts) bulk_place) (run.config.number - 1) [] ≡ key_of_seed (own_key_seed run.config bulk_place)
+bulk-there : (c : Configuration) (delivered : List (List ℕ)) (runs : List Run) (stage : ℕ) (posts : List Post) (run : Run)
+    → AtEnd c delivered runs stage posts run
+    → slice_index_or (keys_said (shape_in c) (contents_of posts) bulk_place) (run.config.number - 1) [] ≡ key_of_seed
+    (own_key_seed run.config bulk_place)
 bulk-there c delivered runs stage posts run e =
     let facts = run-facts c runs run e.end.among.honest e.listed in
     let late = e.late in
     let same = same_past c delivered runs stage posts run e.end e.listed e.round in
     let own = own-said run (stage - 1) 0 same.past facts.honest same.kept (own-speaks run.config facts.honest.config) (omega arith) in
     let keys = own-keys-there run (stage - 1) same.past own in
-    let moved : said_in (shape_in c) (contents_of posts) 0 run.config.number ≡ said_in (shape_in run.config) (contents_of same.past) 0 run.config.number =
-    sym (said-front (shape_in c) (contents_of posts) (stage - 1) 0 run.config.number (member-there (shape_in c).members run.config.number facts.least facts.most) (omega arith))
+    let moved : said_in (shape_in c) (contents_of posts) 0 run.config.number ≡ said_in (shape_in run.config) (contents_of same.past) 0
+    run.config.number =
+    sym (said-front (shape_in c) (contents_of posts) (stage - 1) 0 run.config.number
+    (member-there (shape_in c).members run.config.number facts.least facts.most) (omega arith))
     ∙ ap (λ (past : List (List ℕ)). said_in (shape_in c) past 0 run.config.number) (sym same.same)
     ∙ ap (λ (s : Shape). said_in s (contents_of same.past) 0 run.config.number) (sym facts.shape_is) in
-    get_or_from_slice_get (keys_said (shape_in c) (contents_of posts) bulk_place) (run.config.number - 1) _ [] (by-member (key_said (shape_in c) (contents_of posts) bulk_place) (shape_in c).members run.config.number facts.least facts.most)
+    get_or_from_slice_get (keys_said (shape_in c) (contents_of posts) bulk_place) (run.config.number - 1) _ []
+    (by-member (key_said (shape_in c) (contents_of posts) bulk_place) (shape_in c).members run.config.number facts.least facts.most)
     ∙ ap (λ (b : Body). slice_index_or (keys_in b) bulk_place []) (moved ∙ keys)
 
 -- each pad for the descriptor of a run fits
-pad-fits : (c : Configuration) (delivered : List (List ℕ)) (runs : List Run) (stage place : ℕ) (posts : List Post) (maker run : Run) → AtEnd c delivered runs stage posts maker
+pad-fits : (c : Configuration) (delivered : List (List ℕ)) (runs : List Run) (stage place : ℕ) (posts : List Post) (maker run : Run)
+    → AtEnd c delivered runs stage posts maker
     → AtEnd c delivered runs stage posts run
     → slice_get (items_opened (shape_in c) (contents_of posts) 1) place ≡ Some (Some (own_descriptor maker.config (contents_of posts)))
     → fits (made-of maker (shape_in c) (contents_of posts)) run.config.number
@@ -199,8 +218,10 @@ pad-fits : (c : Configuration) (delivered : List (List ℕ)) (runs : List Run) (
 unfolding made-of
 pad-fits c delivered runs stage place posts maker run e r at =
     ap (fits (made-of maker (shape_in c) (contents_of posts)) run.config.number) pad_is
-    ∙ honest_pad_fits (shape_in c).members keys (own_pad_seeds maker.config) keys (own_pad_seeds run.config) maker.config.number run.config.number maker.config.message run.config.message
-    (own_key_seed run.config bulk_place) (can-make-there maker (shape_in c) (contents_of posts) its.honest its.shape_is) (can-make-there run (shape_in c) (contents_of posts) facts.honest facts.shape_is)
+    ∙ honest_pad_fits (shape_in c).members keys (own_pad_seeds maker.config) keys (own_pad_seeds run.config) maker.config.number
+    run.config.number maker.config.message run.config.message
+    (own_key_seed run.config bulk_place) (can-make-there maker (shape_in c) (contents_of posts) its.honest its.shape_is)
+    (can-make-there run (shape_in c) (contents_of posts) facts.honest facts.shape_is)
     messages (bulk-there c delivered runs stage posts run r) own_same
   where
     keys : List (List ℕ)
@@ -225,31 +246,43 @@ pad-fits c delivered runs stage place posts maker run e r at =
     own_is = made-there run (shape_in c) (contents_of posts) facts.shape_is
 
     pad_is : slice_index_or (pads_for (pads_sent (shape_in c) (contents_of posts)) place) (run.config.number - 1) []
-        ≡ pad_row (shape_in c).members (descriptor_text (made_descriptor keys (own_pad_seeds run.config) run.config.number run.config.message))
+        ≡ pad_row (shape_in c).members (descriptor_text (made_descriptor keys (own_pad_seeds run.config) run.config.number
+        run.config.message))
         (own_pad (own_pad_seeds run.config) run.config.number run.config.message) run.config.number (own_key_seed run.config bulk_place)
         (descriptor_text (made_descriptor keys (own_pad_seeds maker.config) maker.config.number maker.config.message))
     pad_is =
-        get_or_from_slice_get (pads_for (pads_sent (shape_in c) (contents_of posts)) place) (run.config.number - 1) _ [] (run-pads c delivered runs stage place posts run r)
-        ∙ get_or_from_slice_get (map (pad_for run.config own) (items_opened (shape_in c) (contents_of posts) 1)) place (pad_for run.config own (Some entry)) []
-        (slice_get-map (pad_for run.config own) (items_opened (shape_in c) (contents_of posts) 1) place ∙ ap (option_map (pad_for run.config own)) at)
-        ∙ ap (λ (s : Shape). pad_row s.members own (own_pad (own_pad_seeds run.config) run.config.number run.config.message) run.config.number (own_key_seed run.config bulk_place) entry) facts.shape_is
-        ∙ ap (λ (o : List ℕ). pad_row (shape_in c).members o (own_pad (own_pad_seeds run.config) run.config.number run.config.message) run.config.number (own_key_seed run.config bulk_place) entry) own_is
-        ∙ ap (pad_row (shape_in c).members (descriptor_text (made_descriptor keys (own_pad_seeds run.config) run.config.number run.config.message))
-        (own_pad (own_pad_seeds run.config) run.config.number run.config.message) run.config.number (own_key_seed run.config bulk_place)) entry_is
+        get_or_from_slice_get (pads_for (pads_sent (shape_in c) (contents_of posts)) place) (run.config.number - 1) _ []
+        (run-pads c delivered runs stage place posts run r)
+        ∙ get_or_from_slice_get (map (pad_for run.config own) (items_opened (shape_in c) (contents_of posts) 1)) place
+        (pad_for run.config own (Some entry)) []
+        (slice_get-map (pad_for run.config own) (items_opened (shape_in c) (contents_of posts) 1) place
+        ∙ ap (option_map (pad_for run.config own)) at)
+        ∙ ap (λ (s : Shape). pad_row s.members own (own_pad (own_pad_seeds run.config) run.config.number run.config.message)
+        run.config.number (own_key_seed run.config bulk_place) entry) facts.shape_is
+        ∙ ap (λ (o : List ℕ). pad_row (shape_in c).members o (own_pad (own_pad_seeds run.config) run.config.number run.config.message)
+        run.config.number (own_key_seed run.config bulk_place) entry) own_is
+        ∙ ap (pad_row (shape_in c).members (descriptor_text (made_descriptor keys (own_pad_seeds run.config) run.config.number
+        run.config.message))
+        (own_pad (own_pad_seeds run.config) run.config.number run.config.message) run.config.number (own_key_seed run.config bulk_place))
+        entry_is
 
     messages : All IsMessage (own_pad_seeds maker.config)
-    messages = all-places IsMessage (own_pad_seeds maker.config) (all-map IsMessage (derived maker.config.fresh maker.config.round 12) (range_with_len 1 (shape_in maker.config).members)
+    messages = all-places IsMessage (own_pad_seeds maker.config)
+        (all-map IsMessage (derived maker.config.fresh maker.config.round 12) (range_with_len 1 (shape_in maker.config).members)
         (λ member. (let is_hash = hash_bytes _ _ in record { length = is_hash.0; bytes = is_hash.1 })))
 
-    own_same : run.config.number ≡ maker.config.number → descriptor_text (made_descriptor keys (own_pad_seeds maker.config) maker.config.number maker.config.message)
+    own_same : run.config.number ≡ maker.config.number → descriptor_text
+        (made_descriptor keys (own_pad_seeds maker.config) maker.config.number maker.config.message)
         ≡ descriptor_text (made_descriptor keys (own_pad_seeds run.config) run.config.number run.config.message)
     own_same number =
-        let one : maker ≡ run = run_unique c.roster runs maker.config.number c.round maker run e.end.among.honest (record { listed = e.listed; number = refl; round = e.round })
+        let one : maker ≡ run = run_unique c.roster runs maker.config.number c.round maker run e.end.among.honest
+        (record { listed = e.listed; number = refl; round = e.round })
         (record { listed = r.listed; number = number; round = r.round }) in
         ap (λ (x : Run). descriptor_text (made_descriptor keys (own_pad_seeds x.config) x.config.number x.config.message)) one
 
 -- so no slot is bad
-none-is_bad : (xs : List SlotState) → ((k : ℕ) (state : SlotState) → slice_get xs k ≡ Some state → is_bad state ≡ false) → list_any is_bad xs ≡ false
+none-is_bad : (xs : List SlotState) → ((k : ℕ) (state : SlotState) → slice_get xs k ≡ Some state → is_bad state ≡ false)
+    → list_any is_bad xs ≡ false
 none-is_bad [] each = refl
 none-is_bad (x ∷ xs) each = rw (each 0 x refl, none-is_bad xs (λ k state at. each (suc k) state at)) refl
 
@@ -259,7 +292,8 @@ good-state (Bad first) good = absurd (good first refl)
 good-state Mismatched good = refl
 good-state (Message m) good = refl
 
-none-bad-there : (c : Configuration) (delivered : List (List ℕ)) (runs : List Run) (stage : ℕ) (posts : List Post) → IsAgreedEnd c delivered runs stage posts
+none-bad-there : (c : Configuration) (delivered : List (List ℕ)) (runs : List Run) (stage : ℕ) (posts : List Post)
+    → IsAgreedEnd c delivered runs stage posts
     → (shape_in c).members + 4 < stage → AllHaveRuns c runs → list_any is_bad (slots_of_past (shape_in c) (contents_of posts)) ≡ false
 none-bad-there c delivered runs stage posts end late all = none-is_bad (slots_of_past (shape_in c) (contents_of posts)) each
   where
@@ -272,25 +306,41 @@ none-bad-there c delivered runs stage posts end late all = none-is_bad (slots_of
     each : (k : ℕ) (state : SlotState) → slice_get states k ≡ Some state → is_bad state ≡ false
     each k state at =
         let within = slice_get_within states k state at in
-        let few : k < (shape_in c).members = omega (arith, within, states-count (shape_in c) (contents_of posts), items-count c delivered stage posts end.kept late) in
+        let few : k < (shape_in c).members = omega (
+          arith,
+          within,
+          states-count (shape_in c) (contents_of posts),
+          items-count c delivered
+              stage posts end.kept late,
+        ) in
         of-run k state at (run-at c delivered runs stage posts k end late all few)
       where
-        of-run : (k : ℕ) (state : SlotState) → slice_get states k ≡ Some state → (member : ℕ) × (1 ≤ member) × (member ≤ (shape_in c).members) × StandsAt c runs posts member k → is_bad state ≡ false
+        of-run : (k : ℕ) (state : SlotState) → slice_get states k ≡ Some state → (member : ℕ) × (1 ≤ member)
+            × (member ≤ (shape_in c).members) × StandsAt c runs posts member k → is_bad state ≡ false
         of-run k state at (member, least, most, stands) =
-            let e : AtEnd c delivered runs stage posts stands.run = record { end = end; late = late; listed = stands.is.listed; round = stands.is.round } in
-            let opens : slice_get (items_opened (shape_in c) (contents_of posts) 1) k ≡ Some (Some (own_descriptor stands.run.config (contents_of posts))) =
-            stands.opens.opens ∙ ap (λ (item : List ℕ). Some (Some item)) (item-first stands.run.config (own_descriptor stands.run.config (contents_of posts)) (contents_of posts)) in
+            let e : AtEnd c delivered runs stage posts stands.run = record
+            { end = end; late = late; listed = stands.is.listed; round = stands.is.round } in
+            let opens : slice_get (items_opened (shape_in c) (contents_of posts) 1) k ≡ Some
+            (Some (own_descriptor stands.run.config (contents_of posts))) =
+            stands.opens.opens ∙ ap (λ (item : List ℕ). Some (Some item))
+            (item-first stands.run.config (own_descriptor stands.run.config (contents_of posts)) (contents_of posts)) in
             let state_is = state-one state _ (sym at ∙ slot-there c runs k posts stands.run end.among.honest stands.is.listed opens) in
-            elim (fits-or-bad (made-of stands.run (shape_in c) (contents_of posts)) (pads_for (pads_sent (shape_in c) (contents_of posts)) k)) [
+            elim (fits-or-bad (made-of stands.run (shape_in c) (contents_of posts))
+            (pads_for (pads_sent (shape_in c) (contents_of posts)) k)) [
               | inl fit ↦ good-state state (λ first bad. fit.1 first (sym state_is ∙ bad))
               | inr (first, unfit, bad) ↦
-                  let parts = unfit_is (made-of stands.run (shape_in c) (contents_of posts)) (pads_for (pads_sent (shape_in c) (contents_of posts)) k) first unfit in
+                  let parts = unfit_is (made-of stands.run (shape_in c) (contents_of posts))
+                  (pads_for (pads_sent (shape_in c) (contents_of posts)) k) first unfit in
                   let last = parts.1 in
                   let run = all first parts.0 (omega (arith, last, pads-count (shape_in c) (contents_of posts) k)) in
-                  let r : AtEnd c delivered runs stage posts run.0 = record { end = end; late = late; listed = run.1.listed; round = run.1.round } in
+                  let r : AtEnd c delivered runs stage posts run.0 = record
+                  { end = end; late = late; listed = run.1.listed; round = run.1.round } in
                   let fit = pad-fits c delivered runs stage k posts stands.run run.0 e r opens in
-                  absurd (not_both (fits (made-of stands.run (shape_in c) (contents_of posts)) first (slice_index_or (pads_for (pads_sent (shape_in c) (contents_of posts)) k) (first - 1) []))
-                  (subst (λ (m : ℕ). fits (made-of stands.run (shape_in c) (contents_of posts)) m (slice_index_or (pads_for (pads_sent (shape_in c) (contents_of posts)) k) (m - 1) []) ≡ true) run.1.number fit) parts.2)
+                  absurd (not_both (fits (made-of stands.run (shape_in c) (contents_of posts)) first
+                  (slice_index_or (pads_for (pads_sent (shape_in c) (contents_of posts)) k) (first - 1) []))
+                  (subst (λ (m : ℕ). fits (made-of stands.run (shape_in c) (contents_of posts)) m
+                  (slice_index_or (pads_for (pads_sent (shape_in c) (contents_of posts)) k) (m - 1) []) ≡ true) run.1.number fit)
+                  parts.2)
             ]
 
 -- ---- the checks end the round
@@ -301,9 +351,12 @@ verdict-not v a b is same apart = apart (sym is ∙ same)
 confirm-kind : (o : Option StageKind) → o ≡ Some AtConfirm → o ≡ Some (AtFinal 1) → ⊥
 confirm-kind o confirm final = (let both = sym confirm ∙ final in cc)
 
-confirm-ends : (c : Configuration) (delivered : List (List ℕ)) (runs : List Run) (stage : ℕ) (posts : List Post) → IsAmong c delivered runs → NoRunsCollide runs → AllHaveRuns c runs
-    → IsKeptEnd (run_after c delivered) stage posts → kind_of_stage (shape_in c) stage ≡ Some AtConfirm → verdict_of (closing_of c posts stage) ≡ Goes → ⊥
-confirm-ends c delivered runs stage posts among distinct all end kind goes = by_case (verdict_cases (closing_of c posts stage) (whole-end (run_after c delivered) stage posts end))
+confirm-ends : (c : Configuration) (delivered : List (List ℕ)) (runs : List Run) (stage : ℕ) (posts : List Post) → IsAmong c delivered runs
+    → NoRunsCollide runs → AllHaveRuns c runs
+    → IsKeptEnd (run_after c delivered) stage posts → kind_of_stage (shape_in c) stage ≡ Some AtConfirm
+    → verdict_of (closing_of c posts stage) ≡ Goes → ⊥
+confirm-ends c delivered runs stage posts among distinct all end kind goes = by_case
+    (verdict_cases (closing_of c posts stage) (whole-end (run_after c delivered) stage posts end))
   where
     late : (shape_in c).members + 4 < stage
     late = (let later = confirm-late (shape_in c) stage kind in omega arith)
@@ -324,8 +377,10 @@ confirm-ends c delivered runs stage posts among distinct all end kind goes = by_
     by_case (ByBadPad is) = verdict-not (verdict_of (closing_of c posts stage)) _ Goes is.verdict_is goes (λ same. absurd cc)
 
 -- so nothing is kept behind them
-confirm-passed : (c : Configuration) (delivered : List (List ℕ)) (runs : List Run) (past : List Post) → IsAmong c delivered runs → NoRunsCollide runs → AllHaveRuns c runs
-    → before (run_after c delivered).log ((shape_in c).members + 6 + 1) ≡ Some past → verdict_of (closing_of c past ((shape_in c).members + 6)) ≡ Goes → ⊥
+confirm-passed : (c : Configuration) (delivered : List (List ℕ)) (runs : List Run) (past : List Post) → IsAmong c delivered runs
+    → NoRunsCollide runs → AllHaveRuns c runs
+    → before (run_after c delivered).log ((shape_in c).members + 6 + 1) ≡ Some past
+    → verdict_of (closing_of c past ((shape_in c).members + 6)) ≡ Goes → ⊥
 confirm-passed c delivered runs past among distinct all kept goes =
     let kind = confirm_is (shape_in c) ((shape_in c).members + 6) refl in
     confirm-ends c delivered runs ((shape_in c).members + 6) past among distinct all
@@ -340,9 +395,11 @@ confirm-passed c delivered runs past among distinct all kept goes =
 claim-not : (t other : Transcript) (v : Verdict) → v ≡ Convicts other → Convicts t ≡ v → t.claim ≡ Pad → (other.claim ≡ Pad → ⊥) → ⊥
 claim-not t other v is same its apart = apart (sym (ap (λ (x : Transcript). x.claim) (transcript-same t other (same ∙ is))) ∙ its)
 
-pad-not : (c : Configuration) (delivered : List (List ℕ)) (runs : List Run) (stage : ℕ) (posts : List Post) (t : Transcript) → IsAmong c delivered runs → NoRunsCollide runs → AllHaveRuns c runs
+pad-not : (c : Configuration) (delivered : List (List ℕ)) (runs : List Run) (stage : ℕ) (posts : List Post) (t : Transcript)
+    → IsAmong c delivered runs → NoRunsCollide runs → AllHaveRuns c runs
     → IsKeptEnd (run_after c delivered) stage posts → verdict_of (closing_of c posts stage) ≡ Convicts t → t.claim ≡ Pad → ⊥
-pad-not c delivered runs stage posts t among distinct all end e claim = by_case (verdict_cases (closing_of c posts stage) (whole-end (run_after c delivered) stage posts end))
+pad-not c delivered runs stage posts t among distinct all end e claim = by_case
+    (verdict_cases (closing_of c posts stage) (whole-end (run_after c delivered) stage posts end))
   where
     shape : Shape
     shape = shape_in c
@@ -351,7 +408,8 @@ pad-not c delivered runs stage posts t among distinct all end e claim = by_case 
     within = slot-bounds shape 0 c.number (own-speaks c among.config)
 
     own : OwnSaid (run_after c delivered) posts stage
-    own = own-said (run_after c delivered) (stage + 1) stage posts end.honest end.kept ((closing-kind shape stage end.closing).all_close c.number within.1 within.2) (omega arith)
+    own = own-said (run_after c delivered) (stage + 1) stage posts end.honest end.kept
+        ((closing-kind shape stage end.closing).all_close c.number within.1 within.2) (omega arith)
 
     own_stage : own.row.stage ≡ stage
     own_stage = own.at
@@ -359,7 +417,8 @@ pad-not c delivered runs stage posts t among distinct all end e claim = by_case 
     passed : shape.members + 6 < stage → ⊥
     passed later =
         confirm-passed c delivered runs (take (slots_before shape (shape.members + 6 + 1)) own.row.past) among distinct all
-        (before-front (run_after c delivered).log (shape.members + 6 + 1) own.row.stage own.row.past (omega (arith, own_stage, later)) own.row.before
+        (before-front (run_after c delivered).log (shape.members + 6 + 1) own.row.stage own.row.past (omega (arith, own_stage, later))
+        own.row.before
         ∙ ap (λ (s : Shape). Some (take (slots_before s (shape.members + 6 + 1)) own.row.past)) end.honest.shape)
         (own.row.goes (shape.members + 6) (omega (arith, own_stage, later)))
 
@@ -375,7 +434,8 @@ pad-not c delivered runs stage posts t among distinct all end e claim = by_case 
     by_case (GoesOn agree work goes) = convicts-not t (verdict_of (closing_of c posts stage)) (inl goes) (sym e)
     by_case (Ends agree done ends) = convicts-not t (verdict_of (closing_of c posts stage)) (inr ends) (sym e)
 
-not-blamed : (c : Configuration) (delivered : List (List ℕ)) (runs : List Run) (t : Transcript) → IsAmong c delivered runs → NoRunsCollide runs → AllHaveRuns c runs
+not-blamed : (c : Configuration) (delivered : List (List ℕ)) (runs : List Run) (t : Transcript) → IsAmong c delivered runs
+    → NoRunsCollide runs → AllHaveRuns c runs
     → result_of c delivered ≡ Blamed t → ⊥
 not-blamed c delivered runs t among distinct all e = elim (ending-cases c part (Convicts t) blame.ends) [
   | inl last ↦ elim last.shows [
@@ -383,9 +443,11 @@ not-blamed c delivered runs t among distinct all e = elim (ending-cases c part (
     | inr other ↦ claim-not t _ _ other.verdict_is refl claim (λ same. absurd cc)
   ]
   | inr course ↦
-      let closed = stand-closed c (first_posts c part) (Convicts t) among.config (firsts-check c part part_bytes) course.1 (λ goes. convicts-not t Goes (inl refl) goes) in
+      let closed = stand-closed c (first_posts c part) (Convicts t) among.config (firsts-check c part part_bytes) course.1
+      (λ goes. convicts-not t Goes (inl refl) goes) in
       pad-not c delivered runs closed.0 (course_of c (first_posts c part)).past t among distinct all
-      (subst (λ (run : Run). IsKeptEnd run closed.0 (course_of c (first_posts c part)).past) (sym blame.run_is) closed.1.kept) closed.1.verdict_is claim
+      (subst (λ (run : Run). IsKeptEnd run closed.0 (course_of c (first_posts c part)).past) (sym blame.run_is) closed.1.kept)
+      closed.1.verdict_is claim
 ]
   where
     blame : IsBlame c delivered t
@@ -402,7 +464,8 @@ not-blamed c delivered runs t among distinct all e = elim (ending-cases c part (
 
 -- ---- nobody is waited for
 
-goes-at : (c : Configuration) (others : Others) (stage : ℕ) → IsReached c others (course_of c others) → is_open (course_of c others).verdict ≡ true → stage < (course_of c others).at
+goes-at : (c : Configuration) (others : Others) (stage : ℕ) → IsReached c others (course_of c others)
+    → is_open (course_of c others).verdict ≡ true → stage < (course_of c others).at
     → verdict_of (closing_of c (take (slots_before (shape_in c) (stage + 1)) (course_of c others).past) stage) ≡ Goes
 goes-at c others stage reached still lt = elim (cases_lt (stage + 1) (course_of c others).at) [
   | inl earlier ↦ reached.goes stage earlier
@@ -410,7 +473,8 @@ goes-at c others stage reached still lt = elim (cases_lt (stage + 1) (course_of 
       let at : stage + 1 ≡ (course_of c others).at = omega (arith, lt, last) in
       ap (λ (posts : List Post). verdict_of (closing_of c posts stage))
       (ap (λ (s : ℕ). take (slots_before (shape_in c) s) (course_of c others).past) at
-      ∙ take_all (slots_before (shape_in c) (course_of c others).at) (course_of c others).past (let whole = reached.whole in omega (arith, whole)))
+      ∙ take_all (slots_before (shape_in c) (course_of c others).at) (course_of c others).past
+      (let whole = reached.whole in omega (arith, whole)))
       ∙ reached.last stage at ∙ open-goes (course_of c others).verdict still
 ]
 
@@ -418,12 +482,14 @@ waits-at : Outcome → ℕ
 waits-at (Waiting stage named) = stage
 waits-at _ = 0
 
-not-waiting : (c : Configuration) (delivered : List (List ℕ)) (runs : List Run) (stage : ℕ) (named : List ℕ) → IsAmong c delivered runs → NoRunsCollide runs → AllHaveRuns c runs
+not-waiting : (c : Configuration) (delivered : List (List ℕ)) (runs : List Run) (stage : ℕ) (named : List ℕ) → IsAmong c delivered runs
+    → NoRunsCollide runs → AllHaveRuns c runs
     → AllDelivered c delivered → result_of c delivered ≡ Waiting stage named → ⊥
 unfolding log_after waits-at
 not-waiting c delivered runs stage named among distinct all heard e = elim (cases_lt ((shape_in c).members + 6) stage) [
   | inr early ↦ (let given = heard stage names.somebody.0 missed.speaks early missed.other in
-      file-heard c delivered (record { stage = stage; sender = names.somebody.0 }) given.0 given.1 missed.other given.2 given.3 missed.unheard)
+      file-heard c delivered (record { stage = stage; sender = names.somebody.0 }) given.0 given.1 missed.other given.2 given.3
+      missed.unheard)
   | inl later ↦ elim (outcome-cases c delivered) [
     | inl open_end ↦ by_course open_end.least open_end.goes_on (ap waits-at (sym open_end.outcome_is ∙ e)) later
     | inr ended ↦ closed ended.verdict (stand_after c (take ended.count delivered)) ended.closed (sym ended.outcome_is ∙ e)
@@ -441,15 +507,18 @@ not-waiting c delivered runs stage named among distinct all heard e = elim (case
     closed Done stand still w = absurd cc
     closed (Convicts t) stand still w = absurd cc
 
-    by_course : least_ending c delivered ≡ None → is_open (stand_after c delivered).verdict ≡ true → (stand_after c delivered).at ≡ stage → (shape_in c).members + 6 < stage → ⊥
+    by_course : least_ending c delivered ≡ None → is_open (stand_after c delivered).verdict ≡ true → (stand_after c delivered).at ≡ stage
+        → (shape_in c).members + 6 < stage → ⊥
     by_course least still at later =
         let others : Others = first_posts c delivered in
         let run_is : run_after c delivered ≡ settled_run c (first_posts c delivered) =
         ap (λ (o : Option (ℕ × Verdict)). record { config = c; log = settled_log c (first_posts c (counted_part delivered o)) }) least in
         let reached = reached-end c (first_posts c delivered) in
         let early : (shape_in c).members + 6 < (course_of c (first_posts c delivered)).at = omega (arith, at, later) in
-        confirm-passed c delivered runs (take (slots_before (shape_in c) ((shape_in c).members + 6 + 1)) (course_of c (first_posts c delivered)).past) among distinct all
-        (ap (λ (run : Run). before run.log ((shape_in c).members + 6 + 1)) run_is ∙ before-settled c (first_posts c delivered) ((shape_in c).members + 6 + 1) reached (omega (arith, early)))
+        confirm-passed c delivered runs (take (slots_before (shape_in c) ((shape_in c).members + 6 + 1))
+        (course_of c (first_posts c delivered)).past) among distinct all
+        (ap (λ (run : Run). before run.log ((shape_in c).members + 6 + 1)) run_is
+        ∙ before-settled c (first_posts c delivered) ((shape_in c).members + 6 + 1) reached (omega (arith, early)))
         (goes-at c (first_posts c delivered) ((shape_in c).members + 6) reached still early)
 
 -- ---- done
@@ -457,7 +526,8 @@ not-waiting c delivered runs stage named among distinct all heard e = elim (case
 pub all_honest : AllHonest
 all_honest c delivered runs among distinct all heard = by_result (result_of c delivered) refl
   where
-    by_result : (o : Outcome) → result_of c delivered ≡ o → (slots : List SlotState) × (result_of c delivered ≡ DoneWith slots) × HasEachMessage runs c.round slots
+    by_result : (o : Outcome) → result_of c delivered ≡ o → (slots : List SlotState) × (result_of c delivered ≡ DoneWith slots)
+        × HasEachMessage runs c.round slots
     by_result (DoneWith slots) e = (slots, e, done_has_messages c delivered runs slots among distinct e)
     by_result (Blamed t) e = absurd (not-blamed c delivered runs t among distinct all e)
     by_result (Waiting stage named) e = absurd (not-waiting c delivered runs stage named among distinct all heard e)

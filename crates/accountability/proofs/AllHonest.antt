@@ -70,14 +70,17 @@ use Rattle.go_nogo.specs.Votes.{votes_agree}
 
 -- ---- what dissents at the end of a shuffle
 
-row-dissents : (shape : Shape) (posts : List Post) (stage : ℕ) (inner outer opening : List ℕ) → is_assent (final_row shape posts stage inner outer opening) ≡ false
+row-dissents : (shape : Shape) (posts : List Post) (stage : ℕ) (inner outer opening : List ℕ)
+    → is_assent (final_row shape posts stage inner outer opening) ≡ false
     → final_row shape posts stage inner outer opening ≡ Dispute (written posts) outer opening
 unfolding final_row
 row-dissents shape posts stage inner outer opening e = elim (cases_Bool (votes_agree shape (contents_of posts) stage)) [
   | inl agree ↦ absurd (
-      let row = cond-true (votes_agree shape (contents_of posts) stage) (Reveal (written (posts_at shape posts (stage - 1))) inner) (Dispute (written posts) outer opening) agree in
+      let row = cond-true (votes_agree shape (contents_of posts) stage) (Reveal (written (posts_at shape posts (stage - 1))) inner)
+      (Dispute (written posts) outer opening) agree in
       let both = sym (ap is_assent row) ∙ e in cc)
-  | inr differ ↦ cond-false (votes_agree shape (contents_of posts) stage) (Reveal (written (posts_at shape posts (stage - 1))) inner) (Dispute (written posts) outer opening) differ
+  | inr differ ↦ cond-false (votes_agree shape (contents_of posts) stage) (Reveal (written (posts_at shape posts (stage - 1))) inner)
+      (Dispute (written posts) outer opening) differ
 ]
 
 -- ---- what each run kept where all dissent
@@ -94,10 +97,13 @@ record Dissents (c : Configuration) (posts : List Post) (stage : ℕ) (run : Run
 posts-told : (xs ys : List Post) → (let told : List Post → Result (List Post) BadPost = λ z. Ok z in told xs ≡ told ys) → xs ≡ ys
 posts-told xs ys e = cc
 
-run-dissents : (c : Configuration) (delivered : List (List ℕ)) (runs : List Run) (stage : ℕ) (posts : List Post) (run : Run) → IsAmong c delivered runs
-    → IsKeptEnd (run_after c delivered) stage posts → AreFaithful (closing_of c posts stage) → agree_before (closing_of c posts stage) ≡ false
+run-dissents : (c : Configuration) (delivered : List (List ℕ)) (runs : List Run) (stage : ℕ) (posts : List Post) (run : Run)
+    → IsAmong c delivered runs
+    → IsKeptEnd (run_after c delivered) stage posts → AreFaithful (closing_of c posts stage)
+    → agree_before (closing_of c posts stage) ≡ false
     → Contains runs run → run.config.round ≡ c.round → Dissents c posts stage run
-run-dissents c delivered runs stage posts run among end faithful disagree listed round = record { past = mine.row.past; kept = mine_kept; same = same; shows = shows }
+run-dissents c delivered runs stage posts run among end faithful disagree listed round = record
+    { past = mine.row.past; kept = mine_kept; same = same; shows = shows }
   where
     shape : Shape
     shape = shape_in c
@@ -112,7 +118,8 @@ run-dissents c delivered runs stage posts run among end faithful disagree listed
     member = record { least = facts.least; most = facts.most }
 
     mine : RowIn c delivered run posts stage
-    mine = row-in c delivered runs (stage + 1) stage posts run among end.kept listed round (closes.all_close run.config.number facts.least facts.most) (omega arith)
+    mine = row-in c delivered runs (stage + 1) stage posts run among end.kept listed round
+        (closes.all_close run.config.number facts.least facts.most) (omega arith)
 
     mine_kept : before run.log stage ≡ Some mine.row.past
     mine_kept = subst (λ (s : ℕ). before run.log s ≡ Some mine.row.past) mine.at mine.row.before
@@ -132,7 +139,8 @@ run-dissents c delivered runs stage posts run among end faithful disagree listed
     dissents = ap (λ (x : Content). is_assent x.body) (read_is ∙ kept_is) ∙ f.assents ∙ disagree
 
     closing : is_some (option_and_then vote_of (kind_of_stage (shape_in run.config) mine.row.stage)) ≡ true
-    closing = ap (λ (s : Shape). is_some (option_and_then vote_of (kind_of_stage s mine.row.stage))) facts.shape_is ∙ ap (is_closing shape) mine.at ∙ end.closing
+    closing = ap (λ (s : Shape). is_some (option_and_then vote_of (kind_of_stage s mine.row.stage))) facts.shape_is
+        ∙ ap (is_closing shape) mine.at ∙ end.closing
 
     own : OwnClosing run mine.row.past mine.row.read
     own = own-closing run mine.kept.post.content mine.row facts.honest closing
@@ -141,7 +149,8 @@ run-dissents c delivered runs stage posts run among end faithful disagree listed
     past_long = (is-past run stage mine.row.past facts.honest mine_kept).long ∙ ap (λ (s : Shape). slots_before s stage) facts.shape_is
 
     stage_is : f.content.header.stage ≡ stage
-    stage_is = ap (λ (x : Content). x.header.stage) (sym kept_is) ∙ content-stage (run_after c delivered) posts stage run.config.number mine.kept
+    stage_is = ap (λ (x : Content). x.header.stage) (sym kept_is)
+        ∙ content-stage (run_after c delivered) posts stage run.config.number mine.kept
 
     objects_there : is_assent f.content.body ≡ false
     objects_there = f.assents ∙ disagree
@@ -152,9 +161,17 @@ run-dissents c delivered runs stage posts run among end faithful disagree listed
         (sym f.embeds ∙ ap (λ (x : Content). posts_in_content c.roster c.round x) (sym (read_is ∙ kept_is))
         ∙ ap (λ (r : Roster). posts_in_content r c.round mine.row.read) (sym (run-roster c.roster runs run among.honest listed))
         ∙ ap (λ (r : ℕ). posts_in_content run.config.roster r mine.row.read) (sym round) ∙ own.embeds)
-        ∙ cond-false (is_assent mine.row.read.body) _ (take (slots_before (shape_in run.config) mine.row.read.header.stage) mine.row.past) dissents
+        ∙ cond-false (is_assent mine.row.read.body) _ (take (slots_before (shape_in run.config) mine.row.read.header.stage) mine.row.past)
+        dissents
         ∙ take_all (slots_before (shape_in run.config) mine.row.read.header.stage) mine.row.past
-        (omega (arith, past_long, ap (λ (x : Content). slots_before (shape_in run.config) x.header.stage) (read_is ∙ kept_is), ap (slots_before (shape_in run.config)) stage_is, ap (λ (s : Shape). slots_before s stage) facts.shape_is))
+        (omega (
+          arith,
+          past_long,
+          ap (λ (x : Content). slots_before (shape_in run.config) x.header.stage) (read_is ∙ kept_is),
+          ap
+              (slots_before (shape_in run.config)) stage_is,
+          ap (λ (s : Shape). slots_before s stage) facts.shape_is,
+        ))
 
     same : contents_of mine.row.past ≡ take (slots_before shape stage) (contents_of posts)
     same = ap contents_of (sym embedded) ∙ f.contents
@@ -162,41 +179,54 @@ run-dissents c delivered runs stage posts run among end faithful disagree listed
         ∙ ap (λ (s : ℕ). take (slots_before shape s) (contents_of posts)) stage_is
 
     shows : (shuffle : ℕ) → kind_of_stage shape stage ≡ Some (AtFinal shuffle)
-        → (posts_shown : List (List ℕ)) × (said_in shape (contents_of posts) stage run.config.number ≡ Dispute posts_shown (own_key_seed run.config (outer_place shuffle)) (own_opening run.config shuffle 2))
+        → (posts_shown : List (List ℕ)) × (said_in shape (contents_of posts) stage run.config.number ≡ Dispute posts_shown
+        (own_key_seed run.config (outer_place shuffle)) (own_opening run.config shuffle 2))
     shows shuffle kind =
         let kind_there : kind_of_stage (shape_in run.config) mine.row.stage ≡ Some (AtFinal shuffle) =
         ap (λ (s : Shape). kind_of_stage s mine.row.stage) facts.shape_is ∙ ap (kind_of_stage shape) mine.at ∙ kind in
-        let read : mine.row.read ≡ own_final run shuffle mine.row.past mine.row.stage = final-is run mine.kept.post.content mine.row shuffle facts.honest kind_there in (
+        let read : mine.row.read ≡ own_final run shuffle mine.row.past mine.row.stage = final-is run mine.kept.post.content mine.row shuffle
+        facts.honest kind_there in (
           written mine.row.past,
           said-in (run_after c delivered) posts stage run.config.number mine.kept ∙ ap (λ (x : Content). x.body) (sym read_is ∙ read)
-              ∙ row-dissents (shape_in run.config) mine.row.past mine.row.stage _ _ _ (sym (ap (λ (x : Content). is_assent x.body) read) ∙ dissents),
+              ∙ row-dissents (shape_in run.config) mine.row.past mine.row.stage _ _ _
+              (sym (ap (λ (x : Content). is_assent x.body) read) ∙ dissents),
         )
 
 -- ---- a replay blames nobody
 
 -- what is shown at the end of a shuffle, by member
-shown-there : (v : ClosedStage) (shuffle member : ℕ) → kind_of_stage (shape_at v) v.stage ≡ Some (AtFinal shuffle) → 1 ≤ member → member ≤ (shape_at v).members
+shown-there : (v : ClosedStage) (shuffle member : ℕ) → kind_of_stage (shape_at v) v.stage ≡ Some (AtFinal shuffle) → 1 ≤ member
+    → member ≤ (shape_at v).members
     → slice_get (inquiry_into v).shown (member - 1) ≡ Some (shown_in (closing_body v member))
 shown-there v shuffle member kind least most =
-    ap (λ (o : Option StageKind). slice_get (shown_at v o) (member - 1)) kind ∙ by-member (λ m. shown_in (closing_body v m)) (shape_at v).members member least most
+    ap (λ (o : Option StageKind). slice_get (shown_at v o) (member - 1)) kind
+    ∙ by-member (λ m. shown_in (closing_body v m)) (shape_at v).members member least most
 
-shown-count : (v : ClosedStage) (shuffle : ℕ) → kind_of_stage (shape_at v) v.stage ≡ Some (AtFinal shuffle) → length (inquiry_into v).shown ≡ (shape_at v).members
+shown-count : (v : ClosedStage) (shuffle : ℕ) → kind_of_stage (shape_at v) v.stage ≡ Some (AtFinal shuffle)
+    → length (inquiry_into v).shown ≡ (shape_at v).members
 shown-count v shuffle kind =
-    ap (λ (o : Option StageKind). length (shown_at v o)) kind ∙ length-map-range_with_len (λ m. shown_in (closing_body v m)) 1 (shape_at v).members
+    ap (λ (o : Option StageKind). length (shown_at v o)) kind ∙ length-map-range_with_len (λ m. shown_in (closing_body v m)) 1
+    (shape_at v).members
 
-own-shown : (c : Configuration) (posts : List Post) (stage shuffle : ℕ) (run : Run) → (d : Dissents c posts stage run) → kind_of_stage (shape_in c) stage ≡ Some (AtFinal shuffle)
+own-shown : (c : Configuration) (posts : List Post) (stage shuffle : ℕ) (run : Run) → (d : Dissents c posts stage run)
+    → kind_of_stage (shape_in c) stage ≡ Some (AtFinal shuffle)
     → 1 ≤ run.config.number → run.config.number ≤ (shape_in c).members
     → (outer_seed (inquiry_into (closing_of c posts stage)) run.config.number ≡ own_key_seed run.config (outer_place shuffle))
     × (outer_opening (inquiry_into (closing_of c posts stage)) run.config.number ≡ own_opening run.config shuffle 2)
 own-shown c posts stage shuffle run d kind least most =
     let v : ClosedStage = closing_of c posts stage in
     let said = d.shows shuffle kind in
-    let shown : slice_get (inquiry_into v).shown (run.config.number - 1) ≡ Some (record { outer_seed = own_key_seed run.config (outer_place shuffle); outer_opening = own_opening run.config shuffle 2 }) =
+    let shown : slice_get (inquiry_into v).shown (run.config.number - 1) ≡ Some
+    (record { outer_seed = own_key_seed run.config (outer_place shuffle); outer_opening = own_opening run.config shuffle 2 }) =
     shown-there v shuffle run.config.number kind least most ∙ ap (λ (b : Body). Some (shown_in b)) said.1 in (
-      get_or_from_slice_get (map (λ (s : Shown). s.outer_seed) (inquiry_into v).shown) (run.config.number - 1) (own_key_seed run.config (outer_place shuffle)) []
-          (slice_get-map (λ (s : Shown). s.outer_seed) (inquiry_into v).shown (run.config.number - 1) ∙ ap (option_map (λ (s : Shown). s.outer_seed)) shown),
-      get_or_from_slice_get (map (λ (s : Shown). s.outer_opening) (inquiry_into v).shown) (run.config.number - 1) (own_opening run.config shuffle 2) []
-          (slice_get-map (λ (s : Shown). s.outer_opening) (inquiry_into v).shown (run.config.number - 1) ∙ ap (option_map (λ (s : Shown). s.outer_opening)) shown),
+      get_or_from_slice_get (map (λ (s : Shown). s.outer_seed) (inquiry_into v).shown) (run.config.number - 1)
+          (own_key_seed run.config (outer_place shuffle)) []
+          (slice_get-map (λ (s : Shown). s.outer_seed) (inquiry_into v).shown (run.config.number - 1)
+          ∙ ap (option_map (λ (s : Shown). s.outer_seed)) shown),
+      get_or_from_slice_get (map (λ (s : Shown). s.outer_opening) (inquiry_into v).shown) (run.config.number - 1)
+          (own_opening run.config shuffle 2) []
+          (slice_get-map (λ (s : Shown). s.outer_opening) (inquiry_into v).shown (run.config.number - 1)
+          ∙ ap (option_map (λ (s : Shown). s.outer_opening)) shown),
     )
 
 shuffle-listed : (shape : Shape) (stage shuffle : ℕ) → kind_of_stage shape stage ≡ Some (AtFinal shuffle) → Contains (1 ∷ 2 ∷ []) shuffle
@@ -205,8 +235,10 @@ shuffle-listed shape stage shuffle kind = elim (ends_at shape stage shuffle kind
   | inr b ↦ subst (Contains (1 ∷ 2 ∷ [])) (sym b.0) (contains-later 1 (2 ∷ []) 2 (contains-here 2 []))
 ]
 
-nobody-blamed : (c : Configuration) (delivered : List (List ℕ)) (runs : List Run) (stage : ℕ) (posts : List Post) (found : Fault) → IsAmong c delivered runs → NoRunsCollide runs → AllHaveRuns c runs
-    → IsKeptEnd (run_after c delivered) stage posts → AreFaithful (closing_of c posts stage) → agree_before (closing_of c posts stage) ≡ false
+nobody-blamed : (c : Configuration) (delivered : List (List ℕ)) (runs : List Run) (stage : ℕ) (posts : List Post) (found : Fault)
+    → IsAmong c delivered runs → NoRunsCollide runs → AllHaveRuns c runs
+    → IsKeptEnd (run_after c delivered) stage posts → AreFaithful (closing_of c posts stage)
+    → agree_before (closing_of c posts stage) ≡ false
     → culprit_of (inquiry_into (closing_of c posts stage)) ≡ Some found → ⊥
 nobody-blamed c delivered runs stage posts found among distinct all end faithful disagree e =
     replay_not_own run.0 q (strings_of_runs runs) found its own_inquiry end.closing shown e (sym run.1.number)
@@ -261,22 +293,27 @@ nobody-blamed c delivered runs stage posts found among distinct all end faithful
       shown = λ member layer is its_layer. layer-there shuffle member layer kind is.least is.most its_layer.least its_layer.most;
     }
       where
-        layer-there : (shuffle member layer : ℕ) → kind_of_stage shape stage ≡ Some (AtFinal shuffle) → 1 ≤ member → member ≤ shape.members → 1 ≤ layer → layer ≤ shape.members
+        layer-there : (shuffle member layer : ℕ) → kind_of_stage shape stage ≡ Some (AtFinal shuffle) → 1 ≤ member → member ≤ shape.members
+            → 1 ≤ layer → layer ≤ shape.members
             → Contains (strings_of_runs runs) (layer_seed_string (outer_opening q member) c.round shuffle 2 member layer)
         layer-there shuffle member layer kind least most first last =
             let other = of-member shuffle member kind least most in
             let its_facts = run-facts c runs other.0 among.honest other.1.listed in
             let there_is = contains-flat-from strings_of_run runs other.0 _ other.1.listed
-            ((run_has_strings other.0).own_layers shuffle 2 layer (shuffle-listed shape stage shuffle kind) (contains-later 1 (2 ∷ []) 2 (contains-here 2 [])) first
+            ((run_has_strings other.0).own_layers shuffle 2 layer (shuffle-listed shape stage shuffle kind)
+            (contains-later 1 (2 ∷ []) 2 (contains-here 2 [])) first
             (subst (λ (s : Shape). layer ≤ s.members) (sym its_facts.shape_is) last)) in
             subst (λ (o : List ℕ). Contains (strings_of_runs runs) (layer_seed_string o c.round shuffle 2 member layer)) (sym other.2)
-            (subst (λ (m : ℕ). Contains (strings_of_runs runs) (layer_seed_string (own_opening other.0.config shuffle 2) c.round shuffle 2 m layer)) other.1.number
-            (subst (λ (r : ℕ). Contains (strings_of_runs runs) (layer_seed_string (own_opening other.0.config shuffle 2) r shuffle 2 other.0.config.number layer)) other.1.round there_is))
+            (subst (λ (m : ℕ). Contains (strings_of_runs runs) (layer_seed_string (own_opening other.0.config shuffle 2) c.round shuffle 2 m
+            layer)) other.1.number
+            (subst (λ (r : ℕ). Contains (strings_of_runs runs) (layer_seed_string (own_opening other.0.config shuffle 2) r shuffle 2
+            other.0.config.number layer)) other.1.round there_is))
 
 -- ---- by claim
 
 -- a replay is shown of nobody
-no-replay : (c : Configuration) (delivered : List (List ℕ)) (runs : List Run) (t : Transcript) → IsAmong c delivered runs → NoRunsCollide runs → AllHaveRuns c runs
+no-replay : (c : Configuration) (delivered : List (List ℕ)) (runs : List Run) (t : Transcript) → IsAmong c delivered runs
+    → NoRunsCollide runs → AllHaveRuns c runs
     → result_of c delivered ≡ Blamed t → t.claim ≡ Replay → ⊥
 no-replay c delivered runs t among distinct all e claim = elim (ending-cases c part (Convicts t) blame.ends) [
   | inl last ↦ elim last.shows [
@@ -284,8 +321,11 @@ no-replay c delivered runs t among distinct all e claim = elim (ending-cases c p
     | inr other ↦ other-claim t _ _ other.verdict_is refl claim (λ same. absurd cc)
   ]
   | inr course ↦
-      let closed = stand-closed c (first_posts c part) (Convicts t) among.config (firsts-check c part part_bytes) course.1 (λ goes. convicts-not t Goes (inl refl) goes) in
-      of-verdict closed.0 (course_of c (first_posts c part)).past (subst (λ (run : Run). IsKeptEnd run closed.0 (course_of c (first_posts c part)).past) (sym blame.run_is) closed.1.kept) closed.1.verdict_is
+      let closed = stand-closed c (first_posts c part) (Convicts t) among.config (firsts-check c part part_bytes) course.1
+      (λ goes. convicts-not t Goes (inl refl) goes) in
+      of-verdict closed.0 (course_of c (first_posts c part)).past
+      (subst (λ (run : Run). IsKeptEnd run closed.0 (course_of c (first_posts c part)).past) (sym blame.run_is) closed.1.kept)
+      closed.1.verdict_is
 ]
   where
     blame : IsBlame c delivered t
@@ -297,11 +337,14 @@ no-replay c delivered runs t among distinct all e claim = elim (ending-cases c p
     part_bytes : All IsBytes part
     part_bytes = All-take IsBytes blame.count delivered among.bytes
 
-    other-claim : (t other : Transcript) (v : Verdict) → v ≡ Convicts other → Convicts t ≡ v → t.claim ≡ Replay → (other.claim ≡ Replay → ⊥) → ⊥
+    other-claim : (t other : Transcript) (v : Verdict) → v ≡ Convicts other → Convicts t ≡ v → t.claim ≡ Replay → (other.claim ≡ Replay → ⊥)
+        → ⊥
     other-claim t other v is same its apart = apart (sym (ap (λ (x : Transcript). x.claim) (transcript-same t other (same ∙ is))) ∙ its)
 
-    of-verdict : (stage : ℕ) (posts : List Post) → IsKeptEnd (run_after c delivered) stage posts → verdict_of (closing_of c posts stage) ≡ Convicts t → ⊥
-    of-verdict stage posts end verdict = by_case (verdict_cases (closing_of c posts stage) (whole-end (run_after c delivered) stage posts end))
+    of-verdict : (stage : ℕ) (posts : List Post) → IsKeptEnd (run_after c delivered) stage posts
+        → verdict_of (closing_of c posts stage) ≡ Convicts t → ⊥
+    of-verdict stage posts end verdict = by_case (verdict_cases (closing_of c posts stage)
+        (whole-end (run_after c delivered) stage posts end))
       where
         by_case : Case (closing_of c posts stage) (verdict_of (closing_of c posts stage)) → ⊥
         by_case (ByBadLog is) = other-claim t _ _ is.verdict_is (sym verdict) claim (λ same. absurd cc)
@@ -319,7 +362,8 @@ nothing_but_pads c delivered runs t among distinct all e = by_claim t.claim refl
     accepts = evidence_accepted c delivered t among.config among.bytes e
 
     same : accepts.accepts.transcript ≡ t
-    same = transcript-one (shape_of_roster c.roster) accepts.accepts.transcript t (shape-is c among.config.enter) accepts.accepts.form (accepts.accepts.spelled) accepts.form
+    same = transcript-one (shape_of_roster c.roster) accepts.accepts.transcript t (shape-is c among.config.enter) accepts.accepts.form
+        (accepts.accepts.spelled) accepts.form
 
     shows : Shows c.roster t t.claim
     shows = subst (λ (x : Transcript). Shows c.roster x t.claim) same accepts.accepts.convicts
@@ -333,8 +377,10 @@ nothing_but_pads c delivered runs t among distinct all e = by_claim t.claim refl
     said : SaidBy c.roster runs t.accused t.round t.posts
     said bytes post header there_is spelled admitted sender =
         subst (λ (n : ℕ). Sent runs n post.content) sender
-        (traced-sent runs (run_after c delivered) delivered bytes post header t.round (run_after_is_honest c delivered among.config among.bytes) among.own among.unforged
-        (evidence-traced c delivered t among.config among.bytes e bytes there_is) spelled admitted (run.0, run.1.listed, run.1.number ∙ sym sender))
+        (traced-sent runs (run_after c delivered) delivered bytes post header t.round
+        (run_after_is_honest c delivered among.config among.bytes) among.own among.unforged
+        (evidence-traced c delivered t among.config among.bytes e bytes there_is) spelled admitted
+        (run.0, run.1.listed, run.1.number ∙ sym sender))
 
     by_claim : (claim : Claim) → t.claim ≡ claim → Shows c.roster t claim → t.claim ≡ Pad
     by_claim Pad is shown = is

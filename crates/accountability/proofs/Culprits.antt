@@ -24,17 +24,20 @@ use Rattle.conviction.proofs.Replays.{unless-found}
 abbrev IsOneOf : Inquiry → ℕ → Type 0
 IsOneOf q member = (1 ≤ member) × (member ≤ q.shape.members)
 
-first-one : (q : Inquiry) (fault_at : ℕ → Option Fault) (found : Fault) → ((member : ℕ) (f : Fault) → IsOneOf q member → fault_at member ≡ Some f → IsOneOf q f.member)
+first-one : (q : Inquiry) (fault_at : ℕ → Option Fault) (found : Fault)
+    → ((member : ℕ) (f : Fault) → IsOneOf q member → fault_at member ≡ Some f → IsOneOf q f.member)
     → first_member q fault_at ≡ Some found → IsOneOf q found.member
 first-one q fault_at found names e =
     let at = first_below-found (λ place. fault_at (place + 1)) q.shape.members found e in
     let within = at.1 in
     names (at.0 + 1) found (omega arith, omega arith) at.2
 
-unless-one : (q : Inquiry) (member : ℕ) (b : Bool) (x found : Fault) → x.member ≡ member → IsOneOf q member → fault_unless b x ≡ Some found → IsOneOf q found.member
+unless-one : (q : Inquiry) (member : ℕ) (b : Bool) (x found : Fault) → x.member ≡ member → IsOneOf q member → fault_unless b x ≡ Some found
+    → IsOneOf q found.member
 unless-one q member b x found is one e = subst (IsOneOf q) (sym is ∙ ap (λ (f : Fault). f.member) (unless-found b x found e).1) one
 
-wrong-speaks : (shape : Shape) (past : List (List ℕ)) (number : ℕ) (slot : Slot) → wrong_at shape past number ≡ Some slot → is_slot shape slot.stage slot.sender ≡ true
+wrong-speaks : (shape : Shape) (past : List (List ℕ)) (number : ℕ) (slot : Slot) → wrong_at shape past number ≡ Some slot
+    → is_slot shape slot.stage slot.sender ≡ true
 wrong-speaks shape past number slot e = by_slot (slot_at shape number) refl
   where
     some-slot : (a b : Slot) → (let told : Slot → Option Slot = λ z. Some z in told a ≡ told b) → a ≡ b
@@ -86,23 +89,25 @@ two-one q found e = elim (first_some-some_parts (view_fault q) (vote_fault q ∷
 ]
 
 five-one : (q : Inquiry) (shuffle : ℕ) (found : Fault)
-    → first_some (view_fault q ∷ seed_fault q shuffle ∷ submission_fault q shuffle ∷ turn_fault q ∷ vote_fault q ∷ []) ≡ Some found → IsOneOf q found.member
-five-one q shuffle found e = elim (first_some-some_parts (view_fault q) (seed_fault q shuffle ∷ submission_fault q shuffle ∷ turn_fault q ∷ vote_fault q ∷ []) found e) [
-  | inl view ↦ view-one q found view
-  | inr a ↦ elim (first_some-some_parts (seed_fault q shuffle) (submission_fault q shuffle ∷ turn_fault q ∷ vote_fault q ∷ []) found a.1) [
-    | inl seed ↦ seed-one q shuffle found seed
-    | inr b ↦ elim (first_some-some_parts (submission_fault q shuffle) (turn_fault q ∷ vote_fault q ∷ []) found b.1) [
-      | inl submitted ↦ submission-one q shuffle found submitted
-      | inr c ↦ elim (first_some-some_parts (turn_fault q) (vote_fault q ∷ []) found c.1) [
-        | inl turn ↦ turn-one q found turn
-        | inr d ↦ elim (first_some-some_parts (vote_fault q) [] found d.1) [
-          | inl vote ↦ vote-one q found vote
-          | inr nothing ↦ absurd (none-some found nothing.1)
+    → first_some (view_fault q ∷ seed_fault q shuffle ∷ submission_fault q shuffle ∷ turn_fault q ∷ vote_fault q ∷ []) ≡ Some found
+    → IsOneOf q found.member
+five-one q shuffle found e = elim (first_some-some_parts (view_fault q)
+    (seed_fault q shuffle ∷ submission_fault q shuffle ∷ turn_fault q ∷ vote_fault q ∷ []) found e) [
+      | inl view ↦ view-one q found view
+      | inr a ↦ elim (first_some-some_parts (seed_fault q shuffle) (submission_fault q shuffle ∷ turn_fault q ∷ vote_fault q ∷ []) found a.1) [
+        | inl seed ↦ seed-one q shuffle found seed
+        | inr b ↦ elim (first_some-some_parts (submission_fault q shuffle) (turn_fault q ∷ vote_fault q ∷ []) found b.1) [
+          | inl submitted ↦ submission-one q shuffle found submitted
+          | inr c ↦ elim (first_some-some_parts (turn_fault q) (vote_fault q ∷ []) found c.1) [
+            | inl turn ↦ turn-one q found turn
+            | inr d ↦ elim (first_some-some_parts (vote_fault q) [] found d.1) [
+              | inl vote ↦ vote-one q found vote
+              | inr nothing ↦ absurd (none-some found nothing.1)
+            ]
+          ]
         ]
       ]
     ]
-  ]
-]
 
 pub culprit-one : (q : Inquiry) (found : Fault) → culprit_of q ≡ Some found → (1 ≤ found.member) × (found.member ≤ q.shape.members)
 culprit-one q found e = by_kind (kind_of_stage q.shape q.stage) e

@@ -46,11 +46,13 @@ none-ends : (c : Configuration) (delivered : List (List ℕ)) → least_ending c
 unfolding least_ending
 none-ends c delivered e =
     nothing_mapped (λ (verdict : Verdict). (length delivered, verdict)) (ending_of c delivered)
-    (sym (ending-all c delivered (length delivered) (omega arith)) ∙ first_below-each (ending_at c delivered) (suc (length delivered)) e (length delivered) (omega arith))
+    (sym (ending-all c delivered (length delivered) (omega arith))
+    ∙ first_below-each (ending_at c delivered) (suc (length delivered)) e (length delivered) (omega arith))
 
 -- ---- what a string shows
 
-pub and-then-parts : {A B : Type 0} (f : A → Option B) (o : Option A) (y : B) → option_and_then f o ≡ Some y → (x : A) × (o ≡ Some x) × (f x ≡ Some y)
+pub and-then-parts : {A B : Type 0} (f : A → Option B) (o : Option A) (y : B) → option_and_then f o ≡ Some y → (x : A) × (o ≡ Some x)
+    × (f x ≡ Some y)
 and-then-parts f None y e = absurd (none-some y e)
 and-then-parts f (Some x) y e = (x, refl, e)
 
@@ -73,8 +75,10 @@ pub record IsContradiction (c : Configuration) (firsts : Others) (bytes : List �
 pub fault-cases : (c : Configuration) (firsts : Others) (bytes : List ℕ) (verdict : Verdict) → fault_shown c firsts bytes ≡ Some verdict
     → IsMalformed c bytes verdict ⊎ IsContradiction c firsts bytes verdict
 fault-cases c firsts bytes verdict e =
-    let heard = and-then-parts (λ (heard : Heard). first_some (malformed_conviction c bytes heard ∷ contradiction c firsts bytes heard ∷ [])) (heard_of c bytes) verdict e in
-    by_fault heard.0 heard.1 (first_some-some_parts (malformed_conviction c bytes heard.0) (contradiction c firsts bytes heard.0 ∷ []) verdict heard.2)
+    let heard = and-then-parts (λ (heard : Heard). first_some (malformed_conviction c bytes heard ∷ contradiction c firsts bytes heard ∷
+    [])) (heard_of c bytes) verdict e in
+    by_fault heard.0 heard.1 (first_some-some_parts (malformed_conviction c bytes heard.0) (contradiction c firsts bytes heard.0 ∷ [])
+    verdict heard.2)
   where
     by_malformed : (heard : Heard) → heard_of c bytes ≡ Some heard → malformed_conviction c bytes heard ≡ Some verdict
         → IsMalformed c bytes verdict
@@ -103,11 +107,13 @@ fault-cases c firsts bytes verdict e =
     ]
 
     by_fault : (heard : Heard) → heard_of c bytes ≡ Some heard
-        → (malformed_conviction c bytes heard ≡ Some verdict) ⊎ ((malformed_conviction c bytes heard ≡ None) × (first_some (contradiction c firsts bytes heard ∷ []) ≡ Some verdict))
+        → (malformed_conviction c bytes heard ≡ Some verdict) ⊎
+        ((malformed_conviction c bytes heard ≡ None) × (first_some (contradiction c firsts bytes heard ∷ []) ≡ Some verdict))
         → IsMalformed c bytes verdict ⊎ IsContradiction c firsts bytes verdict
     by_fault heard is (inl here) = inl (by_malformed heard is here)
     by_fault heard is (inr later) = elim (first_some-some_parts (contradiction c firsts bytes heard) [] verdict later.1) [
-      | inl here ↦ (let first = and-then-parts (contradiction_with c bytes heard) (firsts (slot_named heard.header)) verdict here in inr (by_first heard is first.0 first.1 first.2))
+      | inl here ↦ (let first = and-then-parts (contradiction_with c bytes heard) (firsts (slot_named heard.header)) verdict here in inr
+          (by_first heard is first.0 first.1 first.2))
       | inr nothing ↦ absurd (none-some verdict nothing.1)
     ]
 
@@ -121,17 +127,29 @@ pub record EndsByLast (c : Configuration) (delivered : List (List ℕ)) (verdict
   pub shows : IsMalformed c bytes verdict ⊎ IsContradiction c (first_posts c delivered) bytes verdict
 
 last-listed : (delivered : List (List ℕ)) (bytes : List ℕ) → last_of delivered ≡ Some bytes → Contains delivered bytes
-last-listed delivered bytes e = (length delivered - 1, slice_get_within delivered (length delivered - 1) bytes e, get_or_from_slice_get delivered (length delivered - 1) bytes bytes e)
+last-listed delivered bytes e = (
+  length delivered - 1,
+  slice_get_within delivered (length delivered - 1) bytes e,
+  get_or_from_slice_get
+      delivered (length delivered - 1) bytes bytes e,
+)
 
 -- or the course has come to a verdict that ends the round
 pub ending-cases : (c : Configuration) (delivered : List (List ℕ)) (verdict : Verdict) → ending_of c delivered ≡ Some verdict
     → EndsByLast c delivered verdict ⊎ ((is_open verdict ≡ false) × ((stand_after c delivered).verdict ≡ verdict))
 unfolding ending_of
 ending-cases c delivered verdict e =
-    elim (first_some-some_parts (option_and_then (fault_shown c (first_posts c delivered)) (last_of delivered)) (ending_verdict (stand_after c delivered).verdict ∷ []) verdict e) [
+    elim (first_some-some_parts (option_and_then (fault_shown c (first_posts c delivered)) (last_of delivered))
+    (ending_verdict (stand_after c delivered).verdict ∷ []) verdict e) [
       | inl here ↦
           let last = and-then-parts (fault_shown c (first_posts c delivered)) (last_of delivered) verdict here in
-          inl (record { bytes = last.0; listed = last-listed delivered last.0 last.1; shows_it = last.2; shows = fault-cases c (first_posts c delivered) last.0 verdict last.2 })
+          inl (record {
+            bytes = last.0;
+            listed = last-listed delivered last.0 last.1;
+            shows_it = last.2;
+            shows = fault-cases c
+                (first_posts c delivered) last.0 verdict last.2;
+          })
       | inr later ↦ elim (first_some-some_parts (ending_verdict (stand_after c delivered).verdict) [] verdict later.1) [
         | inl here ↦ inr (ending-closed (stand_after c delivered).verdict verdict here)
         | inr nothing ↦ absurd (none-some verdict nothing.1)
@@ -155,7 +173,8 @@ pub record IsEnded (c : Configuration) (delivered : List (List ℕ)) (outcome : 
   pub closed : is_open verdict ≡ false
   pub outcome_is : outcome ≡ outcome_ended c (stand_after c (take count delivered)) verdict
 
-ending-is_closed : (c : Configuration) (delivered : List (List ℕ)) (verdict : Verdict) → ending_of c delivered ≡ Some verdict → is_open verdict ≡ false
+ending-is_closed : (c : Configuration) (delivered : List (List ℕ)) (verdict : Verdict) → ending_of c delivered ≡ Some verdict
+    → is_open verdict ≡ false
 ending-is_closed c delivered verdict e = elim (ending-cases c delivered verdict e) [
   | inl last ↦ elim last.shows [
     | inl malformed ↦ ap is_open malformed.verdict_is
@@ -164,12 +183,14 @@ ending-is_closed c delivered verdict e = elim (ending-cases c delivered verdict 
   | inr course ↦ course.0
 ]
 
-pub outcome-cases : (c : Configuration) (delivered : List (List ℕ)) → IsOpenEnd c delivered (result_of c delivered) ⊎ IsEnded c delivered (result_of c delivered)
+pub outcome-cases : (c : Configuration) (delivered : List (List ℕ)) → IsOpenEnd c delivered (result_of c delivered)
+    ⊎ IsEnded c delivered (result_of c delivered)
 unfolding result_of
 outcome-cases c delivered = by_least (least_ending c delivered) refl
   where
     by_least : (o : Option (ℕ × Verdict)) → least_ending c delivered ≡ o
-        → IsOpenEnd c delivered (outcome_by c delivered (least_ending c delivered)) ⊎ IsEnded c delivered (outcome_by c delivered (least_ending c delivered))
+        → IsOpenEnd c delivered (outcome_by c delivered (least_ending c delivered))
+        ⊎ IsEnded c delivered (outcome_by c delivered (least_ending c delivered))
     by_least None e = inl (record {
       least = e;
       goes_on = ending-open (stand_after c delivered).verdict (ending-parts c delivered (none-ends c delivered e));

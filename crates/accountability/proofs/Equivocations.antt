@@ -76,7 +76,8 @@ embedded-bytes (Check vote) is = tt
 
 -- ---- what is embedded is of earlier slots
 
-earlier-slot : (shape : Shape) (content : Content) (slot : Slot) → is_closing shape content.header.stage ≡ true → Contains (slots_embedded shape content) slot
+earlier-slot : (shape : Shape) (content : Content) (slot : Slot) → is_closing shape content.header.stage ≡ true
+    → Contains (slots_embedded shape content) slot
     → (is_slot shape slot.stage slot.sender ≡ true) × (slot.stage < content.header.stage)
 earlier-slot shape content slot closing listed = elim (cases_Bool (is_assent content.body)) [
   | inl assents ↦ (let at = (assent-slots shape content slot closing assents).0 listed in let next = at.1 in (at.0, omega (arith, next)))
@@ -100,11 +101,15 @@ embeds-there run stage member posts content pair end is reads justified listed =
     let k = kept-end run stage member posts end is in
     let content_is : k.checks.content ≡ content = content-is run stage member posts content k reads in
     let bytes = subst (λ (x : Content). IsBytes (body_text x.body)) content_is (body-bytes run posts stage member k) in
-    let stage_is : content.header.stage ≡ stage = ap (λ (x : Content). x.header.stage) (sym content_is) ∙ content-stage run posts stage member k in
-    let is_justified = (justified_exactly c.roster c.round content (all-places IsBytes (posts_embedded content.body) (embedded-bytes content.body bytes))).0 justified in
-    let found = all-zip-at (λ (p : Slot × List ℕ) (post : Post). IsPostOf c.roster c.round p.0 p.1 post) (embedded_pairs c.roster content) is_justified.posts pair is_justified.embeds listed in
+    let stage_is : content.header.stage ≡ stage = ap (λ (x : Content). x.header.stage) (sym content_is)
+    ∙ content-stage run posts stage member k in
+    let is_justified = (justified_exactly c.roster c.round content
+    (all-places IsBytes (posts_embedded content.body) (embedded-bytes content.body bytes))).0 justified in
+    let found = all-zip-at (λ (p : Slot × List ℕ) (post : Post). IsPostOf c.roster c.round p.0 p.1 post) (embedded_pairs c.roster content)
+    is_justified.posts pair is_justified.embeds listed in
     let closing : is_closing shape content.header.stage ≡ true = ap (is_closing shape) stage_is ∙ end.closing in
-    let slot = earlier-slot shape content pair.0 closing (zip-first (slots_embedded shape content) (posts_embedded content.body) pair listed) in
+    let slot = earlier-slot shape content pair.0 closing (zip-first (slots_embedded shape content) (posts_embedded content.body) pair
+    listed) in
     record { post = found.0; file = found.1; speaks = slot.0; earlier = subst (λ (s : ℕ). pair.0.stage < s) stage_is slot.1 }
 
 pub equivocation_accepted : AcceptedFor IsEquivocation
@@ -119,10 +124,13 @@ equivocation_accepted run stage posts t end is =
     let few = posts_are_short c.roster c.round e.post e.file.content.header e.file.admitted in
     let most = e.file.admitted.frame.most in
     let same : t ≡ two-evidence c.round is.pair.0.sender (post_spelling kk.post) is.pair.1 =
-    transcript-same t _ is.verdict_is ∙ ap (λ (bytes : List ℕ). two-evidence c.round is.pair.0.sender bytes is.pair.1) (sent-in run posts stage is.pair.0.stage is.pair.0.sender kk) in
+    transcript-same t _ is.verdict_is ∙ ap (λ (bytes : List ℕ). two-evidence c.round is.pair.0.sender bytes is.pair.1)
+    (sent-in run posts stage is.pair.0.stage is.pair.0.sender kk) in
     subst (IsAccepted c.roster) (sym same)
-    (two-shown c.roster c.round is.pair.0 (post_spelling kk.post) is.pair.1 kk.post.content e.post.content kk.checks.content.header e.file.content.header
-    end.honest.config.enter.round (spelled-few run posts is.pair.0.stage is.pair.0.sender kk) (omega (arith, few, most, ap length e.file.spelled))
+    (two-shown c.roster c.round is.pair.0 (post_spelling kk.post) is.pair.1 kk.post.content e.post.content kk.checks.content.header
+    e.file.content.header
+    end.honest.config.enter.round (spelled-few run posts is.pair.0.stage is.pair.0.sender kk)
+    (omega (arith, few, most, ap length e.file.spelled))
     (file-says c (record { stage = is.pair.0.stage; sender = is.pair.0.sender }) kk.post kk.checks)
     (record { signature = e.post.signature; spelled = e.file.spelled; admitted = e.file.admitted })
     kk.checks.named e.file.named

@@ -105,7 +105,8 @@ stand-closed c others verdict is check e ends = (
 
     kept : before (settled_log c others) (stage + 1) ≡ Some stand.past
     kept = ap (before (settled_log c others)) at ∙ before-settled c others stand.at reached (omega arith)
-        ∙ ap (λ (xs : List Post). Some xs) (take_all (slots_before (shape_in c) stand.at) stand.past (let whole = reached.whole in omega (arith, whole)))
+        ∙ ap (λ (xs : List Post). Some xs) (take_all (slots_before (shape_in c) stand.at) stand.past
+        (let whole = reached.whole in omega (arith, whole)))
 
 pub firsts-check : (c : Configuration) (delivered : List (List ℕ)) → All IsBytes delivered → OthersCheck c (first_posts c delivered)
 firsts-check c delivered all slot post e = (first_posts_delivered c delivered slot post all e).checks
@@ -121,10 +122,13 @@ evidence_accepted c delivered t is all e = elim (outcome-cases c delivered) [
 
     by_ending : (part : List (List ℕ)) → All IsBytes part → ending_of c part ≡ Some (Convicts t) → IsAccepted c.roster t
     by_ending part bytes ends = elim (ending-cases c part (Convicts t) ends) [
-      | inl last ↦ fault_accepted c (first_posts c part) last.bytes t is (firsts-check c part bytes) (All-contains IsBytes part last.bytes bytes last.listed) last.shows_it
+      | inl last ↦ fault_accepted c (first_posts c part) last.bytes t is (firsts-check c part bytes)
+          (All-contains IsBytes part last.bytes bytes last.listed) last.shows_it
       | inr course ↦
-          let closed = stand-closed c (first_posts c part) (Convicts t) is (firsts-check c part bytes) course.1 (λ goes. convicts-not t Goes (inl refl) goes) in
-          verdict_accepted (settled_run c (first_posts c part)) closed.0 (course_of c (first_posts c part)).past t closed.1.kept closed.1.verdict_is
+          let closed = stand-closed c (first_posts c part) (Convicts t) is (firsts-check c part bytes) course.1
+          (λ goes. convicts-not t Goes (inl refl) goes) in
+          verdict_accepted (settled_run c (first_posts c part)) closed.0 (course_of c (first_posts c part)).past t closed.1.kept
+          closed.1.verdict_is
     ]
 
     convicted : (count : ℕ) (verdict : Verdict) → ending_of c (take count delivered) ≡ Some verdict

@@ -48,11 +48,13 @@ header-same a b r e e' = let both = sym e ∙ e' in cc
 -- ---- post files
 
 -- what checks is admitted with the header of its content
-pub checks-header : (c : Configuration) (slot : Slot) (post : Post) (is : ChecksIn c slot post) → Admitted c.roster c.round post is.content.header
+pub checks-header : (c : Configuration) (slot : Slot) (post : Post) (is : ChecksIn c slot post)
+    → Admitted c.roster c.round post is.content.header
 checks-header c slot post is =
     let admitted = checks-admitted c slot post is in
     let parts = checks-parts c.roster c.round post is.content is.checks in
-    let same = header-same admitted.0 is.content.header (header_of post.content) admitted.1.reads (content-header (shape_of_roster c.roster) post.content is.content parts.2) in
+    let same = header-same admitted.0 is.content.header (header_of post.content) admitted.1.reads
+    (content-header (shape_of_roster c.roster) post.content is.content parts.2) in
     subst (Admitted c.roster c.round post) same admitted.1
 
 -- so it says its content
@@ -61,7 +63,8 @@ pub file-says : (c : Configuration) (slot : Slot) (post : Post) (is : ChecksIn c
 file-says c slot post is = record { signature = post.signature; spelled = refl; admitted = checks-header c slot post is }
 
 -- and is a post file
-pub file-of : (c : Configuration) (slot : Slot) (post : Post) (is : ChecksIn c slot post) → IsPostFile c.roster c.round (post_spelling post) is.content
+pub file-of : (c : Configuration) (slot : Slot) (post : Post) (is : ChecksIn c slot post)
+    → IsPostFile c.roster c.round (post_spelling post) is.content
 file-of c slot post is = record {
   text = post.content;
   says = file-says c slot post is;
@@ -76,7 +79,8 @@ pub record KeptIn (run : Run) (posts : List Post) (stage member : ℕ) : Type 0 
   pub at : slice_get posts (slot_number (shape_in run.config) stage member) ≡ Some post
   pub checks : ChecksIn run.config (record { stage = stage; sender = member }) post
 
-pub kept-in : (run : Run) (later stage member : ℕ) (posts : List Post) → IsPast run later posts → is_slot (shape_in run.config) stage member ≡ true
+pub kept-in : (run : Run) (later stage member : ℕ) (posts : List Post) → IsPast run later posts
+    → is_slot (shape_in run.config) stage member ≡ true
     → stage < later → KeptIn run posts stage member
 kept-in run later stage member posts is speaks lt =
     let shape = shape_in run.config in
@@ -98,10 +102,12 @@ pub content-reads : (run : Run) (posts : List Post) (stage member : ℕ) (k : Ke
     → content_read (shape_in run.config) k.post.content ≡ Ok k.checks.content
 content-reads run posts stage member k = (checks-parts run.config.roster run.config.round k.post k.checks.content k.checks.checks).2
 
-pub content-sender : (run : Run) (posts : List Post) (stage member : ℕ) (k : KeptIn run posts stage member) → k.checks.content.header.sender ≡ member
+pub content-sender : (run : Run) (posts : List Post) (stage member : ℕ) (k : KeptIn run posts stage member)
+    → k.checks.content.header.sender ≡ member
 content-sender run posts stage member k = ap (λ (s : Slot). s.sender) k.checks.named
 
-pub content-stage : (run : Run) (posts : List Post) (stage member : ℕ) (k : KeptIn run posts stage member) → k.checks.content.header.stage ≡ stage
+pub content-stage : (run : Run) (posts : List Post) (stage member : ℕ) (k : KeptIn run posts stage member)
+    → k.checks.content.header.stage ≡ stage
 content-stage run posts stage member k = ap (λ (s : Slot). s.stage) k.checks.named
 
 -- in the words of a closed stage
@@ -122,14 +128,17 @@ said-in run posts stage member k =
 pub closing-reads : (run : Run) (posts : List Post) (stage member : ℕ) (k : KeptIn run posts stage member)
     → closing_content (closing_of run.config posts stage) member ≡ Ok k.checks.content
 closing-reads run posts stage member k =
-    ap (λ (p : Post). content_read (shape_in run.config) p.content) (post-in run posts stage stage member k) ∙ content-reads run posts stage member k
+    ap (λ (p : Post). content_read (shape_in run.config) p.content) (post-in run posts stage stage member k)
+    ∙ content-reads run posts stage member k
 
 pub sent-in : (run : Run) (posts : List Post) (end stage member : ℕ) (k : KeptIn run posts stage member)
     → sent_in (closing_of run.config posts end) stage member ≡ post_spelling k.post
 sent-in run posts end stage member k = ap post_spelling (post-in run posts end stage member k)
 
-pub spelled-few : (run : Run) (posts : List Post) (stage member : ℕ) (k : KeptIn run posts stage member) → length (post_spelling k.post) < 2 ^ 32
-spelled-few run posts stage member k = spelled-short run.config (record { stage = stage; sender = member }) k.post (checks-read run.config (record { stage = stage; sender = member }) k.post k.checks)
+pub spelled-few : (run : Run) (posts : List Post) (stage member : ℕ) (k : KeptIn run posts stage member)
+    → length (post_spelling k.post) < 2 ^ 32
+spelled-few run posts stage member k = spelled-short run.config (record { stage = stage; sender = member }) k.post
+    (checks-read run.config (record { stage = stage; sender = member }) k.post k.checks)
 
 -- ---- the end of a closing stage
 
@@ -137,7 +146,8 @@ pub closing-kind : (shape : Shape) (stage : ℕ) → is_closing shape stage ≡ 
 closing-kind shape stage closing = by_kind (kind_of_stage shape stage) refl
   where
     never : (o : Option StageKind) → kind_of_stage shape stage ≡ o → is_some (option_and_then vote_of o) ≡ false → ClosingKind shape stage
-    never o e none = absurd (let both = sym none ∙ sym (ap (λ (x : Option StageKind). is_some (option_and_then vote_of x)) e) ∙ closing in cc)
+    never o e none = absurd (let both = sym none ∙ sym (ap (λ (x : Option StageKind). is_some (option_and_then vote_of x)) e)
+        ∙ closing in cc)
 
     by_kind : (o : Option StageKind) → kind_of_stage shape stage ≡ o → ClosingKind shape stage
     by_kind (Some (AtFinal shuffle)) e = final-closes shape stage shuffle e
@@ -154,7 +164,8 @@ pub end-past : (run : Run) (stage : ℕ) (posts : List Post) → IsKeptEnd run s
 end-past run stage posts end = is-past run (stage + 1) posts end.honest end.kept
 
 -- the post of a member at the end
-pub kept-end : (run : Run) (stage member : ℕ) (posts : List Post) → IsKeptEnd run stage posts → IsMemberOf (closing_of run.config posts stage) member
+pub kept-end : (run : Run) (stage member : ℕ) (posts : List Post) → IsKeptEnd run stage posts
+    → IsMemberOf (closing_of run.config posts stage) member
     → KeptIn run posts stage member
 kept-end run stage member posts end is =
     let kind = closing-kind (shape_in run.config) stage end.closing in
@@ -180,7 +191,8 @@ whole-end run stage posts end =
       posts = is.long;
       named = λ member content one reads. (
           let k = kept-end run stage member posts end one in
-          let same = contents-same content k.checks.content (closing_content (closing_of run.config posts stage) member) reads (closing-reads run posts stage member k) in
+          let same = contents-same content k.checks.content (closing_content (closing_of run.config posts stage) member) reads
+          (closing-reads run posts stage member k) in
           ap (λ (x : Content). x.header.stage) same ∙ content-stage run posts stage member k);
     }
 
@@ -202,13 +214,17 @@ accept roster t form shows = record {
 pub content-grammar : (run : Run) (posts : List Post) (stage member : ℕ) (k : KeptIn run posts stage member)
     → OfGrammar (shape_in run.config) k.checks.content
 content-grammar run posts stage member k =
-    let said = said-there run.config (record { stage = stage; sender = member }) k.post (checks-read run.config (record { stage = stage; sender = member }) k.post k.checks) in
+    let said = said-there run.config (record { stage = stage; sender = member }) k.post
+    (checks-read run.config (record { stage = stage; sender = member }) k.post k.checks) in
     subst (OfGrammar (shape_in run.config))
-    (contents-same said.content k.checks.content (content_read (shape_in run.config) k.post.content) said.reads (content-reads run posts stage member k)) said.grammar
+    (contents-same said.content k.checks.content (content_read (shape_in run.config) k.post.content) said.reads
+    (content-reads run posts stage member k)) said.grammar
 
-pub body-at : (run : Run) (posts : List Post) (stage member : ℕ) (k : KeptIn run posts stage member) → IsBody (shape_in run.config) stage k.checks.content.body
+pub body-at : (run : Run) (posts : List Post) (stage member : ℕ) (k : KeptIn run posts stage member)
+    → IsBody (shape_in run.config) stage k.checks.content.body
 body-at run posts stage member k =
-    subst (λ (s : ℕ). IsBody (shape_in run.config) s k.checks.content.body) (content-stage run posts stage member k) (content-grammar run posts stage member k).1
+    subst (λ (s : ℕ). IsBody (shape_in run.config) s k.checks.content.body) (content-stage run posts stage member k)
+    (content-grammar run posts stage member k).1
 
 -- by the kind of its stage
 pub body-of_kind : (run : Run) (posts : List Post) (stage member : ℕ) (kind : StageKind) (k : KeptIn run posts stage member)
@@ -218,14 +234,18 @@ body-of_kind run posts stage member kind k at =
     (bodies_are_of_kinds (shape_in run.config) stage kind k.checks.content.body at).0 (body-at run posts stage member k)
 
 -- and its body is bytes
-pub body-bytes : (run : Run) (posts : List Post) (stage member : ℕ) (k : KeptIn run posts stage member) → IsBytes (body_text k.checks.content.body)
+pub body-bytes : (run : Run) (posts : List Post) (stage member : ℕ) (k : KeptIn run posts stage member)
+    → IsBytes (body_text k.checks.content.body)
 body-bytes run posts stage member k =
-    let said = said-there run.config (record { stage = stage; sender = member }) k.post (checks-read run.config (record { stage = stage; sender = member }) k.post k.checks) in
+    let said = said-there run.config (record { stage = stage; sender = member }) k.post
+    (checks-read run.config (record { stage = stage; sender = member }) k.post k.checks) in
     subst (λ (c : Content). IsBytes (body_text c.body))
-    (contents-same said.content k.checks.content (content_read (shape_in run.config) k.post.content) said.reads (content-reads run posts stage member k)) said.body_bytes
+    (contents-same said.content k.checks.content (content_read (shape_in run.config) k.post.content) said.reads
+    (content-reads run posts stage member k)) said.body_bytes
 
 -- what was read at the closing stage is the content that is kept there
 pub content-is : (run : Run) (stage member : ℕ) (posts : List Post) (content : Content) (k : KeptIn run posts stage member)
     → closing_content (closing_of run.config posts stage) member ≡ Ok content → k.checks.content ≡ content
 content-is run stage member posts content k reads =
-    contents-same k.checks.content content (closing_content (closing_of run.config posts stage) member) (closing-reads run posts stage member k) reads
+    contents-same k.checks.content content (closing_content (closing_of run.config posts stage) member)
+    (closing-reads run posts stage member k) reads

@@ -55,7 +55,8 @@ senders-contain shape Confirm s e = all-contain shape.members s e
 contained-at : (xs : List ℕ) (x : ℕ) → Contains xs x → (place : ℕ) × (slice_get xs place ≡ Some x)
 contained-at xs x (i, lt, same) = (i, slice_get-get_or xs i x lt ∙ ap (λ (y : ℕ). Some y) same)
 
-sender-speaks : (shape : Shape) (stage s : ℕ) (kind : StageKind) → kind_of_stage shape stage ≡ Some kind → Contains (senders_in shape kind) s
+sender-speaks : (shape : Shape) (stage s : ℕ) (kind : StageKind) → kind_of_stage shape stage ≡ Some kind
+    → Contains (senders_in shape kind) s
     → is_slot shape stage s ≡ true
 sender-speaks shape stage s kind at listed =
     let place = contained-at (senders_in shape kind) s listed in
@@ -90,17 +91,20 @@ none-of {A} f (x ∷ xs) e = by_first (λ rest. none-of f xs rest) (f x) refl
     all-there : (y : A) (ys : List A) → f x ≡ Some y → all_some (map f xs) ≡ Some ys → all_some (f x ∷ map f xs) ≡ Some (y ∷ ys)
     all-there y ys here rest = rw (here, rest) refl
 
-    by_others : (all_some (map f xs) ≡ None → (z : ℕ) × Contains xs z × (f z ≡ None)) → (y : A) → f x ≡ Some y → (o : Option (List A)) → all_some (map f xs) ≡ o
+    by_others : (all_some (map f xs) ≡ None → (z : ℕ) × Contains xs z × (f z ≡ None)) → (y : A) → f x ≡ Some y → (o : Option (List A))
+        → all_some (map f xs) ≡ o
         → (z : ℕ) × Contains (x ∷ xs) z × (f z ≡ None)
     by_others later y here None rest = (let more = later rest in (more.0, contains-later x xs more.0 more.1, more.2))
     by_others later y here (Some ys) rest = absurd (none-some (y ∷ ys) (sym e ∙ all-there y ys here rest))
 
-    by_first : (all_some (map f xs) ≡ None → (z : ℕ) × Contains xs z × (f z ≡ None)) → (o : Option A) → f x ≡ o → (z : ℕ) × Contains (x ∷ xs) z × (f z ≡ None)
+    by_first : (all_some (map f xs) ≡ None → (z : ℕ) × Contains xs z × (f z ≡ None)) → (o : Option A) → f x ≡ o → (z : ℕ)
+        × Contains (x ∷ xs) z × (f z ≡ None)
     by_first later None here = (x, contains-here x xs, here)
     by_first later (Some y) here = by_others later y here (all_some (map f xs)) refl
 
 unfilled-by : (c : Configuration) (others : Others) (stand : Stand) (kind : StageKind) → kind_of_stage (shape_in c) stand.at ≡ Some kind
-    → stage_filled c others stand ≡ None → (sender : ℕ) × Contains (senders_in (shape_in c) kind) sender × (post_of c others stand sender ≡ None)
+    → stage_filled c others stand ≡ None → (sender : ℕ) × Contains (senders_in (shape_in c) kind) sender
+    × (post_of c others stand sender ≡ None)
 unfolding stage_filled
 unfilled-by c others stand kind at e =
     none-of (post_of c others stand) (senders_in (shape_in c) kind) (sym (ap (option_and_then (posts_of_kind c others stand)) at) ∙ e)
@@ -142,7 +146,8 @@ unfolding settled_log
 own-there c others stage speaks same =
     let slot : Slot = record { stage = stage; sender = c.number } in
     let other : not (c.number == c.number) ≡ false = ap not (eq-eqb c.number c.number refl) in
-    let awaited : is_awaited c others stage c.number ≡ false = ap (λ (b : Bool). b && is_none (others (record { stage = stage; sender = c.number }))) other in
+    let awaited : is_awaited c others stage c.number ≡ false = ap
+    (λ (b : Bool). b && is_none (others (record { stage = stage; sender = c.number }))) other in
     some-there (kept_in (settled_log c others) (record { stage = stage; sender = c.number }))
     (false_from_ne_true _ (λ none. (let missing = and_from _ _ speaks none in let both = sym missing ∙ same ∙ awaited in cc)))
 
@@ -150,10 +155,12 @@ own-there c others stage speaks same =
 
 pub waits-names : (c : Configuration) (delivered : List (List ℕ)) → CanEnter c → All IsBytes delivered → least_ending c delivered ≡ None
     → is_open (stand_after c delivered).verdict ≡ true
-    → NamesMissed c delivered (stand_after c delivered).at (filter (is_awaited c (first_posts c delivered) (stand_after c delivered).at) (senders_at c (stand_after c delivered).at))
+    → NamesMissed c delivered (stand_after c delivered).at (filter (is_awaited c (first_posts c delivered) (stand_after c delivered).at)
+    (senders_at c (stand_after c delivered).at))
 unfolding log_after
 waits-names c delivered is all least still = record {
-  first = ap (λ (o : Option (ℕ × Verdict)). first_incomplete_of (settled_log c (first_posts c (counted_part delivered o)))) least ∙ waits.stage;
+  first = ap (λ (o : Option (ℕ × Verdict)). first_incomplete_of (settled_log c (first_posts c (counted_part delivered o)))) least
+      ∙ waits.stage;
   missed = λ member. (named-missed member, missed-named member);
   ascending = AllPairs-filter (λ member later. member < later) (is_awaited c others stand.at) (senders_at c stand.at)
       (subst (AllPairs (λ (member later : ℕ). member < later)) (sym senders) (senders-ascend (shape_in c) kind.0));
@@ -200,7 +207,8 @@ waits-names c delivered is all least still = record {
 
     missed-named : (member : ℕ) → IsMissed c delivered stand.at member → Contains named member
     missed-named member missed =
-        let speaks_there : is_sender (shape_in c) kind.0 member ≡ true = sym (ap (λ (o : Option StageKind). speaks (shape_in c) o member) kind.1) ∙ missed.speaks in
+        let speaks_there : is_sender (shape_in c) kind.0 member ≡ true = sym
+        (ap (λ (o : Option StageKind). speaks (shape_in c) o member) kind.1) ∙ missed.speaks in
         let none = unheard-missing c delivered (record { stage = stand.at; sender = member }) missed.unheard in
         contains-filter-from (is_awaited c others stand.at) (senders_at c stand.at) member
         (subst (λ (xs : List ℕ). Contains xs member) (sym senders) (senders-contain (shape_in c) kind.0 member speaks_there))
@@ -228,8 +236,10 @@ pub open_names : OpenNames
 unfolding waiting-at course_of waiting-for
 open_names c delivered stage named is all e = elim (outcome-cases c delivered) [
   | inl open_end ↦
-      let same : waiting_outcome c (first_posts c delivered) (stand_after c delivered) ≡ Waiting stage named = sym open_end.outcome_is ∙ e in
-      subst (λ (o : Outcome). NamesMissed c delivered (waiting-at o) (waiting-for o)) same (waits-names c delivered is all open_end.least open_end.goes_on)
+      let same : waiting_outcome c (first_posts c delivered) (stand_after c delivered) ≡ Waiting stage named = sym open_end.outcome_is
+      ∙ e in
+      subst (λ (o : Outcome). NamesMissed c delivered (waiting-at o) (waiting-for o)) same
+      (waits-names c delivered is all open_end.least open_end.goes_on)
   | inr ended ↦ absurd (closed ended.verdict (stand_after c (take ended.count delivered)) ended.closed (sym ended.outcome_is ∙ e))
 ]
   where

@@ -52,7 +52,8 @@ use Rattle.phase_message.specs.Slots.{slots_before}
 log-evidence : ℕ → ℕ → List ℕ → Transcript
 log-evidence round member bytes = record { claim = BadLog; accused = member; round = round; detail = None; posts = bytes ∷ [] }
 
-log-shown : (run : Run) (stage member : ℕ) (posts : List Post) → (end : IsKeptEnd run stage posts) → (is : IsMemberOf (closing_of run.config posts stage) member)
+log-shown : (run : Run) (stage member : ℕ) (posts : List Post) → (end : IsKeptEnd run stage posts)
+    → (is : IsMemberOf (closing_of run.config posts stage) member)
     → (k : KeptIn run posts stage member) → is_content_justified run.config.roster run.config.round k.checks.content ≡ false
     → IsAccepted run.config.roster (log-evidence run.config.round member (post_spelling k.post))
 unfolding log-evidence
@@ -101,7 +102,8 @@ pub record IsReveal (shape : Shape) (body : Body) : Type 0 where
   pub seed : List ℕ
   pub is : body ≡ Reveal votes seed
 
-pub reveal-there : (shape : Shape) (before shuffle : ℕ) (body : Body) → IsBodyAt shape before (AtFinal shuffle) body → is_assent body ≡ true → IsReveal shape body
+pub reveal-there : (shape : Shape) (before shuffle : ℕ) (body : Body) → IsBodyAt shape before (AtFinal shuffle) body → is_assent body ≡ true
+    → IsReveal shape body
 reveal-there shape before shuffle (Reveal votes seed) is assents = record { votes = votes; seed = seed; is = refl }
 reveal-there shape before shuffle (Dispute posts seed opening) is assents = absurd cc
 reveal-there shape before shuffle _ is assents = absurd is
@@ -132,9 +134,11 @@ seed-shown run stage member shuffle posts end is a b kind keys votes seed a_is b
       keys = keys;
       votes = votes;
       seed = seed;
-      keys_are = subst (λ (body : Body). IsPostFile c.roster c.round (post_spelling a.post) (record { header = a.checks.content.header; body = body })) a_is
+      keys_are = subst (λ (body : Body). IsPostFile c.roster c.round (post_spelling a.post)
+          (record { header = a.checks.content.header; body = body })) a_is
           (file-of c (record { stage = 0; sender = member }) a.post a.checks);
-      final_is = subst (λ (body : Body). IsPostFile c.roster c.round (post_spelling b.post) (record { header = b.checks.content.header; body = body })) b_is
+      final_is = subst (λ (body : Body). IsPostFile c.roster c.round (post_spelling b.post)
+          (record { header = b.checks.content.header; body = body })) b_is
           (file-of c (record { stage = stage; sender = member }) b.post b.checks);
       keys_sender = content-sender run posts 0 member a;
       final_sender = content-sender run posts stage member b;
@@ -149,23 +153,31 @@ unfolding seed-evidence
 wrong_seed_accepted run stage posts t end is =
     let c = run.config in
     let v : ClosedStage = closing_of run.config posts stage in
-    let a = kept-in run (stage + 1) 0 is.member posts (end-past run stage posts end) (member-is run stage is.member posts is.is_member) (omega arith) in
+    let a = kept-in run (stage + 1) 0 is.member posts (end-past run stage posts end) (member-is run stage is.member posts is.is_member)
+    (omega arith) in
     let b = kept-end run stage is.member posts end is.is_member in
-    let keys = keys-there (shape_in c) (slots_before (shape_in c) 0) a.checks.content.body (body-of_kind run posts 0 is.member AtKeys a refl) in
+    let keys = keys-there (shape_in c) (slots_before (shape_in c) 0) a.checks.content.body
+    (body-of_kind run posts 0 is.member AtKeys a refl) in
     let faithful = is.faithful is.member is.is_member in
     let assents : is_assent b.checks.content.body ≡ true =
-    ap (λ (x : Content). is_assent x.body) (content-is run stage is.member posts faithful.content b faithful.reads) ∙ faithful.assents ∙ is.votes in
-    let reveal = reveal-there (shape_in c) (slots_before (shape_in c) stage) is.shuffle b.checks.content.body (body-of_kind run posts stage is.member (AtFinal is.shuffle) b is.kind) assents in
-    let said : closing_body (closing_of run.config posts stage) is.member ≡ Reveal reveal.votes reveal.seed = said-in run posts stage is.member b ∙ reveal.is in
+    ap (λ (x : Content). is_assent x.body) (content-is run stage is.member posts faithful.content b faithful.reads) ∙ faithful.assents
+    ∙ is.votes in
+    let reveal = reveal-there (shape_in c) (slots_before (shape_in c) stage) is.shuffle b.checks.content.body
+    (body-of_kind run posts stage is.member (AtFinal is.shuffle) b is.kind) assents in
+    let said : closing_body (closing_of run.config posts stage) is.member ≡ Reveal reveal.votes reveal.seed = said-in run posts stage
+    is.member b ∙ reveal.is in
     let keys_said_is : said_in (shape_in c) (contents_of posts) 0 is.member ≡ Keys keys.0 = said-in run posts 0 is.member a ∙ keys.1 in
     let same : t ≡ seed-evidence c.round is.member (post_spelling a.post) (post_spelling b.post) =
-    transcript-same t _ is.verdict_is ∙ ap (λ (bytes : List ℕ). seed-evidence c.round is.member bytes (sent_in v stage is.member)) (sent-in run posts stage 0 is.member a)
+    transcript-same t _ is.verdict_is ∙ ap (λ (bytes : List ℕ). seed-evidence c.round is.member bytes (sent_in v stage is.member))
+    (sent-in run posts stage 0 is.member a)
     ∙ ap (seed-evidence c.round is.member (post_spelling a.post)) (sent-in run posts stage stage is.member b) in
     subst (IsAccepted c.roster) (sym same)
     (seed-shown run stage is.member is.shuffle posts end is.is_member a b is.kind keys.0 reveal.votes reveal.seed keys.1 reveal.is
     (λ equal. not_both (is_inner_seed v is.shuffle is.member)
-    ((bytes_eq-Decides (key_of_seed (seed_in (closing_body v is.member))) (key_said (shape_in c) (contents_of posts) (inner_place is.shuffle) is.member)).1
-    (ap (λ (body : Body). key_of_seed (seed_in body)) said ∙ equal ∙ sym (ap (λ (body : Body). slice_index_or (keys_in body) (inner_place is.shuffle) []) keys_said_is)))
+    ((bytes_eq-Decides (key_of_seed (seed_in (closing_body v is.member)))
+    (key_said (shape_in c) (contents_of posts) (inner_place is.shuffle) is.member)).1
+    (ap (λ (body : Body). key_of_seed (seed_in body)) said ∙ equal
+    ∙ sym (ap (λ (body : Body). slice_index_or (keys_in body) (inner_place is.shuffle) []) keys_said_is)))
     is.wrong))
 
 -- ---- what a delivered string shows
@@ -194,7 +206,8 @@ with-parts c post header heard e = elim (cases_Bool (header.sender == c.number))
   )
 ]
 
-pub heard-parts : (c : Configuration) (bytes : List ℕ) (heard : Heard) → IsBytes bytes → heard_of c bytes ≡ Some heard → IsHeard c bytes heard
+pub heard-parts : (c : Configuration) (bytes : List ℕ) (heard : Heard) → IsBytes bytes → heard_of c bytes ≡ Some heard
+    → IsHeard c bytes heard
 unfolding heard_of
 heard-parts c bytes heard are e =
     let framed = and-then-parts (heard_of_post c) (result_ok (frame_of bytes)) heard e in
@@ -211,7 +224,8 @@ heard-parts c bytes heard are e =
     })
 
 -- it says what it is
-pub heard-says : (c : Configuration) (bytes : List ℕ) (heard : Heard) → IsHeard c bytes heard → Says c.roster c.round bytes heard.post.content heard.header
+pub heard-says : (c : Configuration) (bytes : List ℕ) (heard : Heard) → IsHeard c bytes heard
+    → Says c.roster c.round bytes heard.post.content heard.header
 heard-says c bytes heard is = record { signature = heard.post.signature; spelled = is.spelled; admitted = is.admitted }
 
 spelled-most : (c : Configuration) (bytes : List ℕ) (heard : Heard) → IsHeard c bytes heard → length bytes < 2 ^ 32
@@ -226,7 +240,8 @@ malformed-evidence round member bytes = record { claim = Malformed; accused = me
 read-none : (r s : Result Content Offence) (content : Content) → is_ok r ≡ false → r ≡ s → s ≡ Ok content → ⊥
 read-none r s content none same reads = (let found = ap is_ok (same ∙ reads) in let both = sym none ∙ found in cc)
 
-malformed-accepted : (c : Configuration) (bytes : List ℕ) (t : Transcript) → IsConfiguration c → IsBytes bytes → IsMalformed c bytes (Convicts t)
+malformed-accepted : (c : Configuration) (bytes : List ℕ) (t : Transcript) → IsConfiguration c → IsBytes bytes
+    → IsMalformed c bytes (Convicts t)
     → IsAccepted c.roster t
 unfolding malformed-evidence
 malformed-accepted c bytes t is are malformed =
@@ -234,7 +249,14 @@ malformed-accepted c bytes t is are malformed =
     let same : t ≡ malformed-evidence c.round malformed.heard.header.sender bytes = transcript-same t _ malformed.verdict_is in
     subst (IsAccepted c.roster) (sym same)
     (accept c.roster (malformed-evidence c.round malformed.heard.header.sender bytes)
-    (record { accused = parts.admitted.member; round = is.enter.round; detail = tt; count = refl; posts = (spelled-most c bytes malformed.heard parts, tt) })
+    (record {
+      accused = parts.admitted.member;
+      round = is.enter.round;
+      detail = tt;
+      count = refl;
+      posts =
+          (spelled-most c bytes malformed.heard parts, tt);
+    })
     (record {
       post = bytes;
       listed = refl;
@@ -242,23 +264,33 @@ malformed-accepted c bytes t is are malformed =
       header = malformed.heard.header;
       says = heard-says c bytes malformed.heard parts;
       sender = refl;
-      outside = λ x grammar text. read-none malformed.heard.content (content_read (shape_in c) malformed.heard.post.content) x malformed.offends parts.content
+      outside = λ x grammar text. read-none malformed.heard.content (content_read (shape_in c) malformed.heard.post.content) x
+          malformed.offends parts.content
           (ap (content_read (shape_in c)) text ∙ content-is_read (shape_in c) x grammar);
     }))
 
 -- ---- two contents
 
 unfoldable pub two-evidence : ℕ → ℕ → List ℕ → List ℕ → Transcript
-two-evidence round member first second = record { claim = Equivocation; accused = member; round = round; detail = None; posts = first ∷ second ∷ [] }
+two-evidence round member first second = record {
+  claim = Equivocation;
+  accused = member;
+  round = round;
+  detail = None;
+  posts = first ∷
+      second ∷ [];
+}
 
 -- two posts of one slot that say different contents are accepted
-pub two-shown : (roster : Roster) (round : ℕ) (slot : Slot) (first second first_content second_content : List ℕ) (first_header second_header : Header) → round < 2 ^ 64
+pub two-shown : (roster : Roster) (round : ℕ) (slot : Slot) (first second first_content second_content : List ℕ)
+    (first_header second_header : Header) → round < 2 ^ 64
     → length first < 2 ^ 32 → length second < 2 ^ 32
     → Says roster round first first_content first_header → Says roster round second second_content second_header
     → slot_named first_header ≡ slot → slot_named second_header ≡ slot → first_content ≢ second_content
     → IsAccepted roster (two-evidence round slot.sender first second)
 unfolding two-evidence
-two-shown roster round slot first second first_content second_content first_header second_header small few more says other_says slot_is other_slot differ =
+two-shown roster round slot first second first_content second_content first_header second_header small few more says other_says slot_is
+    other_slot differ =
     accept roster (two-evidence round slot.sender first second)
     (record {
       accused = subst (λ (s : Slot). is_member (length roster.keys) s.sender ≡ true) slot_is says.admitted.member;
@@ -283,17 +315,21 @@ two-shown roster round slot first second first_content second_content first_head
       differ = differ;
     })
 
-contradiction-accepted : (c : Configuration) (firsts : Others) (bytes : List ℕ) (t : Transcript) → IsConfiguration c → OthersCheck c firsts → IsBytes bytes
+contradiction-accepted : (c : Configuration) (firsts : Others) (bytes : List ℕ) (t : Transcript) → IsConfiguration c → OthersCheck c firsts
+    → IsBytes bytes
     → IsContradiction c firsts bytes (Convicts t) → IsAccepted c.roster t
 unfolding two-evidence
 contradiction-accepted c firsts bytes t is check are other =
     let parts = heard-parts c bytes other.heard are other.is in
     let checks = check (slot_named other.heard.header) other.first other.kept in
-    let same : t ≡ two-evidence c.round (slot_named other.heard.header).sender (post_spelling other.first) bytes = transcript-same t _ other.verdict_is in
+    let same : t ≡ two-evidence c.round (slot_named other.heard.header).sender (post_spelling other.first) bytes = transcript-same t _
+    other.verdict_is in
     subst (IsAccepted c.roster) (sym same)
-    (two-shown c.roster c.round (slot_named other.heard.header) (post_spelling other.first) bytes other.first.content other.heard.post.content
+    (two-shown c.roster c.round (slot_named other.heard.header) (post_spelling other.first) bytes other.first.content
+    other.heard.post.content
     checks.content.header other.heard.header is.enter.round
-    (spelled-short c (slot_named other.heard.header) other.first (checks-read c (slot_named other.heard.header) other.first checks)) (spelled-most c bytes other.heard parts)
+    (spelled-short c (slot_named other.heard.header) other.first (checks-read c (slot_named other.heard.header) other.first checks))
+    (spelled-most c bytes other.heard parts)
     (file-says c (slot_named other.heard.header) other.first checks) (heard-says c bytes other.heard parts)
     checks.named refl other.differ)
 

@@ -126,7 +126,8 @@ member-there n member least most = search rules
 
 pub pads-speak : (shape : Shape) (member : ℕ) → 1 ≤ member → member ≤ shape.members → is_slot shape (pad_stage shape) member ≡ true
 pads-speak shape member least most =
-    ap (λ (o : Option StageKind). speaks shape o member) (pad_is shape (pad_stage shape) refl) ∙ member-there shape.members member least most
+    ap (λ (o : Option StageKind). speaks shape o member) (pad_is shape (pad_stage shape) refl)
+    ∙ member-there shape.members member least most
 
 right-pads : (run : Run) (stage shuffle member : ℕ) (posts : List Post) → IsKeptEnd run stage posts → (b : BeforeEnd run stage posts)
     → kind_of_stage (shape_in run.config) stage ≡ Some (AtFinal shuffle) → agree_before (closing_of run.config posts stage) ≡ true
@@ -193,9 +194,11 @@ right-pads run stage shuffle member posts end b kind agree least most = record {
 
     view : kept.checks.content.header.view ≡ view_of shape (contents_of posts) (pad_stage shape)
     view =
-        right_view q (pad_stage shape) member first.checks.content (ap (option_map (λ (slot : Slot). fault View slot.sender)) vote.right) speaks_pad (omega (arith, late, here, go_stage))
+        right_view q (pad_stage shape) member first.checks.content (ap (option_map (λ (slot : Slot). fault View slot.sender)) vote.right)
+        speaks_pad (omega (arith, late, here, go_stage))
         (ap (content_read shape) text_is ∙ content-reads run go.row.past (pad_stage shape) member first)
-        ∙ ap (λ (past : List (List ℕ)). view_of shape past (pad_stage shape)) (ap contents_of front_is ∙ sym (take-map (λ (p : Post). p.content) (slots_before shape (stage - 1)) posts))
+        ∙ ap (λ (past : List (List ℕ)). view_of shape past (pad_stage shape))
+        (ap contents_of front_is ∙ sym (take-map (λ (p : Post). p.content) (slots_before shape (stage - 1)) posts))
         ∙ view_of-take shape (contents_of posts) (pad_stage shape) (stage - 1) (omega (arith, late, here))
 
 -- ---- the accusation
@@ -213,34 +216,43 @@ sent-by : (shape : Shape) (past : List (List ℕ)) (member : ℕ) → 1 ≤ memb
     → slice_index_or (pads_sent shape past) (member - 1) [] ≡ pads_in (said_in shape past (pad_stage shape) member)
 unfolding pads_sent
 sent-by shape past member least most =
-    get_or_from_slice_get _ (member - 1) _ [] (by-member (λ m. pads_in (said_in shape past (pad_stage shape) m)) shape.members member least most)
+    get_or_from_slice_get _ (member - 1) _ [] (by-member (λ m. pads_in (said_in shape past (pad_stage shape) m)) shape.members member least
+    most)
 
 table-by : (shape : Shape) (accused : ℕ) (pads : List (List ℕ)) → 1 ≤ accused → accused ≤ shape.members
     → slice_index_or (table_of shape accused pads) (accused - 1) [] ≡ pads
 table-by shape accused pads least most =
-    get_or_from_slice_get (table_of shape accused pads) (accused - 1) _ [] (by-member (λ m. if m == accused then pads else []) shape.members accused least most)
+    get_or_from_slice_get (table_of shape accused pads) (accused - 1) _ []
+    (by-member (λ m. if m == accused then pads else []) shape.members accused least most)
     ∙ cond-true (accused == accused) pads [] (eq-eqb accused accused refl)
 
 -- who is named is a member
-pub named-member : (shape : Shape) (past : List (List ℕ)) (a : Accusation) → is_held shape past a ≡ true → (1 ≤ a.member) × (a.member ≤ shape.members)
+pub named-member : (shape : Shape) (past : List (List ℕ)) (a : Accusation) → is_held shape past a ≡ true → (1 ≤ a.member)
+    × (a.member ≤ shape.members)
 named-member shape past a e =
-    let holds = (holds_exactly a (descriptors_opened shape past) (pads_sent shape past) (keys_said shape past bulk_place)).0 (is-refused shape past a e) in
-    let count : length (keys_said shape past bulk_place) ≡ shape.members = length-map-range_with_len (key_said shape past bulk_place) 1 shape.members in
+    let holds = (holds_exactly a (descriptors_opened shape past) (pads_sent shape past) (keys_said shape past bulk_place)).0
+    (is-refused shape past a e) in
+    let count : length (keys_said shape past bulk_place) ≡ shape.members = length-map-range_with_len (key_said shape past bulk_place) 1
+    shape.members in
     let last = holds.2.last in
     (holds.2.first, omega (arith, last, count))
 
 -- it holds of the log before the pads and of the pads of the accused alone
 holds-alone : (shape : Shape) (past : List (List ℕ)) (a : Accusation) (pads : List (List ℕ)) → is_held shape past a ≡ true
     → pads_in (said_in shape past (pad_stage shape) a.member) ≡ pads
-    → Holds a (descriptors_opened shape (front shape past (pad_stage shape))) (table_of shape a.member pads) (keys_said shape (front shape past (pad_stage shape)) bulk_place)
+    → Holds a (descriptors_opened shape (front shape past (pad_stage shape))) (table_of shape a.member pads)
+    (keys_said shape (front shape past (pad_stage shape)) bulk_place)
 holds-alone shape past a pads e said =
     let here : pad_stage shape ≡ shape.members + 4 = refl in
     let member = named-member shape past a e in
     let same : slice_index_or (pads_sent shape past) (a.member - 1) [] ≡ slice_index_or (table_of shape a.member pads) (a.member - 1) [] =
     sent-by shape past a.member member.0 member.1 ∙ said ∙ sym (table-by shape a.member pads member.0 member.1) in
-    let refused = sym (holds_looks_at_one a (descriptors_opened shape past) (pads_sent shape past) (table_of shape a.member pads) (keys_said shape past bulk_place) same) ∙ is-refused shape past a e in
-    let holds = (holds_exactly a (descriptors_opened shape past) (table_of shape a.member pads) (keys_said shape past bulk_place)).0 refused in
-    subst (λ (d : List (Option Description)). Holds a d (table_of shape a.member pads) (keys_said shape (front shape past (pad_stage shape)) bulk_place))
+    let refused = sym (holds_looks_at_one a (descriptors_opened shape past) (pads_sent shape past) (table_of shape a.member pads)
+    (keys_said shape past bulk_place) same) ∙ is-refused shape past a e in
+    let holds = (holds_exactly a (descriptors_opened shape past) (table_of shape a.member pads) (keys_said shape past bulk_place)).0 refused
+    in
+    subst (λ (d : List (Option Description)). Holds a d (table_of shape a.member pads)
+    (keys_said shape (front shape past (pad_stage shape)) bulk_place))
     (sym (descriptors-front shape past (pad_stage shape) (omega (arith, here))))
     (subst (λ (keys : List (List ℕ)). Holds a (descriptors_opened shape past) (table_of shape a.member pads) keys)
     (sym (keys-front shape past (pad_stage shape) bulk_place (omega (arith, here)))) holds)
@@ -248,12 +260,20 @@ holds-alone shape past a pads e said =
 -- ---- the evidence
 
 pad-evidence : ℕ → List Post → Accusation → List ℕ → Transcript
-pad-evidence round log a bytes = record { claim = Pad; accused = a.member; round = round; detail = Some a; posts = written log ++ bytes ∷ [] }
+pad-evidence round log a bytes = record {
+  claim = Pad;
+  accused = a.member;
+  round = round;
+  detail = Some a;
+  posts = written log
+      ++ bytes ∷ [];
+}
 
 pad-shown : (run : Run) (stage : ℕ) (posts : List Post) (a : Accusation) → IsKeptEnd run stage posts → (b : BeforeEnd run stage posts)
     → 1 ≤ a.member → a.member ≤ (shape_in run.config).members → IsAccusation a → is_held (shape_in run.config) (contents_of posts) a ≡ true
     → (pads : RightPads run posts a.member)
-    → IsAccepted run.config.roster (pad-evidence run.config.round (take (slots_before (shape_in run.config) (pad_stage (shape_in run.config))) posts) a (post_spelling pads.kept.post))
+    → IsAccepted run.config.roster (pad-evidence run.config.round
+    (take (slots_before (shape_in run.config) (pad_stage (shape_in run.config))) posts) a (post_spelling pads.kept.post))
 unfolding pad-evidence
 pad-shown run stage posts a end b least most form held pads =
     accept c.roster (pad-evidence c.round log a (post_spelling pads.kept.post))
@@ -261,9 +281,11 @@ pad-shown run stage posts a end b least most form held pads =
       accused = member-is run stage a.member posts (record { least = least; most = most });
       round = end.honest.config.enter.round;
       detail = form;
-      count = length-append (written log) (post_spelling pads.kept.post ∷ []) ∙ (let five = before-pads shape in omega (arith, five, long, wide));
+      count = length-append (written log) (post_spelling pads.kept.post ∷ [])
+          ∙ (let five = before-pads shape in omega (arith, five, long, wide));
       posts = all-append (λ (bytes : List ℕ). length bytes < 2 ^ 32) (written log) (post_spelling pads.kept.post ∷ [])
-          (all-map-from (λ (bytes : List ℕ). length bytes < 2 ^ 32) post_spelling log (all-from (λ (p : Post). length (post_spelling p) < 2 ^ 32) log (λ k p at. facts.is.short k p at)))
+          (all-map-from (λ (bytes : List ℕ). length bytes < 2 ^ 32) post_spelling log
+          (all-from (λ (p : Post). length (post_spelling p) < 2 ^ 32) log (λ k p at. facts.is.short k p at)))
           (spelled-few run posts (pad_stage shape) a.member pads.kept, tt);
     })
     (record {
@@ -271,10 +293,12 @@ pad-shown run stage posts a end b least most form held pads =
       whole = long;
       stands = stands;
       pads_post = post_spelling pads.kept.post;
-      last = ap (slice_get (written log ++ post_spelling pads.kept.post ∷ [])) place ∙ slice_get_right (written log) (post_spelling pads.kept.post ∷ []) 0;
+      last = ap (slice_get (written log ++ post_spelling pads.kept.post ∷ [])) place
+          ∙ slice_get_right (written log) (post_spelling pads.kept.post ∷ []) 0;
       header = pads.kept.checks.content.header;
       pads = pads.pads;
-      pads_are = subst (λ (body : Body). IsPostFile c.roster c.round (post_spelling pads.kept.post) (record { header = pads.kept.checks.content.header; body = body })) pads.is
+      pads_are = subst (λ (body : Body). IsPostFile c.roster c.round (post_spelling pads.kept.post)
+          (record { header = pads.kept.checks.content.header; body = body })) pads.is
           (file-of c (record { stage = pad_stage shape; sender = a.member }) pads.kept.post pads.kept.checks);
       sender = content-sender run posts (pad_stage shape) a.member pads.kept;
       at = content-stage run posts (pad_stage shape) a.member pads.kept;
@@ -284,9 +308,11 @@ pad-shown run stage posts a end b least most form held pads =
       accusation = a;
       detail = refl;
       accused = refl;
-      holds = subst (λ (past : List (List ℕ)). Holds a (descriptors_opened shape past) (table_of shape a.member pads.pads) (keys_said shape past bulk_place))
+      holds = subst (λ (past : List (List ℕ)). Holds a (descriptors_opened shape past) (table_of shape a.member pads.pads)
+          (keys_said shape past bulk_place))
           (take-map (λ (p : Post). p.content) n posts)
-          (holds-alone shape (contents_of posts) a pads.pads held (ap pads_in (said-in run posts (pad_stage shape) a.member pads.kept ∙ pads.is)));
+          (holds-alone shape (contents_of posts) a pads.pads held
+          (ap pads_in (said-in run posts (pad_stage shape) a.member pads.kept ∙ pads.is)));
     })
   where
     c : Configuration
@@ -318,9 +344,11 @@ pad-shown run stage posts a end b least most form held pads =
 
     stands : posts_for c.roster c.round 0 (zip (take n (slots_of shape)) (written log ++ post_spelling pads.kept.post ∷ [])) ≡ Ok log
     stands =
-        ap (posts_for c.roster c.round 0) (zip-front (take n (slots_of shape)) (written log) (post_spelling pads.kept.post ∷ []) (omega (arith, front_slots, long, wide)))
+        ap (posts_for c.roster c.round 0) (zip-front (take n (slots_of shape)) (written log) (post_spelling pads.kept.post ∷ [])
+        (omega (arith, front_slots, long, wide)))
         ∙ posts-found c.roster c.round 0 (take n (slots_of shape)) log (omega (arith, front_slots, long))
-        (λ k slot post at there_is. checks-for-slot c slot post (facts.is.checks k slot post (take-get (slots_of shape) n k slot at).1 there_is))
+        (λ k slot post at there_is. checks-for-slot c slot post
+        (facts.is.checks k slot post (take-get (slots_of shape) n k slot at).1 there_is))
 
 pub bad_pad_accepted : AcceptedFor IsBadPad
 unfolding pad-evidence
@@ -330,7 +358,9 @@ bad_pad_accepted run stage posts t end is =
     let member = named-member (shape_in c) (contents_of posts) is.accusation is.holds in
     let pads = right-pads run stage is.shuffle is.accusation.member posts end b is.kind is.agree.votes member.0 member.1 in
     let form = ((accusations_are_spelled is.item is.accusation).0 is.spelled).0 in
-    let same : t ≡ pad-evidence c.round (take (slots_before (shape_in c) (pad_stage (shape_in c))) posts) is.accusation (post_spelling pads.kept.post) =
+    let same : t ≡ pad-evidence c.round (take (slots_before (shape_in c) (pad_stage (shape_in c))) posts) is.accusation
+    (post_spelling pads.kept.post) =
     transcript-same t _ is.verdict_is
-    ∙ ap (pad-evidence c.round (take (slots_before (shape_in c) (pad_stage (shape_in c))) posts) is.accusation) (sent-in run posts stage (pad_stage (shape_in c)) is.accusation.member pads.kept) in
+    ∙ ap (pad-evidence c.round (take (slots_before (shape_in c) (pad_stage (shape_in c))) posts) is.accusation)
+    (sent-in run posts stage (pad_stage (shape_in c)) is.accusation.member pads.kept) in
     subst (IsAccepted c.roster) (sym same) (pad-shown run stage posts is.accusation end b member.0 member.1 form is.holds pads)

@@ -43,7 +43,10 @@ use Rattle.phase_message.specs.Slots.{slot_number, slots_before}
 -- what was read, or a content that says nothing
 content-read : Result Content Offence → Content
 content-read (Ok content) = content
-content-read (Err offence) = record { header = record { version = 0; group = []; round = 0; stage = 0; sender = 0; view = [] }; body = Abort }
+content-read (Err offence) = record {
+  header = record { version = 0; group = []; round = 0; stage = 0; sender = 0; view = [] };
+  body = Abort;
+}
 
 read-body : (r : Result Content Offence) → (content-read r).body ≡ body_of r
 unfolding content-read
@@ -73,7 +76,8 @@ same-shown f g each = λ i member. each member i
 parts-same : (v : ClosedStage) (o : Option StageKind) → parts_shown (shape_at v) o (said-by v) ≡ shown_at v o
 parts-same v (Some (AtFinal shuffle)) =
     ap (λ (f : ℕ → Shown). by_member (shape_at v) f)
-    (same-shown (λ member. shown_in (said-by v member).body) (λ member. shown_in (closing_body v member)) (λ member. ap shown_in (said-body v member)))
+    (same-shown (λ member. shown_in (said-by v member).body) (λ member. shown_in (closing_body v member))
+    (λ member. ap shown_in (said-body v member)))
 parts-same v None = refl
 parts-same v (Some AtKeys) = refl
 parts-same v (Some (AtSubmit shuffle)) = refl
@@ -108,7 +112,8 @@ post-of_member : (shape : Shape) (f : ℕ → List ℕ) (member : ℕ) → 1 ≤
 post-of_member shape f member least most =
     get_or_from_slice_get (by_member shape f) (member - 1) (f member) [] (by-member f shape.members member least most)
 
-objects : (run : Run) (stage accused member : ℕ) (posts : List Post) → IsKeptEnd run stage posts → AreFaithful (closing_of run.config posts stage)
+objects : (run : Run) (stage accused member : ℕ) (posts : List Post) → IsKeptEnd run stage posts
+    → AreFaithful (closing_of run.config posts stage)
     → agree_before (closing_of run.config posts stage) ≡ false → IsMemberOf (closing_of run.config posts stage) member
     → Objects run.config.roster run.config.round stage (past-replayed (closing_of run.config posts stage)) member
     (post_listed (replay-evidence run stage posts accused) member) (said-by (closing_of run.config posts stage) member)
@@ -119,18 +124,22 @@ objects run stage accused member posts end faithful disagree is =
     let f = faithful member is in
     let k = kept-end run stage member posts end is in
     let content_is : k.checks.content ≡ f.content = content-is run stage member posts f.content k f.reads in
-    let said_is : k.checks.content ≡ said-by (closing_of run.config posts stage) member = content_is ∙ sym (said-reads v member f.content f.reads) in
+    let said_is : k.checks.content ≡ said-by (closing_of run.config posts stage) member = content_is
+    ∙ sym (said-reads v member f.content f.reads) in
     let bytes_are : post_spelling k.post ≡ post_listed (replay-evidence run stage posts accused) member =
     sym (post-of_member (shape_in c) (sent_in v stage) member is.least is.most ∙ sent-in run posts stage stage member k) in
     let objects_there : is_assent f.content.body ≡ false = f.assents ∙ disagree in
-    let stage_is : f.content.header.stage ≡ stage = ap (λ (x : Content). x.header.stage) (sym content_is) ∙ content-stage run posts stage member k in
+    let stage_is : f.content.header.stage ≡ stage = ap (λ (x : Content). x.header.stage) (sym content_is)
+    ∙ content-stage run posts stage member k in
     let past : List (List ℕ) = past_at v in
     let contents : contents_of f.posts ≡ past-replayed (closing_of run.config posts stage) =
     f.contents ∙ cond-false (is_assent f.content.body) _ (take (slots_before (shape_in c) f.content.header.stage) (past_at v)) objects_there
     ∙ ap (λ (s : ℕ). take (slots_before (shape_in c) s) (past_at v)) stage_is in
-    subst (λ (x : Content). Objects c.roster c.round stage (past-replayed v) member (post_listed (replay-evidence run stage posts accused) member) x) said_is
+    subst (λ (x : Content). Objects c.roster c.round stage (past-replayed v) member
+    (post_listed (replay-evidence run stage posts accused) member) x) said_is
     (subst (λ (bytes : List ℕ). Objects c.roster c.round stage (past-replayed v) member bytes k.checks.content) bytes_are
-    (subst (λ (x : Content). IsPostFile c.roster c.round (post_spelling k.post) x → x.header.sender ≡ member → Objects c.roster c.round stage (past-replayed v) member (post_spelling k.post) x) (sym content_is)
+    (subst (λ (x : Content). IsPostFile c.roster c.round (post_spelling k.post) x → x.header.sender ≡ member
+    → Objects c.roster c.round stage (past-replayed v) member (post_spelling k.post) x) (sym content_is)
     (λ file sender. record {
       file = file;
       sender = sender;
@@ -147,8 +156,10 @@ some-bytes : (a b : List ℕ) → (let told : List ℕ → Option (List ℕ) = �
 some-bytes a b e = cc
 
 -- each of the posts is short
-sent-few : (run : Run) (stage place : ℕ) (posts : List Post) (bytes : List ℕ) → IsKeptEnd run stage posts → place < (shape_in run.config).members
-    → slice_get (by_member (shape_in run.config) (sent_in (closing_of run.config posts stage) stage)) place ≡ Some bytes → length bytes < 2 ^ 32
+sent-few : (run : Run) (stage place : ℕ) (posts : List Post) (bytes : List ℕ) → IsKeptEnd run stage posts
+    → place < (shape_in run.config).members
+    → slice_get (by_member (shape_in run.config) (sent_in (closing_of run.config posts stage) stage)) place ≡ Some bytes
+    → length bytes < 2 ^ 32
 sent-few run stage place posts bytes end lt e =
     let v : ClosedStage = closing_of run.config posts stage in
     let is : IsMemberOf (closing_of run.config posts stage) (place + 1) = record { least = omega arith; most = omega (arith, lt) } in
@@ -156,12 +167,15 @@ sent-few run stage place posts bytes end lt e =
     let at = by-member (sent_in v stage) (shape_in run.config).members (place + 1) is.least is.most in
     let place_is : place + 1 - 1 ≡ place = omega arith in
     let same : bytes ≡ post_spelling k.post =
-    some-bytes bytes _ (sym e ∙ sym (ap (slice_get (by_member (shape_in run.config) (sent_in v stage))) place_is) ∙ at) ∙ sent-in run posts stage stage (place + 1) k in
+    some-bytes bytes _ (sym e ∙ sym (ap (slice_get (by_member (shape_in run.config) (sent_in v stage))) place_is) ∙ at)
+    ∙ sent-in run posts stage stage (place + 1) k in
     subst (λ (x : List ℕ). length x < 2 ^ 32) (sym same) (spelled-few run posts stage (place + 1) k)
 
-pub members-listed : (run : Run) (stage : ℕ) (posts : List Post) → length (by_member (shape_in run.config) (sent_in (closing_of run.config posts stage) stage)) ≡ (shape_in run.config).members
+pub members-listed : (run : Run) (stage : ℕ) (posts : List Post)
+    → length (by_member (shape_in run.config) (sent_in (closing_of run.config posts stage) stage)) ≡ (shape_in run.config).members
 members-listed run stage posts =
-    length-map (range_with_len 1 (shape_in run.config).members) (sent_in (closing_of run.config posts stage) stage) ∙ length-range_with_len 1 (shape_in run.config).members
+    length-map (range_with_len 1 (shape_in run.config).members) (sent_in (closing_of run.config posts stage) stage)
+    ∙ length-range_with_len 1 (shape_in run.config).members
 
 pub replay_accepted : AcceptedFor IsReplay
 unfolding replay-evidence
@@ -179,7 +193,8 @@ replay_accepted run stage posts t end is =
       count = members-listed run stage posts;
       posts = all-from (λ (bytes : List ℕ). length bytes < 2 ^ 32) (by_member (shape_in c) (sent_in v stage))
           (λ place bytes at. sent-few run stage place posts bytes end
-          (let within = slice_get_within (by_member (shape_in c) (sent_in v stage)) place bytes at in omega (arith, within, members-listed run stage posts)) at);
+          (let within = slice_get_within (by_member (shape_in c) (sent_in v stage)) place bytes at in omega
+          (arith, within, members-listed run stage posts)) at);
     })
     (record {
       count = members-listed run stage posts;
@@ -187,7 +202,8 @@ replay_accepted run stage posts t end is =
       closing = end.closing;
       past = past-replayed v;
       said = said-by v;
-      object = λ member least most. objects run stage is.fault.member member posts end is.faithful is.votes (record { least = least; most = most });
+      object = λ member least most. objects run stage is.fault.member member posts end is.faithful is.votes
+          (record { least = least; most = most });
       fault = is.fault;
       blames = ap culprit_of (inquiry-same v) ∙ is.culprit;
       accused = refl;

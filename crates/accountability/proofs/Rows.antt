@@ -55,12 +55,14 @@ use Rattle.stage_log.proofs.EqualViews.{views-determine}
 
 -- ---- the own log
 
-counted-traced : (c : Configuration) (delivered : List (List ℕ)) (slot : Slot) (post : Post) (o : Option (ℕ × Verdict)) → All IsBytes delivered
+counted-traced : (c : Configuration) (delivered : List (List ℕ)) (slot : Slot) (post : Post) (o : Option (ℕ × Verdict))
+    → All IsBytes delivered
     → kept_in (settled_log c (first_posts c (counted_part delivered o))) slot ≡ Some post
     → IsTraced (settled_run c (first_posts c (counted_part delivered o))) delivered (post_spelling post)
 counted-traced c delivered slot post None all kept = kept-traced c delivered slot post all kept
 counted-traced c delivered slot post (Some ending) all kept =
-    widened (settled_run c (first_posts c (take ending.0 delivered))) (take ending.0 delivered) delivered (λ bytes there. take-listed ending.0 delivered bytes there) (post_spelling post)
+    widened (settled_run c (first_posts c (take ending.0 delivered))) (take ending.0 delivered) delivered
+    (λ bytes there. take-listed ending.0 delivered bytes there) (post_spelling post)
     (kept-traced c (take ending.0 delivered) slot post (All-take IsBytes ending.0 delivered all) kept)
 
 pub log-traced : (c : Configuration) (delivered : List (List ℕ)) (slot : Slot) (post : Post) → All IsBytes delivered
@@ -79,7 +81,8 @@ pub record RowIn (c : Configuration) (delivered : List (List ℕ)) (run : Run) (
   pub row : IsOwnRow run kept.post.content
   pub at : row.stage ≡ stage
 
-pub row-in : (c : Configuration) (delivered : List (List ℕ)) (runs : List Run) (later stage : ℕ) (posts : List Post) (run : Run) → IsAmong c delivered runs
+pub row-in : (c : Configuration) (delivered : List (List ℕ)) (runs : List Run) (later stage : ℕ) (posts : List Post) (run : Run)
+    → IsAmong c delivered runs
     → before (run_after c delivered).log later ≡ Some posts → Contains runs run → run.config.round ≡ c.round
     → is_slot (shape_in c) stage run.config.number ≡ true → stage < later → RowIn c delivered run posts stage
 row-in c delivered runs later stage posts run among before_is listed round speaks_there lt = record { kept = k; row = row; at = at }
@@ -88,7 +91,8 @@ row-in c delivered runs later stage posts run among before_is listed round speak
     honest = run_after_is_honest c delivered among.config among.bytes
 
     k : KeptIn (run_after c delivered) posts stage run.config.number
-    k = kept-in (run_after c delivered) later stage run.config.number posts (is-past (run_after c delivered) later posts honest before_is) speaks_there lt
+    k = kept-in (run_after c delivered) later stage run.config.number posts (is-past (run_after c delivered) later posts honest before_is)
+        speaks_there lt
 
     slot : Slot
     slot = record { stage = stage; sender = run.config.number }
@@ -104,8 +108,10 @@ row-in c delivered runs later stage posts run among before_is listed round speak
 
     was_sent : Sent runs run.config.number k.post.content
     was_sent = subst (λ (n : ℕ). Sent runs n k.post.content) sender
-        (traced-sent runs (run_after c delivered) delivered (post_spelling k.post) k.post k.checks.content.header c.round honest among.own among.unforged
-        (log-traced c delivered slot k.post among.bytes (slot-kept (run_after c delivered) later stage run.config.number posts honest before_is speaks_there k)) framed (checks-header c slot k.post k.checks)
+        (traced-sent runs (run_after c delivered) delivered (post_spelling k.post) k.post k.checks.content.header c.round honest among.own
+        among.unforged
+        (log-traced c delivered slot k.post among.bytes (slot-kept (run_after c delivered) later stage run.config.number posts honest
+        before_is speaks_there k)) framed (checks-header c slot k.post k.checks)
         (run, listed, sym sender))
 
     found : (other : Run) × IsRunOf runs run.config.number k.checks.content.header.round other × Contains (sent other) k.post.content
@@ -115,24 +121,29 @@ row-in c delivered runs later stage posts run among before_is listed round speak
     other_is = subst (λ (r : ℕ). IsRunOf runs run.config.number r found.0) says.admitted.this_round found.1
 
     same : found.0 ≡ run
-    same = run_unique c.roster runs run.config.number c.round found.0 run among.honest other_is (record { listed = listed; number = refl; round = round })
+    same = run_unique c.roster runs run.config.number c.round found.0 run among.honest other_is
+        (record { listed = listed; number = refl; round = round })
 
     row : IsOwnRow run k.post.content
-    row = own_row run k.post.content (run-honest c.roster runs run among.honest listed) (subst (λ (r : Run). Contains (sent r) k.post.content) same found.2)
+    row = own_row run k.post.content (run-honest c.roster runs run among.honest listed)
+        (subst (λ (r : Run). Contains (sent r) k.post.content) same found.2)
 
     at : row.stage ≡ stage
-    at = ap (λ (h : Header). h.stage) (header-same (own_header run.config row.past row.stage) k.checks.content.header (header_of k.post.content) row.header says.admitted.reads)
+    at = ap (λ (h : Header). h.stage) (header-same (own_header run.config row.past row.stage) k.checks.content.header
+        (header_of k.post.content) row.header says.admitted.reads)
         ∙ content-stage (run_after c delivered) posts stage run.config.number k
 
 -- ---- the view that a yes carries
 
-row-view : (run : Run) (text : List ℕ) (row : IsOwnRow run text) (kind : StageKind) (view : List ℕ) → IsVoteStage kind → kind_of_stage (shape_in run.config) row.stage ≡ Some kind
+row-view : (run : Run) (text : List ℕ) (row : IsOwnRow run text) (kind : StageKind) (view : List ℕ) → IsVoteStage kind
+    → kind_of_stage (shape_in run.config) row.stage ≡ Some kind
     → IsYes (shape_in run.config) view text → view_of (shape_in run.config) (contents_of row.past) row.stage ≡ view
 row-view run text row (AtGo shuffle) view is at yes_is = (go-yes run text row shuffle view at yes_is).carries
 row-view run text row AtCheck view is at yes_is = (check-yes run text row view at yes_is).carries
 row-view run text row _ view is at yes_is = absurd is
 
-vote-sender : (shape : Shape) (kind : StageKind) (member : ℕ) → IsVoteStage kind → is_member shape.members member ≡ true → speaks shape (Some kind) member ≡ true
+vote-sender : (shape : Shape) (kind : StageKind) (member : ℕ) → IsVoteStage kind → is_member shape.members member ≡ true
+    → speaks shape (Some kind) member ≡ true
 vote-sender shape (AtGo shuffle) member is there_is = there_is
 vote-sender shape AtCheck member is there_is = there_is
 vote-sender shape _ member is there_is = absurd is
@@ -142,13 +153,16 @@ vote-sender shape _ member is there_is = absurd is
 short-content : (post : Post) → length (post_spelling post) < 2 ^ 32 → length post.content < 2 ^ 32
 short-content post short = (let long = spelled-long post in omega (arith, long, short))
 
-past-pieces : (posts : List Post) → ((k : ℕ) (post : Post) → slice_get posts k ≡ Some post → length (post_spelling post) < 2 ^ 32) → ArePieces (contents_of posts)
+past-pieces : (posts : List Post) → ((k : ℕ) (post : Post) → slice_get posts k ≡ Some post → length (post_spelling post) < 2 ^ 32)
+    → ArePieces (contents_of posts)
 past-pieces [] short = tt
 past-pieces (post ∷ posts) short = (short-content post (short 0 post refl), past-pieces posts (λ k other at. short (suc k) other at))
 
 -- strings of the views of a past of an honest run are among those of the runs
-views-among : (runs : List Run) (run : Run) (stage : ℕ) (past : List Post) (shape : Shape) → Contains runs run → run.log.shape ≡ shape → stage < stage_count shape
-    → before run.log stage ≡ Some past → (s : List ℕ) → Contains (view_strings shape (contents_of past) stage) s → Contains (strings_of_runs runs) s
+views-among : (runs : List Run) (run : Run) (stage : ℕ) (past : List Post) (shape : Shape) → Contains runs run → run.log.shape ≡ shape
+    → stage < stage_count shape
+    → before run.log stage ≡ Some past → (s : List ℕ) → Contains (view_strings shape (contents_of past) stage) s
+    → Contains (strings_of_runs runs) s
 views-among runs run stage past shape listed shape_is lt kept s there =
     contains-flat-from strings_of_run runs run s listed
     ((run_has_strings run).views stage past s (omega (arith, lt, ap (λ (x : Shape). x.members) shape_is)) kept
@@ -187,7 +201,8 @@ same_past c delivered runs stage posts run end listed round = record {
 
     -- everybody speaks in the votes
     vote_speaks : (member : ℕ) → 1 ≤ member → member ≤ shape.members → is_slot shape (stage - 1) member ≡ true
-    vote_speaks member least most = ap (λ (o : Option StageKind). speaks shape o member) follows.1 ∙ vote-sender shape closes.vote member closes.votes (member-there shape.members member least most)
+    vote_speaks member least most = ap (λ (o : Option StageKind). speaks shape o member) follows.1
+        ∙ vote-sender shape closes.vote member closes.votes (member-there shape.members member least most)
 
     within : (0 < stage_count shape) × (1 ≤ c.number) × (c.number ≤ shape.members)
     within = slot-bounds shape 0 c.number (own-speaks c end.among.config)
@@ -204,7 +219,8 @@ same_past c delivered runs stage posts run end listed round = record {
     bound = (slot-bounds shape (stage - 1) c.number own_speaks).0
 
     mine : RowIn c delivered run posts (stage - 1)
-    mine = row-in c delivered runs (stage + 1) (stage - 1) posts run end.among end.kept.kept listed round (vote_speaks run.config.number its_within.0 its_within.1) (omega arith)
+    mine = row-in c delivered runs (stage + 1) (stage - 1) posts run end.among end.kept.kept listed round
+        (vote_speaks run.config.number its_within.0 its_within.1) (omega arith)
 
     mine_kept : before run.log (stage - 1) ≡ Some mine.row.past
     mine_kept = subst (λ (s : ℕ). before run.log s ≡ Some mine.row.past) mine.at mine.row.before
@@ -220,15 +236,18 @@ same_past c delivered runs stage posts run end listed round = record {
 
     my_view : view_of shape (contents_of mine.row.past) (stage - 1) ≡ votes.view
     my_view =
-        ap (λ (s : Shape). view_of s (contents_of mine.row.past) (stage - 1)) (sym shape_is) ∙ ap (view_of (shape_in run.config) (contents_of mine.row.past)) (sym mine.at)
+        ap (λ (s : Shape). view_of s (contents_of mine.row.past) (stage - 1)) (sym shape_is)
+        ∙ ap (view_of (shape_in run.config) (contents_of mine.row.past)) (sym mine.at)
         ∙ row-view run mine.kept.post.content mine.row closes.vote votes.view closes.votes
         (ap (kind_of_stage (shape_in run.config)) mine.at ∙ ap (λ (s : Shape). kind_of_stage s (stage - 1)) shape_is ∙ follows.1)
-        (subst (λ (s : Shape). IsYes s votes.view mine.kept.post.content) (sym shape_is) (votes.each run.config.number mine.kept.post.content its_within.0 its_within.1 text_there))
+        (subst (λ (s : Shape). IsYes s votes.view mine.kept.post.content) (sym shape_is)
+        (votes.each run.config.number mine.kept.post.content its_within.0 its_within.1 text_there))
 
     other_view : view_of shape (contents_of other.row.past) (stage - 1) ≡ votes.view
     other_view =
         ap (view_of shape (contents_of other.row.past)) (sym other.at)
-        ∙ row-view (run_after c delivered) other.text other.row closes.vote votes.view closes.votes (ap (kind_of_stage shape) other.at ∙ follows.1)
+        ∙ row-view (run_after c delivered) other.text other.row closes.vote votes.view closes.votes
+        (ap (kind_of_stage shape) other.at ∙ follows.1)
         (votes.each c.number other.text within.1 within.2 other.stands)
 
     my_past : IsPast run (stage - 1) mine.row.past
@@ -245,7 +264,8 @@ same_past c delivered runs stage posts run end listed round = record {
         let n : ℕ = slots_before shape (stage - 1) in
         let other_length = other_past.long in
         sym (take_all n (contents_of mine.row.past) (omega (arith, my_length, length-map mine.row.past (λ (p : Post). p.content))))
-        ∙ views-determine shape (contents_of mine.row.past) (contents_of other.row.past) (strings_of_runs runs) (stage - 1) (past-pieces mine.row.past my_past.short) (past-pieces other.row.past other_past.short)
+        ∙ views-determine shape (contents_of mine.row.past) (contents_of other.row.past) (strings_of_runs runs) (stage - 1)
+        (past-pieces mine.row.past my_past.short) (past-pieces other.row.past other_past.short)
         (views-among runs run (stage - 1) mine.row.past shape listed (its.shape ∙ shape_is) bound mine_kept)
         (views-among runs (run_after c delivered) (stage - 1) other.row.past shape end.among.own honest.shape bound other_kept)
         end.distinct (my_view ∙ sym other_view)

@@ -24,7 +24,8 @@ some-posts x y e = cc
 
 pub same_list : SameList
 same_list c other delivered others_delivered runs slots others_slots among is distinct e others_e =
-    end.slots_are ∙ sym (slots-front shape (contents_of end.posts) (shape.members + 5) (omega arith)) ∙ ap (slots_of_past shape) (sym mine_front ∙ ap contents_of fronts ∙ its_front)
+    end.slots_are ∙ sym (slots-front shape (contents_of end.posts) (shape.members + 5) (omega arith))
+    ∙ ap (slots_of_past shape) (sym mine_front ∙ ap contents_of fronts ∙ its_front)
     ∙ slots-front shape (contents_of its.posts) (shape.members + 5) (omega arith)
     ∙ ap (λ (s : Shape). slots_of_past s (contents_of its.posts)) (sym shape_is) ∙ sym its.slots_are
   where
@@ -66,7 +67,8 @@ same_list c other delivered others_delivered runs slots others_slots among is di
 
     -- what the other kept before the checks, by either way
     first_way : before run.log (shape.members + 5) ≡ Some (take n same.past)
-    first_way = before-front run.log (shape.members + 5) (end.stage - 1) same.past (omega (arith, late)) same.kept ∙ ap (λ (s : Shape). Some (take (slots_before s (shape.members + 5)) same.past)) log_shape
+    first_way = before-front run.log (shape.members + 5) (end.stage - 1) same.past (omega (arith, late)) same.kept
+        ∙ ap (λ (s : Shape). Some (take (slots_before s (shape.members + 5)) same.past)) log_shape
 
     second_way : before run.log (shape.members + 5) ≡ Some (take n its.posts)
     second_way = before-front run.log (shape.members + 5) (its.stage + 1) its.posts (omega (arith, its_late, members_are)) its.kept.kept
@@ -78,7 +80,8 @@ same_list c other delivered others_delivered runs slots others_slots among is di
     mine_front : contents_of (take n same.past) ≡ front shape (contents_of end.posts) (shape.members + 5)
     mine_front =
         sym (take-map (λ (p : Post). p.content) n same.past) ∙ ap (take n) same.same
-        ∙ take-take n (slots_before shape (end.stage - 1)) (contents_of end.posts) (slots_before-rises shape (shape.members + 5) (end.stage - 1) (omega (arith, late)))
+        ∙ take-take n (slots_before shape (end.stage - 1)) (contents_of end.posts)
+        (slots_before-rises shape (shape.members + 5) (end.stage - 1) (omega (arith, late)))
 
     its_front : contents_of (take n its.posts) ≡ front shape (contents_of its.posts) (shape.members + 5)
     its_front = sym (take-map (λ (p : Post). p.content) n its.posts)

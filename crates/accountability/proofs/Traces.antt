@@ -57,7 +57,8 @@ ListsOnly P run stage posts t =
     ((post : Post) → Contains posts post → P (post_spelling post))
     → ((member : ℕ) (content : Content) (pair : Slot × List ℕ) → IsMemberOf (closing_of run.config posts stage) member
     → closing_content (closing_of run.config posts stage) member ≡ Ok content
-    → is_content_justified run.config.roster run.config.round content ≡ true → Contains (embedded_pairs run.config.roster content) pair → P pair.1)
+    → is_content_justified run.config.roster run.config.round content ≡ true → Contains (embedded_pairs run.config.roster content) pair
+    → P pair.1)
     → (bytes : List ℕ) → Contains t.posts bytes → P bytes
 
 kept-listed : (run : Run) (posts : List Post) (stage member : ℕ) (k : KeptIn run posts stage member) → Contains posts k.post
@@ -66,9 +67,11 @@ kept-listed run posts stage member k =
     (number, slice_get_within posts number k.post k.at, get_or_from_slice_get posts number k.post k.post k.at)
 
 -- what was sent in a slot of the past
-sent-has : (P : List ℕ → Type 0) (run : Run) (posts : List Post) (end stage member : ℕ) → ((post : Post) → Contains posts post → P (post_spelling post))
+sent-has : (P : List ℕ → Type 0) (run : Run) (posts : List Post) (end stage member : ℕ)
+    → ((post : Post) → Contains posts post → P (post_spelling post))
     → KeptIn run posts stage member → P (sent_in (closing_of run.config posts end) stage member)
-sent-has P run posts end stage member has k = subst P (sym (sent-in run posts end stage member k)) (has k.post (kept-listed run posts stage member k))
+sent-has P run posts end stage member has k = subst P (sym (sent-in run posts end stage member k))
+    (has k.post (kept-listed run posts stage member k))
 
 pub one-has : (P : List ℕ → Type 0) (a : List ℕ) → P a → (bytes : List ℕ) → Contains (a ∷ []) bytes → P bytes
 one-has P a has bytes listed = elim (contains-cases a [] bytes listed) [
@@ -107,7 +110,8 @@ take-listed (suc n) (y ∷ xs) x listed = elim (contains-cases y (take n xs) x l
   | inr later ↦ contains-later y xs x (take-listed n xs x later)
 ]
 
-pub in-posts : (P : List ℕ → Type 0) (t : Transcript) (v : Verdict) (other : Transcript) → v ≡ Convicts other → Convicts t ≡ v → ((bytes : List ℕ) → Contains other.posts bytes → P bytes)
+pub in-posts : (P : List ℕ → Type 0) (t : Transcript) (v : Verdict) (other : Transcript) → v ≡ Convicts other → Convicts t ≡ v
+    → ((bytes : List ℕ) → Contains other.posts bytes → P bytes)
     → (bytes : List ℕ) → Contains t.posts bytes → P bytes
 in-posts P t v other is e all bytes listed =
     let same : t ≡ other = transcript-same t other (e ∙ is) in
@@ -120,15 +124,20 @@ verdict-lists P run stage posts t end e has embedded = by_case (verdict_cases v 
     v : ClosedStage
     v = closing_of run.config posts stage
 
-    at-end : (member : ℕ) → IsMemberOf (closing_of run.config posts stage) member → P (sent_in (closing_of run.config posts stage) stage member)
+    at-end : (member : ℕ) → IsMemberOf (closing_of run.config posts stage) member
+        → P (sent_in (closing_of run.config posts stage) stage member)
     at-end member is = sent-has P run posts stage stage member has (kept-end run stage member posts end is)
 
-    in-slot : (s member : ℕ) → is_slot (shape_in run.config) s member ≡ true → s < stage + 1 → P (sent_in (closing_of run.config posts stage) s member)
-    in-slot s member speaks lt = sent-has P run posts stage s member has (kept-in run (stage + 1) s member posts (end-past run stage posts end) speaks lt)
+    in-slot : (s member : ℕ) → is_slot (shape_in run.config) s member ≡ true → s < stage + 1
+        → P (sent_in (closing_of run.config posts stage) s member)
+    in-slot s member speaks lt = sent-has P run posts stage s member has
+        (kept-in run (stage + 1) s member posts (end-past run stage posts end) speaks lt)
 
-    of-members : (bytes : List ℕ) → Contains (by_member (shape_in run.config) (sent_in (closing_of run.config posts stage) stage)) bytes → P bytes
+    of-members : (bytes : List ℕ) → Contains (by_member (shape_in run.config) (sent_in (closing_of run.config posts stage) stage)) bytes
+        → P bytes
     of-members bytes listed =
-        let found = contains-map (sent_in (closing_of run.config posts stage) stage) (range_with_len 1 (shape_in run.config).members) bytes listed in
+        let found = contains-map (sent_in (closing_of run.config posts stage) stage) (range_with_len 1 (shape_in run.config).members) bytes
+        listed in
         let within = range-within 1 (shape_in run.config).members found.0 found.1 in
         let most = within.1 in
         subst P found.2 (at-end found.0 (record { least = within.0; most = omega (arith, most) }))
@@ -138,17 +147,20 @@ verdict-lists P run stage posts t end e has embedded = by_case (verdict_cases v 
         ++ sent_in (closing_of run.config posts stage) (pad_stage (shape_in run.config)) is.accusation.member ∷ []) bytes → P bytes
     of-pad is bytes listed = elim (append-cases _ _ bytes listed) [
       | inl front ↦
-          let found = contains-map post_spelling (take (slots_before (shape_in run.config) (pad_stage (shape_in run.config))) posts) bytes front in
+          let found = contains-map post_spelling (take (slots_before (shape_in run.config) (pad_stage (shape_in run.config))) posts) bytes
+          front in
           subst P found.2 (has found.0 (take-listed _ posts found.0 found.1))
       | inr back ↦
           let member = named-member (shape_in run.config) (contents_of posts) is.accusation is.holds in
           let b = before-end run stage is.shuffle posts end is.kind is.second in
           let late = b.late in
           let here : pad_stage (shape_in run.config) ≡ (shape_in run.config).members + 4 = refl in
-          one-has P _ (in-slot (pad_stage (shape_in run.config)) is.accusation.member (pads-speak (shape_in run.config) is.accusation.member member.0 member.1) (omega (arith, late, here))) bytes back
+          one-has P _ (in-slot (pad_stage (shape_in run.config)) is.accusation.member
+          (pads-speak (shape_in run.config) is.accusation.member member.0 member.1) (omega (arith, late, here))) bytes back
     ]
 
-    by_case : Case (closing_of run.config posts stage) (verdict_of (closing_of run.config posts stage)) → (bytes : List ℕ) → Contains t.posts bytes → P bytes
+    by_case : Case (closing_of run.config posts stage) (verdict_of (closing_of run.config posts stage)) → (bytes : List ℕ)
+        → Contains t.posts bytes → P bytes
     by_case (ByBadLog is) = in-posts P t _ _ is.verdict_is (sym e) (one-has P _ (at-end is.member is.is_member))
     by_case (ByEquivocation is) =
         let justified : is_content_justified run.config.roster run.config.round is.content ≡ true =
@@ -156,10 +168,12 @@ verdict-lists P run stage posts t end e has embedded = by_case (verdict_cases v 
         let there = embeds-there run stage is.member posts is.content is.pair end is.is_member is.reads justified is.embedded in
         let before = there.earlier in
         in-posts P t _ _ is.verdict_is (sym e)
-        (two-have P _ _ (in-slot is.pair.0.stage is.pair.0.sender there.speaks (omega arith)) (embedded is.member is.content is.pair is.is_member is.reads justified is.embedded))
+        (two-have P _ _ (in-slot is.pair.0.stage is.pair.0.sender there.speaks (omega arith))
+        (embedded is.member is.content is.pair is.is_member is.reads justified is.embedded))
     by_case (ByWrongSeed is) =
         in-posts P t _ _ is.verdict_is (sym e)
-        (two-have P _ _ (in-slot 0 is.member (member-is run stage is.member posts is.is_member) (omega arith)) (at-end is.member is.is_member))
+        (two-have P _ _ (in-slot 0 is.member (member-is run stage is.member posts is.is_member) (omega arith))
+        (at-end is.member is.is_member))
     by_case (ByReplay is) = in-posts P t _ _ is.verdict_is (sym e) of-members
     by_case (ByBadPad is) = in-posts P t _ _ is.verdict_is (sym e) (of-pad is)
     by_case (GoesOn agree work goes) = absurd (convicts-not t (verdict_of (closing_of run.config posts stage)) (inl goes) (sym e))
@@ -171,10 +185,12 @@ verdict-lists P run stage posts t end e has embedded = by_case (verdict_cases v 
 -- its own
 pub data IsTraced (run : Run) (delivered : List (List ℕ)) (bytes : List ℕ) : Type 0 where
   Given : IsGiven run.config.roster delivered bytes → IsTraced run delivered bytes
-  Own : (stage : ℕ) (post : Post) → kept_in run.log (own_slot run stage) ≡ Some post → bytes ≡ post_spelling post → IsTraced run delivered bytes
+  Own : (stage : ℕ) (post : Post) → kept_in run.log (own_slot run stage) ≡ Some post → bytes ≡ post_spelling post
+      → IsTraced run delivered bytes
 
 -- what is kept is in a slot of the round
-kept-speaks : (c : Configuration) (others : Others) (slot : Slot) (post : Post) → kept_in (settled_log c others) slot ≡ Some post → is_slot (shape_in c) slot.stage slot.sender ≡ true
+kept-speaks : (c : Configuration) (others : Others) (slot : Slot) (post : Post) → kept_in (settled_log c others) slot ≡ Some post
+    → is_slot (shape_in c) slot.stage slot.sender ≡ true
 unfolding settled_log
 kept-speaks c others slot post e = elim (cases_Bool (is_slot (shape_in c) slot.stage slot.sender)) [
   | inl speaks_there ↦ speaks_there
@@ -183,16 +199,19 @@ kept-speaks c others slot post e = elim (cases_Bool (is_slot (shape_in c) slot.s
 
 -- a kept post is
 pub kept-traced : (c : Configuration) (delivered : List (List ℕ)) (slot : Slot) (post : Post) → All IsBytes delivered
-    → kept_in (settled_log c (first_posts c delivered)) slot ≡ Some post → IsTraced (settled_run c (first_posts c delivered)) delivered (post_spelling post)
+    → kept_in (settled_log c (first_posts c delivered)) slot ≡ Some post
+    → IsTraced (settled_run c (first_posts c delivered)) delivered (post_spelling post)
 unfolding post_settled
 kept-traced c delivered slot post all e = elim (cases_Bool (slot.sender == c.number)) [
   | inl own ↦
-      let slot_is : slot ≡ record { stage = slot.stage; sender = c.number } = ap (λ (s : ℕ). record { stage = slot.stage; sender = s }) (eqb-true slot.sender c.number own) in
+      let slot_is : slot ≡ record { stage = slot.stage; sender = c.number } = ap (λ (s : ℕ). record { stage = slot.stage; sender = s })
+      (eqb-true slot.sender c.number own) in
       Own slot.stage post (sym (ap (kept_in (settled_log c (first_posts c delivered))) slot_is) ∙ e) refl
   | inr other ↦
       let speaks_there = kept-speaks c (first_posts c delivered) slot post e in
       let first : first_posts c delivered slot ≡ Some post =
-      sym (cond-false (slot.sender == c.number) (own_post_at c (course_of c (first_posts c delivered)) slot.stage) (first_posts c delivered slot) other)
+      sym (cond-false (slot.sender == c.number) (own_post_at c (course_of c (first_posts c delivered)) slot.stage)
+      (first_posts c delivered slot) other)
       ∙ sym (settled-kept c (first_posts c delivered) slot speaks_there) ∙ e in
       let is = first_posts_delivered c delivered slot post all first in
       let spelled = (framed-found is.bytes post (All-contains IsBytes delivered is.bytes all is.listed) is.spelled).1 in
@@ -209,7 +228,8 @@ zip-second {A} {B} (x ∷ xs) (y ∷ ys) pair listed = elim (contains-cases (x, 
   | inr later ↦ contains-later y ys pair.1 (zip-second xs ys pair later)
 ]
 
-all-zip-in : {A B : Type 0} (P : A → B → Type 0) (xs : List A) (ys : List B) (x : A) → AllZip P xs ys → Contains xs x → (y : B) × Contains ys y × P x y
+all-zip-in : {A B : Type 0} (P : A → B → Type 0) (xs : List A) (ys : List B) (x : A) → AllZip P xs ys → Contains xs x → (y : B)
+    × Contains ys y × P x y
 all-zip-in P [] ys x all listed = absurd (contains-nothing x listed)
 all-zip-in P (z ∷ xs) [] x all listed = absurd all
 all-zip-in {A} {B} P (z ∷ xs) (y ∷ ys) x all listed = elim (contains-cases z xs x listed) [
@@ -223,13 +243,15 @@ got-at {A} xs x (i, lt, same) = (i, slice_get-get_or xs i x lt ∙ ap (λ (y : A
 pub at-listed : {A : Type 0} (xs : List A) (k : ℕ) (x : A) → slice_get xs k ≡ Some x → Contains xs x
 at-listed xs k x e = (k, slice_get_within xs k x e, get_or_from_slice_get xs k x x e)
 
-embedded-of_past : (shape : Shape) (content : Content) (past : List Post) (post : Post) → Contains (embedded_of shape content past) post → Contains past post
+embedded-of_past : (shape : Shape) (content : Content) (past : List Post) (post : Post) → Contains (embedded_of shape content past) post
+    → Contains past post
 embedded-of_past shape content past post listed =
     let at = got-at (embedded_of shape content past) post listed in
     at-listed past _ post (embedded-get shape content past at.0 post at.1)
 
 -- what stands in the past of a run stands in a slot of its log
-pub past-slot : (run : Run) (later : ℕ) (posts : List Post) (post : Post) → HonestRun run → before run.log later ≡ Some posts → Contains posts post
+pub past-slot : (run : Run) (later : ℕ) (posts : List Post) (post : Post) → HonestRun run → before run.log later ≡ Some posts
+    → Contains posts post
     → (slot : Slot) × (kept_in run.log slot ≡ Some post)
 past-slot run later posts post honest kept listed =
     let at = got-at posts post listed in
@@ -237,13 +259,15 @@ past-slot run later posts post honest kept listed =
     (is.slot, is.kept)
 
 -- the post of a slot of the past is what the log keeps in the slot
-pub slot-kept : (run : Run) (later stage member : ℕ) (posts : List Post) → HonestRun run → before run.log later ≡ Some posts → is_slot (shape_in run.config) stage member ≡ true
+pub slot-kept : (run : Run) (later stage member : ℕ) (posts : List Post) → HonestRun run → before run.log later ≡ Some posts
+    → is_slot (shape_in run.config) stage member ≡ true
     → (k : KeptIn run posts stage member) → kept_in run.log (record { stage = stage; sender = member }) ≡ Some k.post
 slot-kept run later stage member posts honest kept speaks k =
     let number : ℕ = slot_number (shape_in run.config) stage member in
     let is = past-kept run.log later number posts k.post honest.log kept k.at in
     let same : is.slot ≡ record { stage = stage; sender = member } =
-    some-slot is.slot _ (sym is.at ∙ ap (λ (s : Shape). slot_at s number) honest.shape ∙ slot_at-number (shape_in run.config) stage member speaks) in
+    some-slot is.slot _ (sym is.at ∙ ap (λ (s : Shape). slot_at s number) honest.shape
+    ∙ slot_at-number (shape_in run.config) stage member speaks) in
     subst (λ (s : Slot). kept_in run.log s ≡ Some k.post) same is.kept
   where
     some-slot : (a b : Slot) → (let told : Slot → Option Slot = λ z. Some z in told a ≡ told b) → a ≡ b
@@ -252,33 +276,44 @@ slot-kept run later stage member posts honest kept speaks k =
 -- ---- embedded posts
 
 -- those that the member itself embeds are kept posts
-own-embedded : (c : Configuration) (delivered : List (List ℕ)) (stage : ℕ) (posts : List Post) (content : Content) (pair : Slot × List ℕ) → All IsBytes delivered
+own-embedded : (c : Configuration) (delivered : List (List ℕ)) (stage : ℕ) (posts : List Post) (content : Content) (pair : Slot × List ℕ)
+    → All IsBytes delivered
     → IsKeptEnd (settled_run c (first_posts c delivered)) stage posts
-    → (number : ℕ) → number ≡ c.number → (k : KeptIn (settled_run c (first_posts c delivered)) posts stage number) → k.checks.content ≡ content
+    → (number : ℕ) → number ≡ c.number → (k : KeptIn (settled_run c (first_posts c delivered)) posts stage number)
+    → k.checks.content ≡ content
     → is_slot (shape_in c) stage number ≡ true
     → Contains (embedded_pairs c.roster content) pair → IsTraced (settled_run c (first_posts c delivered)) delivered pair.1
 own-embedded c delivered stage posts content pair all end number mine k content_is speaks_number listed =
     let run : Run = settled_run c (first_posts c delivered) in
-    let own = own-said (settled_run c (first_posts c delivered)) (stage + 1) stage posts end.honest end.kept (subst (λ (n : ℕ). is_slot (shape_in c) stage n ≡ true) mine speaks_number) (omega arith) in
+    let own = own-said (settled_run c (first_posts c delivered)) (stage + 1) stage posts end.honest end.kept
+    (subst (λ (n : ℕ). is_slot (shape_in c) stage n ≡ true) mine speaks_number) (omega arith) in
     let stands : slice_get (contents_of posts) (slot_number (shape_in c) stage number) ≡ Some own.text =
     ap (λ (n : ℕ). slice_get (contents_of posts) (slot_number (shape_in c) stage n)) mine ∙ own.stands in
-    let text : own.text ≡ k.post.content = texts-same own.text k.post.content (sym stands ∙ slice_get-map (λ (p : Post). p.content) posts _ ∙ ap (option_map (λ (p : Post). p.content)) k.at) in
-    let same : own.row.read ≡ content = contents-same own.row.read k.checks.content (content_read (shape_in c) own.text) (row-reads run own.text own.row)
+    let text : own.text ≡ k.post.content = texts-same own.text k.post.content
+    (sym stands ∙ slice_get-map (λ (p : Post). p.content) posts _ ∙ ap (option_map (λ (p : Post). p.content)) k.at) in
+    let same : own.row.read ≡ content = contents-same own.row.read k.checks.content (content_read (shape_in c) own.text)
+    (row-reads run own.text own.row)
     (ap (content_read (shape_in c)) text ∙ content-reads run posts stage number k) ∙ content_is in
-    let closing : is_some (option_and_then vote_of (kind_of_stage (shape_in c) own.row.stage)) ≡ true = ap (is_closing (shape_in c)) own.at ∙ end.closing in
+    let closing : is_some (option_and_then vote_of (kind_of_stage (shape_in c) own.row.stage)) ≡ true = ap (is_closing (shape_in c)) own.at
+    ∙ end.closing in
     let closes = own-closing run own.text own.row end.honest closing in
-    let embeds : posts_in_content c.roster c.round content ≡ Ok (embedded_of (shape_in c) own.row.read own.row.past) = ap (λ (x : Content). posts_in_content c.roster c.round x) (sym same) ∙ closes.embeds in
+    let embeds : posts_in_content c.roster c.round content ≡ Ok (embedded_of (shape_in c) own.row.read own.row.past) = ap
+    (λ (x : Content). posts_in_content c.roster c.round x) (sym same) ∙ closes.embeds in
     let bytes = subst (λ (x : Content). IsBytes (body_text x.body)) content_is (body-bytes run posts stage number k) in
     let are = (posts_are_found c.roster c.round 0 (embedded_pairs c.roster content) (embedded_of (shape_in c) own.row.read own.row.past)
-    (zip-bytes (slots_embedded (shape_in c) content) (posts_embedded content.body) (all-places IsBytes (posts_embedded content.body) (embedded-bytes content.body bytes)))).0 embeds in
-    let found = all-zip-in (λ (p : Slot × List ℕ) (post : Post). IsPostOf c.roster c.round p.0 p.1 post) (embedded_pairs c.roster content) _ pair are listed in
-    let at = past-slot run own.row.stage own.row.past found.0 end.honest own.row.before (embedded-of_past (shape_in c) own.row.read own.row.past found.0 found.1) in
+    (zip-bytes (slots_embedded (shape_in c) content) (posts_embedded content.body)
+    (all-places IsBytes (posts_embedded content.body) (embedded-bytes content.body bytes)))).0 embeds in
+    let found = all-zip-in (λ (p : Slot × List ℕ) (post : Post). IsPostOf c.roster c.round p.0 p.1 post) (embedded_pairs c.roster content) _
+    pair are listed in
+    let at = past-slot run own.row.stage own.row.past found.0 end.honest own.row.before
+    (embedded-of_past (shape_in c) own.row.read own.row.past found.0 found.1) in
     subst (IsTraced run delivered) (sym found.2.spelled) (kept-traced c delivered at.0 found.0 all at.1)
   where
     texts-same : (a b : List ℕ) → (let told : List ℕ → Option (List ℕ) = λ z. Some z in told a ≡ told b) → a ≡ b
     texts-same a b e = cc
 
-pub embedded-traced : (c : Configuration) (delivered : List (List ℕ)) (stage member : ℕ) (posts : List Post) (content : Content) (pair : Slot × List ℕ) → All IsBytes delivered
+pub embedded-traced : (c : Configuration) (delivered : List (List ℕ)) (stage member : ℕ) (posts : List Post) (content : Content)
+    (pair : Slot × List ℕ) → All IsBytes delivered
     → IsKeptEnd (settled_run c (first_posts c delivered)) stage posts → IsMemberOf (closing_of c posts stage) member
     → closing_content (closing_of c posts stage) member ≡ Ok content
     → Contains (embedded_pairs c.roster content) pair → IsTraced (settled_run c (first_posts c delivered)) delivered pair.1
@@ -298,14 +333,17 @@ embedded-traced c delivered stage member posts content pair all end is reads lis
     speaks_there = (closing-kind (shape_in c) stage end.closing).all_close member is.least is.most
 
     by_member_is : (member == c.number ≡ true) ⊎ (member == c.number ≡ false) → IsTraced run delivered pair.1
-    by_member_is (inl mine) = own-embedded c delivered stage posts content pair all end member (eqb-true member c.number mine) k content_is speaks_there listed
+    by_member_is (inl mine) = own-embedded c delivered stage posts content pair all end member (eqb-true member c.number mine) k content_is
+        speaks_there listed
     by_member_is (inr other) =
         let kept = slot-kept run (stage + 1) stage member posts end.honest end.kept speaks_there k in
         let first : first_posts c delivered (record { stage = stage; sender = member }) ≡ Some k.post =
-        sym (cond-false (member == c.number) (own_post_at c (course_of c (first_posts c delivered)) stage) (first_posts c delivered (record { stage = stage; sender = member })) other)
+        sym (cond-false (member == c.number) (own_post_at c (course_of c (first_posts c delivered)) stage)
+        (first_posts c delivered (record { stage = stage; sender = member })) other)
         ∙ sym (settled-kept c (first_posts c delivered) (record { stage = stage; sender = member }) speaks_there) ∙ kept in
         let found = first_posts_delivered c delivered (record { stage = stage; sender = member }) k.post all first in
-        let stage_is : content.header.stage ≡ stage = ap (λ (x : Content). x.header.stage) (sym content_is) ∙ content-stage run posts stage member k in
+        let stage_is : content.header.stage ≡ stage = ap (λ (x : Content). x.header.stage) (sym content_is)
+        ∙ content-stage run posts stage member k in
         Given (inr (
           found.bytes,
           found.listed,
@@ -320,7 +358,8 @@ embedded-traced c delivered stage member posts content pair all end is reads lis
         ))
 
 -- what is traced in some of the deliveries is in all
-pub widened : (run : Run) (part delivered : List (List ℕ)) → ((bytes : List ℕ) → Contains part bytes → Contains delivered bytes) → (bytes : List ℕ)
+pub widened : (run : Run) (part delivered : List (List ℕ)) → ((bytes : List ℕ) → Contains part bytes → Contains delivered bytes)
+    → (bytes : List ℕ)
     → IsTraced run part bytes → IsTraced run delivered bytes
 widened run part delivered within bytes (Given (inl listed)) = Given (inl (within bytes listed))
 widened run part delivered within bytes (Given (inr (outer, listed, embedded))) = Given (inr (outer, within outer listed, embedded))

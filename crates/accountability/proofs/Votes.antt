@@ -43,7 +43,8 @@ all-unanimous : (shape : Shape) (contents : List (List ℕ)) → are_unanimous s
 unfolding are_unanimous
 all-unanimous shape contents e = by_votes (votes_of shape contents) refl
   where
-    by_votes : (o : Option (List Vote)) → votes_of shape contents ≡ o → (votes : List Vote) × (votes_of shape contents ≡ Some votes) × AreUnanimous votes
+    by_votes : (o : Option (List Vote)) → votes_of shape contents ≡ o → (votes : List Vote) × (votes_of shape contents ≡ Some votes)
+        × AreUnanimous votes
     by_votes None at = absurd (let no_votes = sym (ap has_unanimous at) ∙ e in cc)
     by_votes (Some votes) at = (votes, at, (unanimity votes (is_unanimous votes) refl).0 (sym (ap has_unanimous at) ∙ e))
 
@@ -51,7 +52,8 @@ vote-at : (shape : Shape) (contents : List (List ℕ)) (votes : List Vote) (k : 
     → (all : AreUnanimous votes) → slice_get contents k ≡ Some text → IsYes shape all.0 text
 vote-at shape contents votes k text e all at =
     let each : map (vote_of shape) contents ≡ map (λ vote. Some vote) votes = all_some-is (map (vote_of shape) contents) votes e in
-    let here : slice_get (map (vote_of shape) contents) k ≡ Some (vote_of shape text) = slice_get-map (vote_of shape) contents k ∙ ap (option_map (vote_of shape)) at in
+    let here : slice_get (map (vote_of shape) contents) k ≡ Some (vote_of shape text) = slice_get-map (vote_of shape) contents k
+    ∙ ap (option_map (vote_of shape)) at in
     let found = option_map-some (λ (vote : Vote). Some vote) (slice_get votes k) (vote_of shape text)
     (sym (slice_get-map (λ (vote : Vote). Some vote) votes k) ∙ sym (ap (λ (xs : List (Option Vote)). slice_get xs k) each) ∙ here) in
     let parts = all.1 k found.0 (slice_get_within votes k found.0 found.1) in
@@ -66,7 +68,8 @@ vote-at shape contents votes k text e all at =
 -- each member's vote before a closing stage
 pub record AreYes (shape : Shape) (past : List (List ℕ)) (stage : ℕ) : Type 0 where
   pub view : List ℕ
-  pub each : (member : ℕ) (text : List ℕ) → 1 ≤ member → member ≤ shape.members → slice_get past (slot_number shape (stage - 1) member) ≡ Some text
+  pub each : (member : ℕ) (text : List ℕ) → 1 ≤ member → member ≤ shape.members
+      → slice_get past (slot_number shape (stage - 1) member) ≡ Some text
       → IsYes shape view text
 
 vote-place : (kind : StageKind) (member : ℕ) → IsVoteStage kind → place_in (Some kind) member ≡ member - 1
@@ -74,7 +77,8 @@ vote-place (AtGo shuffle) member is = refl
 vote-place AtCheck member is = refl
 vote-place _ member is = absurd is
 
-pub votes-yes : (shape : Shape) (past : List (List ℕ)) (stage : ℕ) → ClosingKind shape stage → votes_agree shape past stage ≡ true → AreYes shape past stage
+pub votes-yes : (shape : Shape) (past : List (List ℕ)) (stage : ℕ) → ClosingKind shape stage → votes_agree shape past stage ≡ true
+    → AreYes shape past stage
 votes-yes shape past stage k e =
     let found = all-unanimous shape (contents_at shape past (stage - 1)) e in
     let follows = closing-follows shape stage k.kind k.vote k.is k.closes in
@@ -99,7 +103,8 @@ vote-same a b e = cc
 -- all that a member saw before its vote on a shuffle is right, and its inner ciphertext stands in the last list
 pub record IsGoYes (run : Run) (shuffle : ℕ) (view : List ℕ) (past : List Post) (stage : ℕ) : Type 0 where
   pub right : first_wrong (shape_in run.config) (contents_of past) stage ≡ None
-  pub stands : stands_last (shape_in run.config) (own_submission run.config (own_descriptor run.config (contents_of past)) (contents_of past) shuffle).inner_ciphertext
+  pub stands : stands_last (shape_in run.config) (own_submission run.config (own_descriptor run.config (contents_of past))
+      (contents_of past) shuffle).inner_ciphertext
       (lists_before (shape_in run.config) (contents_of past) stage) ≡ true
   pub carries : view_of (shape_in run.config) (contents_of past) stage ≡ view
 
@@ -107,34 +112,42 @@ none-is : {A : Type 0} (o : Option A) → is_none o ≡ true → o ≡ None
 none-is None e = refl
 none-is (Some x) e = absurd cc
 
-go-flags : (shape : Shape) (past : List (List ℕ)) (stage : ℕ) (inner view own_view : List ℕ) (vote : Vote) → body_vote own_view (go_row shape past stage inner) ≡ Some vote
+go-flags : (shape : Shape) (past : List (List ℕ)) (stage : ℕ) (inner view own_view : List ℕ) (vote : Vote)
+    → body_vote own_view (go_row shape past stage inner) ≡ Some vote
     → vote.yes ≡ true → vote.view ≡ view
     → (first_wrong shape past stage ≡ None) × (stands_last shape inner (lists_before shape past stage) ≡ true) × (own_view ≡ view)
 unfolding go_row
 go-flags shape past stage inner view own_view vote e approves its_view =
     let flag : Bool = all_right shape past stage && stands_last shape inner (lists_before shape past stage) in
-    let same : record { yes = all_right shape past stage && stands_last shape inner (lists_before shape past stage); view = own_view } ≡ vote = vote-same _ vote e in
-    let parts = and_parts (all_right shape past stage) (stands_last shape inner (lists_before shape past stage)) (ap (λ (v : Vote). v.yes) same ∙ approves) in
+    let same : record { yes = all_right shape past stage && stands_last shape inner (lists_before shape past stage); view = own_view } ≡
+    vote = vote-same _ vote e in
+    let parts = and_parts (all_right shape past stage) (stands_last shape inner (lists_before shape past stage))
+    (ap (λ (v : Vote). v.yes) same ∙ approves) in
     (none-is (first_wrong shape past stage) parts.0, parts.1, ap (λ (v : Vote). v.view) same ∙ its_view)
 
 -- the vote that a row is
-row-vote : (run : Run) (text : List ℕ) (row : IsOwnRow run text) (view : List ℕ) (body : Body) (yes_is : IsYes (shape_in run.config) view text) → row.read.body ≡ body
+row-vote : (run : Run) (text : List ℕ) (row : IsOwnRow run text) (view : List ℕ) (body : Body)
+    (yes_is : IsYes (shape_in run.config) view text) → row.read.body ≡ body
     → body_vote (view_of (shape_in run.config) (contents_of row.past) row.stage) body ≡ Some yes_is.vote
 row-vote run text row view body yes_is body_is =
     sym (ap (body_vote (view_of (shape_in run.config) (contents_of row.past) row.stage)) body_is)
     ∙ sym (ap (λ (h : Header). body_vote h.view row.read.body) (row-header run text row))
     ∙ sym (ap vote_read (row-reads run text row)) ∙ yes_is.is
 
-pub go-yes : (run : Run) (text : List ℕ) (row : IsOwnRow run text) (shuffle : ℕ) (view : List ℕ) → kind_of_stage (shape_in run.config) row.stage ≡ Some (AtGo shuffle)
+pub go-yes : (run : Run) (text : List ℕ) (row : IsOwnRow run text) (shuffle : ℕ) (view : List ℕ)
+    → kind_of_stage (shape_in run.config) row.stage ≡ Some (AtGo shuffle)
     → IsYes (shape_in run.config) view text → IsGoYes run shuffle view row.past row.stage
 go-yes run text row shuffle view kind yes_is =
     let c = run.config in
     let shape = shape_in c in
     let past : List (List ℕ) = contents_of row.past in
     let inner : List ℕ = (own_submission c (own_descriptor c past) past shuffle).inner_ciphertext in
-    let due : body_due run text row ≡ go_row shape past row.stage inner = ap (own_body_if c (own_descriptor c past) row.past row.stage) kind in
-    let body = ap (λ (x : Content). x.body) (row-is run text row (subst (IsBody shape row.stage) (sym due) (go-body shape past row.stage shuffle inner kind))) ∙ due in
-    let flags = go-flags shape past row.stage inner view (view_of shape past row.stage) yes_is.vote (row-vote run text row view (go_row shape past row.stage inner) yes_is body) yes_is.approves yes_is.carries in
+    let due : body_due run text row ≡ go_row shape past row.stage inner = ap (own_body_if c (own_descriptor c past) row.past row.stage) kind
+    in
+    let body = ap (λ (x : Content). x.body) (row-is run text row
+    (subst (IsBody shape row.stage) (sym due) (go-body shape past row.stage shuffle inner kind))) ∙ due in
+    let flags = go-flags shape past row.stage inner view (view_of shape past row.stage) yes_is.vote
+    (row-vote run text row view (go_row shape past row.stage inner) yes_is body) yes_is.approves yes_is.carries in
     record { right = flags.0; stands = flags.1; carries = flags.2 }
 
 -- all that a member saw before its vote on what was seen is right
@@ -142,20 +155,24 @@ pub record IsCheckYes (run : Run) (view : List ℕ) (past : List Post) (stage : 
   pub right : first_wrong (shape_in run.config) (contents_of past) stage ≡ None
   pub carries : view_of (shape_in run.config) (contents_of past) stage ≡ view
 
-check-flags : (shape : Shape) (past : List (List ℕ)) (stage : ℕ) (view own_view : List ℕ) (vote : Vote) → body_vote own_view (check_row shape past stage) ≡ Some vote
+check-flags : (shape : Shape) (past : List (List ℕ)) (stage : ℕ) (view own_view : List ℕ) (vote : Vote)
+    → body_vote own_view (check_row shape past stage) ≡ Some vote
     → vote.yes ≡ true → vote.view ≡ view → (first_wrong shape past stage ≡ None) × (own_view ≡ view)
 unfolding check_row
 check-flags shape past stage view own_view vote e approves its_view =
     let same : record { yes = all_right shape past stage; view = own_view } ≡ vote = vote-same _ vote e in
     (none-is (first_wrong shape past stage) (ap (λ (v : Vote). v.yes) same ∙ approves), ap (λ (v : Vote). v.view) same ∙ its_view)
 
-pub check-yes : (run : Run) (text : List ℕ) (row : IsOwnRow run text) (view : List ℕ) → kind_of_stage (shape_in run.config) row.stage ≡ Some AtCheck
+pub check-yes : (run : Run) (text : List ℕ) (row : IsOwnRow run text) (view : List ℕ)
+    → kind_of_stage (shape_in run.config) row.stage ≡ Some AtCheck
     → IsYes (shape_in run.config) view text → IsCheckYes run view row.past row.stage
 check-yes run text row view kind yes_is =
     let c = run.config in
     let shape = shape_in c in
     let past : List (List ℕ) = contents_of row.past in
     let due : body_due run text row ≡ check_row shape past row.stage = ap (own_body_if c (own_descriptor c past) row.past row.stage) kind in
-    let body = ap (λ (x : Content). x.body) (row-is run text row (subst (IsBody shape row.stage) (sym due) (check-body shape past row.stage kind))) ∙ due in
-    let flags = check-flags shape past row.stage view (view_of shape past row.stage) yes_is.vote (row-vote run text row view (check_row shape past row.stage) yes_is body) yes_is.approves yes_is.carries in
+    let body = ap (λ (x : Content). x.body) (row-is run text row
+    (subst (IsBody shape row.stage) (sym due) (check-body shape past row.stage kind))) ∙ due in
+    let flags = check-flags shape past row.stage view (view_of shape past row.stage) yes_is.vote
+    (row-vote run text row view (check_row shape past row.stage) yes_is body) yes_is.approves yes_is.carries in
     record { right = flags.0; carries = flags.1 }

@@ -25,8 +25,10 @@ NothingButPads = (c : Configuration) (delivered : List (List ℕ)) (runs : List 
 
 -- a string was delivered that is the post file of each slot of another member up to the stage where the checks are closed
 abbrev pub AllDelivered : Configuration → List (List ℕ) → Type 0
-AllDelivered c delivered = (stage member : ℕ) → IsTrue (is_slot (shape_in c) stage member) → stage ≤ (shape_in c).members + 6 → member ≢ c.number →
-    (bytes : List ℕ) × (post : Post) × Contains delivered bytes × IsPostOf c.roster c.round (record { stage = stage; sender = member }) bytes post
+AllDelivered c delivered = (stage member : ℕ) → IsTrue (is_slot (shape_in c) stage member) → stage ≤ (shape_in c).members + 6
+    → member ≢ c.number →
+    (bytes : List ℕ) × (post : Post) × Contains delivered bytes
+    × IsPostOf c.roster c.round (record { stage = stage; sender = member }) bytes post
 
 -- where all members have runs and all this was delivered, the round is done, with the message of each of them
 abbrev pub AllHonest : Type 0

@@ -27,7 +27,8 @@ pub record NamesMissed (c : Configuration) (delivered : List (List ℕ)) (stage 
   pub missed : (member : ℕ) → Contains named member ↔ IsMissed c delivered stage member
   pub ascending : AllPairs (λ member later. member < later) named
   pub somebody : (member : ℕ) × Contains named member
-  pub own : IsTrue (is_slot (shape_in c) stage c.number) → IsSome (kept_in (log_after c delivered) (record { stage = stage; sender = c.number }))
+  pub own : IsTrue (is_slot (shape_in c) stage c.number) → IsSome
+      (kept_in (log_after c delivered) (record { stage = stage; sender = c.number }))
 
 -- so it is with each open result
 abbrev pub OpenNames : Type 0

@@ -36,7 +36,8 @@ record SeedHolds (d : Description) (member : ℕ) (seed key sent : List ℕ) : T
   pub hash : hash_of_pad (pad_of seed d.length) ≡ pad_hash_for d member
   pub other : sent ≢ pad_of seed d.length
 
-seed_holds : (d : Description) (member : ℕ) (seed key sent : List ℕ) → seed_refusal d member seed key sent ≡ None → SeedHolds d member seed key sent
+seed_holds : (d : Description) (member : ℕ) (seed key sent : List ℕ) → seed_refusal d member seed key sent ≡ None
+    → SeedHolds d member seed key sent
 unfolding seed_refusal
 seed_holds d member seed key sent e =
     let capsule = bytes_eq (capsule_for d member) (capsule_of key seed) in
@@ -48,18 +49,22 @@ seed_holds d member seed key sent e =
     record {
       sealed = (bytes_eq-Decides (capsule_for d member) (capsule_of key seed)).0 (fault_unless-holds capsule Capsule one.0);
       hash = (bytes_eq-Decides (hash_of_pad (pad_of seed d.length)) (pad_hash_for d member)).0 (fault_unless-holds hash PadHash two.0);
-      other = λ is. both_ways same (not-true same (fault_unless-holds (not same) PadSent three.0)) ((bytes_eq-Decides sent (pad_of seed d.length)).1 is);
+      other = λ is. both_ways same (not-true same (fault_unless-holds (not same) PadSent three.0))
+          ((bytes_eq-Decides sent (pad_of seed d.length)).1 is);
     }
 
-seed_not_refused : (d : Description) (member : ℕ) (seed key sent : List ℕ) → SeedHolds d member seed key sent → seed_refusal d member seed key sent ≡ None
+seed_not_refused : (d : Description) (member : ℕ) (seed key sent : List ℕ) → SeedHolds d member seed key sent
+    → seed_refusal d member seed key sent ≡ None
 unfolding seed_refusal
 seed_not_refused d member seed key sent h =
     let capsule = bytes_eq (capsule_for d member) (capsule_of key seed) in
     let hash = bytes_eq (hash_of_pad (pad_of seed d.length)) (pad_hash_for d member) in
     let same = bytes_eq sent (pad_of seed d.length) in
     let apart : same ≡ false = false_from_ne_true same (λ is. h.other ((bytes_eq-Decides sent (pad_of seed d.length)).0 is)) in
-    first_some-none (fault_unless capsule Capsule) (fault_unless hash PadHash ∷ fault_unless (not same) PadSent ∷ []) (fault_unless-true capsule Capsule ((bytes_eq-Decides (capsule_for d member) (capsule_of key seed)).1 h.sealed))
-    ∙ first_some-none (fault_unless hash PadHash) (fault_unless (not same) PadSent ∷ []) (fault_unless-true hash PadHash ((bytes_eq-Decides (hash_of_pad (pad_of seed d.length)) (pad_hash_for d member)).1 h.hash))
+    first_some-none (fault_unless capsule Capsule) (fault_unless hash PadHash ∷ fault_unless (not same) PadSent ∷ [])
+    (fault_unless-true capsule Capsule ((bytes_eq-Decides (capsule_for d member) (capsule_of key seed)).1 h.sealed))
+    ∙ first_some-none (fault_unless hash PadHash) (fault_unless (not same) PadSent ∷ [])
+    (fault_unless-true hash PadHash ((bytes_eq-Decides (hash_of_pad (pad_of seed d.length)) (pad_hash_for d member)).1 h.hash))
     ∙ first_some-none (fault_unless (not same) PadSent) [] (fault_unless-true (not same) PadSent (not_from_false same apart))
 
 -- the member of a choice that gave nothing
@@ -67,34 +72,51 @@ chosen_none : (b : Bool) (o : Option AccusationRefusal) → cond b o (Some Membe
 chosen_none true o e = (refl, e)
 chosen_none false o e = cc
 
-of_descriptor : (d : Description) (a : Accusation) (table : List (List (List ℕ))) (keys : List (List ℕ)) → refusal_by (Some d) a table keys ≡ None → HoldsOf d a table keys
+of_descriptor : (d : Description) (a : Accusation) (table : List (List (List ℕ))) (keys : List (List ℕ))
+    → refusal_by (Some d) a table keys ≡ None → HoldsOf d a table keys
 of_descriptor d a table keys e =
-    let parts = chosen_none (nat_le 1 a.member && nat_le a.member (length keys)) (seed_refusal d a.member a.seed (key_for keys a.member) (pad_sent table a.member a.slot)) e in
+    let parts = chosen_none (nat_le 1 a.member && nat_le a.member (length keys))
+    (seed_refusal d a.member a.seed (key_for keys a.member) (pad_sent table a.member a.slot)) e in
     let within = and_parts (nat_le 1 a.member) (nat_le a.member (length keys)) parts.0 in
     let h = seed_holds d a.member a.seed (key_for keys a.member) (pad_sent table a.member a.slot) parts.1 in
-    record { first = leb-true 1 a.member within.0; last = leb-true a.member (length keys) within.1; sealed = h.sealed; hash = h.hash; other = h.other }
+    record {
+      first = leb-true 1 a.member within.0;
+      last = leb-true a.member (length keys) within.1;
+      sealed = h.sealed;
+      hash = h.hash;
+      other
+          = h.other;
+    }
 
-not_refused : (d : Description) (a : Accusation) (table : List (List (List ℕ))) (keys : List (List ℕ)) → HoldsOf d a table keys → refusal_by (Some d) a table keys ≡ None
+not_refused : (d : Description) (a : Accusation) (table : List (List (List ℕ))) (keys : List (List ℕ)) → HoldsOf d a table keys
+    → refusal_by (Some d) a table keys ≡ None
 not_refused d a table keys h =
-    let within = and_from (nat_le 1 a.member) (nat_le a.member (length keys)) (le-leb 1 a.member h.first) (le-leb a.member (length keys) h.last) in
-    cond-true (nat_le 1 a.member && nat_le a.member (length keys)) (seed_refusal d a.member a.seed (key_for keys a.member) (pad_sent table a.member a.slot)) (Some Member) within
-    ∙ seed_not_refused d a.member a.seed (key_for keys a.member) (pad_sent table a.member a.slot) (record { sealed = h.sealed; hash = h.hash; other = h.other })
+    let within = and_from (nat_le 1 a.member) (nat_le a.member (length keys)) (le-leb 1 a.member h.first)
+    (le-leb a.member (length keys) h.last) in
+    cond-true (nat_le 1 a.member && nat_le a.member (length keys))
+    (seed_refusal d a.member a.seed (key_for keys a.member) (pad_sent table a.member a.slot)) (Some Member) within
+    ∙ seed_not_refused d a.member a.seed (key_for keys a.member) (pad_sent table a.member a.slot)
+    (record { sealed = h.sealed; hash = h.hash; other = h.other })
 
-exactly_by : (o : Option Description) (a : Accusation) (table : List (List (List ℕ))) (keys : List (List ℕ)) → (refusal_by o a table keys ≡ None) ↔ ((d : Description) × (o ≡ Some d) × HoldsOf d a table keys)
+exactly_by : (o : Option Description) (a : Accusation) (table : List (List (List ℕ))) (keys : List (List ℕ))
+    → (refusal_by o a table keys ≡ None) ↔ ((d : Description) × (o ≡ Some d) × HoldsOf d a table keys)
 exactly_by None a table keys = ((λ e. cc), (λ h. let e = h.1 in cc))
 exactly_by (Some d) a table keys = (
   λ e. (d, refl, of_descriptor d a table keys e),
-  λ h. let same : d ≡ h.0 = (let e = h.1 in cc) in not_refused d a table keys (subst (λ (x : Description). HoldsOf x a table keys) (sym same) h.2),
+  λ h. let same : d ≡ h.0 = (let e = h.1 in cc) in not_refused d a table keys
+      (subst (λ (x : Description). HoldsOf x a table keys) (sym same) h.2),
 )
 
 pub holds_exactly : HoldsExactly
 unfolding refusal_of
 holds_exactly a descriptors table keys = exactly_by (descriptor_at descriptors a.slot) a table keys
 
-row_alone : (o : Option Description) (a : Accusation) (table table' : List (List (List ℕ))) (keys : List (List ℕ)) → get_or table (a.member - 1) [] ≡ get_or table' (a.member - 1) [] → refusal_by o a table keys ≡ refusal_by o a table' keys
+row_alone : (o : Option Description) (a : Accusation) (table table' : List (List (List ℕ))) (keys : List (List ℕ))
+    → get_or table (a.member - 1) [] ≡ get_or table' (a.member - 1) [] → refusal_by o a table keys ≡ refusal_by o a table' keys
 row_alone None a table table' keys same = refl
 row_alone (Some d) a table table' keys same =
-    ap (λ (row : List (List ℕ)). cond (nat_le 1 a.member && nat_le a.member (length keys)) (seed_refusal d a.member a.seed (key_for keys a.member) (get_or row (a.slot - 1) [])) (Some Member)) same
+    ap (λ (row : List (List ℕ)). cond (nat_le 1 a.member && nat_le a.member (length keys))
+    (seed_refusal d a.member a.seed (key_for keys a.member) (get_or row (a.slot - 1) [])) (Some Member)) same
 
 pub holds_looks_at_one : HoldsLooksAtOne
 unfolding refusal_of
@@ -111,7 +133,8 @@ empty_item_refused a descriptors table keys e =
     ap (λ (slot : ℕ). refusal_by (descriptor_at descriptors slot) a table keys) none
 
 -- ---- whom a state names
-found_cases : (p : ℕ → Bool) (x : ℕ) (xs : List ℕ) (m : ℕ) (b : Bool) → p x ≡ b → cond b (Some x) (find p xs) ≡ Some m → ((p x ≡ true) × (x ≡ m)) ⊎ (find p xs ≡ Some m)
+found_cases : (p : ℕ → Bool) (x : ℕ) (xs : List ℕ) (m : ℕ) (b : Bool) → p x ≡ b → cond b (Some x) (find p xs) ≡ Some m
+    → ((p x ≡ true) × (x ≡ m)) ⊎ (find p xs ≡ Some m)
 found_cases p x xs m true is e = inl (is, cc)
 found_cases p x xs m false is e = inr e
 
@@ -123,7 +146,8 @@ find_found p a (suc n) m e =
       | inr later ↦ let h = find_found p (a + 1) n m later in (omega (arith, h.0), omega (arith, h.1), h.2)
     ]
 
-pub unfit_is : (d : Description) (pads : List (List ℕ)) (first : ℕ) → first_unfit d pads ≡ Some first → (1 ≤ first) × (first ≤ length pads) × (fits d first (get_or pads (first - 1) []) ≡ false)
+pub unfit_is : (d : Description) (pads : List (List ℕ)) (first : ℕ) → first_unfit d pads ≡ Some first → (1 ≤ first) × (first ≤ length pads)
+    × (fits d first (get_or pads (first - 1) []) ≡ false)
 unfolding first_unfit
 unfit_is d pads first e =
     let h = find_found (λ member. not (fits d member (get_or pads (member - 1) []))) 1 (length pads) first e in
@@ -137,7 +161,8 @@ joined_is_not_bad d message first e = not_bad _ message first e
     not_bad true message first e = cc
     not_bad false message first e = cc
 
-bad_names : (r : Option ℕ) (d : Description) (message : List ℕ) (first : ℕ) → unless_bad r (joined_state d message) ≡ Bad first → r ≡ Some first
+bad_names : (r : Option ℕ) (d : Description) (message : List ℕ) (first : ℕ) → unless_bad r (joined_state d message) ≡ Bad first
+    → r ≡ Some first
 bad_names None d message first e = absurd (joined_is_not_bad d message first e)
 bad_names (Some f) d message first e = let e : Bad f ≡ Bad first = e in cc
 
@@ -149,25 +174,30 @@ joined_names_nobody n d message = nobody n _ message
     nobody n true message = tt
     nobody n false message = tt
 
-names_by : (r : Option ℕ) (n : ℕ) (d : Description) (message : List ℕ) → ((first : ℕ) → r ≡ Some first → (1 ≤ first) × (first ≤ n)) → NamesWithin n (unless_bad r (joined_state d message))
+names_by : (r : Option ℕ) (n : ℕ) (d : Description) (message : List ℕ) → ((first : ℕ) → r ≡ Some first → (1 ≤ first) × (first ≤ n))
+    → NamesWithin n (unless_bad r (joined_state d message))
 names_by None n d message h = joined_names_nobody n d message
 names_by (Some first) n d message h = h first refl
 
 names : (o : Option Description) (pads : List (List ℕ)) → NamesWithin (length pads) (slot_state o pads)
 unfolding slot_state
 names None pads = tt
-names (Some d) pads = names_by (first_unfit d pads) (length pads) d (joined_pads pads) (λ first e. let h = unfit_is d pads first e in (h.0, h.1))
+names (Some d) pads = names_by (first_unfit d pads) (length pads) d (joined_pads pads)
+    (λ first e. let h = unfit_is d pads first e in (h.0, h.1))
 
 length-pads_for : (table : List (List (List ℕ))) (slot : ℕ) → length (pads_for table slot) ≡ length table
 length-pads_for table slot = length-map table (λ (row : List (List ℕ)). get_or row slot [])
 
 pub states_name_members : StatesNameMembers
 states_name_members descriptors table =
-    All-map (NamesWithin (length table)) (λ (p : ℕ × Option Description). slot_state p.1 (pads_for table p.0)) (enumerate_from 0 descriptors)
-    (λ k d h. subst (λ (n : ℕ). NamesWithin n (slot_state (get_or (enumerate_from 0 descriptors) k d).1 (pads_for table (get_or (enumerate_from 0 descriptors) k d).0))) (length-pads_for table _) (names _ _))
+    All-map (NamesWithin (length table)) (λ (p : ℕ × Option Description). slot_state p.1 (pads_for table p.0))
+    (enumerate_from 0 descriptors)
+    (λ k d h. subst (λ (n : ℕ). NamesWithin n (slot_state (get_or (enumerate_from 0 descriptors) k d).1
+    (pads_for table (get_or (enumerate_from 0 descriptors) k d).0))) (length-pads_for table _) (names _ _))
 
 -- ---- what a maker accuses
-state_at : (descriptors : List (Option Description)) (table : List (List (List ℕ))) (k : ℕ) → k < length descriptors → get_or (slot_states descriptors table) k Empty ≡ slot_state (get_or descriptors k None) (pads_for table k)
+state_at : (descriptors : List (Option Description)) (table : List (List (List ℕ))) (k : ℕ) → k < length descriptors
+    → get_or (slot_states descriptors table) k Empty ≡ slot_state (get_or descriptors k None) (pads_for table k)
 state_at descriptors table k h =
     let f : ℕ × Option Description → SlotState = λ p. slot_state p.1 (pads_for table p.0) in
     let numbered = enumerate_from 0 descriptors in
@@ -176,9 +206,11 @@ state_at descriptors table k h =
     ∙ ap f (get_or-enumerate_from 0 descriptors k (0, None) h)
     ∙ ap (λ (i : ℕ). slot_state (get_or descriptors k None) (pads_for table i)) place
 
-pub holds_at : (n : ℕ) (keys seeds : List (List ℕ)) (maker : ℕ) (message : List ℕ) (table : List (List (List ℕ))) (k first : ℕ) → CanMake n keys seeds maker message → length table ≡ n
+pub holds_at : (n : ℕ) (keys seeds : List (List ℕ)) (maker : ℕ) (message : List ℕ) (table : List (List (List ℕ))) (k first : ℕ)
+    → CanMake n keys seeds maker message → length table ≡ n
     → slot_state (Some (made_descriptor keys seeds maker message)) (pads_for table k) ≡ Bad first → first ≢ maker
-    → HoldsOf (made_descriptor keys seeds maker message) (record { slot = k + 1; member = first; seed = get_or seeds (first - 1) [] }) table keys
+    → HoldsOf (made_descriptor keys seeds maker message) (record { slot = k + 1; member = first; seed = get_or seeds (first - 1) [] }) table
+    keys
 unfolding slot_state
 holds_at n keys seeds maker message table k first can rows bad other =
     let d = made_descriptor keys seeds maker message in
@@ -187,10 +219,12 @@ holds_at n keys seeds maker message table k first can rows bad other =
     let below : first ≤ n = omega (arith, unfit.1, length-pads_for table k) in
     let long = length_of-made keys seeds maker message in
     let fit = other_pads_fit n keys seeds maker first message can unfit.0 below other in
-    let hash : hash_of_pad (pad_of (get_or seeds (first - 1) []) (length message)) ≡ pad_hash_for d first = (fits_parts d first (pad_of (get_or seeds (first - 1) []) (length message)) fit).1 in
+    let hash : hash_of_pad (pad_of (get_or seeds (first - 1) []) (length message)) ≡ pad_hash_for d first =
+    (fits_parts d first (pad_of (get_or seeds (first - 1) []) (length message)) fit).1 in
     let place : k + 1 - 1 ≡ k = omega arith in
     let sent : pad_sent table first (k + 1) ≡ get_or pads (first - 1) [] =
-    ap (λ (i : ℕ). get_or (get_or table (first - 1) []) i []) place ∙ sym (get_or-map (λ (row : List (List ℕ)). get_or row k []) table (first - 1) [] [] (omega (arith, unfit.0))) in
+    ap (λ (i : ℕ). get_or (get_or table (first - 1) []) i []) place
+    ∙ sym (get_or-map (λ (row : List (List ℕ)). get_or row k []) table (first - 1) [] [] (omega (arith, unfit.0))) in
     record {
       first = unfit.0;
       last = omega (arith, below, can.as_many_keys);
@@ -201,7 +235,8 @@ holds_at n keys seeds maker message table k first can rows bad other =
     }
 
 -- what an own slot that is bad makes of the descriptors
-pub first_in_cases : (own : List ℕ) (o : Option (List ℕ)) (s : SlotState) (first : ℕ) → first_in own o s ≡ Some first → (o ≡ Some own) × (s ≡ Bad first)
+pub first_in_cases : (own : List ℕ) (o : Option (List ℕ)) (s : SlotState) (first : ℕ) → first_in own o s ≡ Some first → (o ≡ Some own)
+    × (s ≡ Bad first)
 first_in_cases own None s first e = cc
 first_in_cases own (Some bytes) Empty first e = cc
 first_in_cases own (Some bytes) Mismatched first e = cc
@@ -224,21 +259,26 @@ mapped_cases : (g : ℕ → Accusation) (o : Option ℕ) (a : Accusation) → op
 mapped_cases g None a e = cc
 mapped_cases g (Some x) a e = (x, refl, same_accusation (g x) a e)
 
-holds_in_slot : (n : ℕ) (keys seeds : List (List ℕ)) (maker : ℕ) (message : List ℕ) (opened : List (Option (List ℕ))) (table : List (List (List ℕ))) (k first : ℕ) → CanMake n keys seeds maker message → length table ≡ n
+holds_in_slot : (n : ℕ) (keys seeds : List (List ℕ)) (maker : ℕ) (message : List ℕ) (opened : List (Option (List ℕ)))
+    (table : List (List (List ℕ))) (k first : ℕ) → CanMake n keys seeds maker message → length table ≡ n
     → k < length opened → get_or opened k None ≡ Some (descriptor_text (made_descriptor keys seeds maker message))
     → get_or (slot_states (map (option_and_then (descriptor_read n)) opened) table) k Empty ≡ Bad first → first ≢ maker
-    → refusal_of (record { slot = k + 1; member = first; seed = get_or seeds (first - 1) [] }) (map (option_and_then (descriptor_read n)) opened) table keys ≡ None
+    → refusal_of (record { slot = k + 1; member = first; seed = get_or seeds (first - 1) [] })
+    (map (option_and_then (descriptor_read n)) opened) table keys ≡ None
 holds_in_slot n keys seeds maker message opened table k first can rows h own bad other =
     let d = made_descriptor keys seeds maker message in
     let descriptors = map (option_and_then (descriptor_read n)) opened in
     let a : Accusation = record { slot = k + 1; member = first; seed = get_or seeds (first - 1) [] } in
     let below : k < length descriptors = omega (arith, length-map opened (option_and_then (descriptor_read n))) in
     let there : get_or descriptors k None ≡ Some d =
-    get_or-map (option_and_then (descriptor_read n)) opened k None None h ∙ ap (option_and_then (descriptor_read n)) own ∙ spelled_are_read n d (made_is_of_grammar n keys seeds maker message can) in
-    let state : slot_state (Some d) (pads_for table k) ≡ Bad first = ap (λ (o : Option Description). slot_state o (pads_for table k)) (sym there) ∙ sym (state_at descriptors table k below) ∙ bad in
+    get_or-map (option_and_then (descriptor_read n)) opened k None None h ∙ ap (option_and_then (descriptor_read n)) own
+    ∙ spelled_are_read n d (made_is_of_grammar n keys seeds maker message can) in
+    let state : slot_state (Some d) (pads_for table k) ≡ Bad first = ap (λ (o : Option Description). slot_state o (pads_for table k))
+    (sym there) ∙ sym (state_at descriptors table k below) ∙ bad in
     let place : k + 1 - 1 ≡ k = omega arith in
     let at : descriptor_at descriptors (k + 1) ≡ Some d =
-    cond-true (nat_le 1 (k + 1)) (get_or descriptors (k + 1 - 1) None) None (le-leb 1 (k + 1) (omega arith)) ∙ ap (λ (i : ℕ). get_or descriptors i None) place ∙ there in
+    cond-true (nat_le 1 (k + 1)) (get_or descriptors (k + 1 - 1) None) None (le-leb 1 (k + 1) (omega arith))
+    ∙ ap (λ (i : ℕ). get_or descriptors i None) place ∙ there in
     (holds_exactly a descriptors table keys).1 (d, at, holds_at n keys seeds maker message table k first can rows state other)
 
 pub item_holds : ItemHolds
@@ -247,7 +287,9 @@ item_holds n keys seeds maker message opened table a can rows e other =
     let own = descriptor_text (made_descriptor keys seeds maker message) in
     let descriptors = map (option_and_then (descriptor_read n)) opened in
     let states = slot_states descriptors table in
-    let long : length states ≡ length opened = length-map (enumerate_from 0 descriptors) (λ (p : ℕ × Option Description). slot_state p.1 (pads_for table p.0)) ∙ length-enumerate_from 0 descriptors ∙ length-map opened (option_and_then (descriptor_read n)) in
+    let long : length states ≡ length opened = length-map (enumerate_from 0 descriptors)
+    (λ (p : ℕ × Option Description). slot_state p.1 (pads_for table p.0)) ∙ length-enumerate_from 0 descriptors
+    ∙ length-map opened (option_and_then (descriptor_read n)) in
     let found = first_below-found (accusation_by own opened states seeds) (length states) a e in
     let k = found.0 in
     let made : ℕ → Accusation = λ first. record { slot = k + 1; member = first; seed = get_or seeds (first - 1) [] } in

@@ -41,7 +41,8 @@ pub capsule_refused : (d : Description) (member : ℕ) (seed key sent capsule ma
     → Err Capsule ≡ answer_of (seed_refusal d member seed key sent)
 unfolding three
 capsule_refused d member seed key sent capsule made r is-capsule is-made told fails =
-    let a : bytes_eq (capsule_for d member) (capsule_of key seed) ≡ false = rw (is-capsule, is-made) at (let e : bytes_eq capsule made ≡ false = sym told ∙ fails in e) in
+    let a : bytes_eq (capsule_for d member) (capsule_of key seed) ≡ false = rw (is-capsule, is-made) at
+    (let e : bytes_eq capsule made ≡ false = sym told ∙ fails in e) in
     sym (ap answer_of (seed_refusal_is d member seed key sent false (bytes_eq (hash_of_pad (pad_of seed d.length)) (pad_hash_for d member))
     (not (bytes_eq sent (pad_of seed d.length))) a refl refl))
 
@@ -51,7 +52,8 @@ pub hash_refused : (d : Description) (member : ℕ) (seed key sent capsule made 
     → Err PadHash ≡ answer_of (seed_refusal d member seed key sent)
 unfolding three
 hash_refused d member seed key sent capsule made given hash r s is-capsule is-made told holds is-given is-hash told' fails =
-    let a : bytes_eq (capsule_for d member) (capsule_of key seed) ≡ true = rw (is-capsule, is-made) at (let e : bytes_eq capsule made ≡ true = sym told ∙ holds in e) in
+    let a : bytes_eq (capsule_for d member) (capsule_of key seed) ≡ true = rw (is-capsule, is-made) at
+    (let e : bytes_eq capsule made ≡ true = sym told ∙ holds in e) in
     let b : bytes_eq (hash_of_pad (pad_of seed d.length)) (pad_hash_for d member) ≡ false =
     rw (is-hash, is-given) at (let e : bytes_eq hash given ≡ false = sym told' ∙ fails in e) in
     sym (ap answer_of (seed_refusal_is d member seed key sent true false (not (bytes_eq sent (pad_of seed d.length))) a b refl))
@@ -62,10 +64,12 @@ pub pad_refused : (d : Description) (member : ℕ) (seed key sent capsule made g
     → sent ≡ pad_of seed d.length → Err PadSent ≡ answer_of (seed_refusal d member seed key sent)
 unfolding three
 pad_refused d member seed key sent capsule made given hash r s is-capsule is-made told holds is-given is-hash told' holds' same =
-    let a : bytes_eq (capsule_for d member) (capsule_of key seed) ≡ true = rw (is-capsule, is-made) at (let e : bytes_eq capsule made ≡ true = sym told ∙ holds in e) in
+    let a : bytes_eq (capsule_for d member) (capsule_of key seed) ≡ true = rw (is-capsule, is-made) at
+    (let e : bytes_eq capsule made ≡ true = sym told ∙ holds in e) in
     let b : bytes_eq (hash_of_pad (pad_of seed d.length)) (pad_hash_for d member) ≡ true =
     rw (is-hash, is-given) at (let e : bytes_eq hash given ≡ true = sym told' ∙ holds' in e) in
-    let c : not (bytes_eq sent (pad_of seed d.length)) ≡ false = not_from_true (bytes_eq sent (pad_of seed d.length)) ((bytes_eq-Decides sent (pad_of seed d.length)).1 same) in
+    let c : not (bytes_eq sent (pad_of seed d.length)) ≡ false = not_from_true (bytes_eq sent (pad_of seed d.length))
+    ((bytes_eq-Decides sent (pad_of seed d.length)).1 same) in
     sym (ap answer_of (seed_refusal_is d member seed key sent true true false a b c))
 
 pub seed_taken : (d : Description) (member : ℕ) (seed key sent capsule made given hash : List ℕ) (r s : Bool)
@@ -74,7 +78,8 @@ pub seed_taken : (d : Description) (member : ℕ) (seed key sent capsule made gi
     → (sent ≡ pad_of seed d.length → ⊥) → Ok tt ≡ answer_of (seed_refusal d member seed key sent)
 unfolding three
 seed_taken d member seed key sent capsule made given hash r s is-capsule is-made told holds is-given is-hash told' holds' apart =
-    let a : bytes_eq (capsule_for d member) (capsule_of key seed) ≡ true = rw (is-capsule, is-made) at (let e : bytes_eq capsule made ≡ true = sym told ∙ holds in e) in
+    let a : bytes_eq (capsule_for d member) (capsule_of key seed) ≡ true = rw (is-capsule, is-made) at
+    (let e : bytes_eq capsule made ≡ true = sym told ∙ holds in e) in
     let b : bytes_eq (hash_of_pad (pad_of seed d.length)) (pad_hash_for d member) ≡ true =
     rw (is-hash, is-given) at (let e : bytes_eq hash given ≡ true = sym told' ∙ holds' in e) in
     let c : not (bytes_eq sent (pad_of seed d.length)) ≡ true =
@@ -87,13 +92,15 @@ pub item_read : (xs held : List (List ℕ)) (k : ℕ) (x : List ℕ) → held �
 item_read xs held k x same h e = get_or_read xs k x h (e ∙ ap (λ (l : List (List ℕ)). get_or l k x) same) []
 
 -- ---- the slot
-pub no_descriptor_at : (descriptors : List (Option Description)) (slot : ℕ) → ((1 ≤ slot) × (slot ≤ length descriptors) → ⊥) → descriptor_at descriptors slot ≡ None
+pub no_descriptor_at : (descriptors : List (Option Description)) (slot : ℕ) → ((1 ≤ slot) × (slot ≤ length descriptors) → ⊥)
+    → descriptor_at descriptors slot ≡ None
 no_descriptor_at descriptors slot outside =
     elim (cases_Bool (nat_le 1 slot)) [
       | inl from ↦
           let least : 1 ≤ slot = leb-true 1 slot from in
           elim (cases_lt (length descriptors) slot) [
-            | inl past ↦ cond-true (nat_le 1 slot) (get_or descriptors (slot - 1) None) None from ∙ get_or_past descriptors (slot - 1) None (omega arith)
+            | inl past ↦ cond-true (nat_le 1 slot) (get_or descriptors (slot - 1) None) None from
+                ∙ get_or_past descriptors (slot - 1) None (omega arith)
             | inr within ↦ absurd (outside (least, within))
           ]
       | inr none ↦ cond-false (nat_le 1 slot) (get_or descriptors (slot - 1) None) None none
@@ -112,7 +119,8 @@ pub refused_without : (a : Accusation) (descriptors : List (Option Description))
 unfolding refusal_of
 refused_without a descriptors table keys none = sym (ap (λ (o : Option Description). answer_of (refusal_by o a table keys)) none)
 
-pub refused_member : (a : Accusation) (descriptors : List (Option Description)) (table : List (List (List ℕ))) (keys : List (List ℕ)) (d : Description)
+pub refused_member : (a : Accusation) (descriptors : List (Option Description)) (table : List (List (List ℕ))) (keys : List (List ℕ))
+    (d : Description)
     → descriptor_at descriptors a.slot ≡ Some d
     → ((1 ≤ a.member) × (a.member ≤ length keys) → ⊥) → Err Member ≡ answer_of (refusal_of a descriptors table keys)
 unfolding refusal_of
@@ -122,37 +130,45 @@ refused_member a descriptors table keys d some outside =
     false_from_ne_true within (λ e. let parts = and_parts (nat_le 1 a.member) (nat_le a.member (length keys)) e in
     outside (leb-true 1 a.member parts.0, leb-true a.member (length keys) parts.1)) in
     sym (ap (λ (o : Option Description). answer_of (refusal_by o a table keys)) some
-    ∙ ap answer_of (cond-false within (seed_refusal d a.member a.seed (key_for keys a.member) (pad_sent table a.member a.slot)) (Some Member) fails))
+    ∙ ap answer_of (cond-false within (seed_refusal d a.member a.seed (key_for keys a.member) (pad_sent table a.member a.slot))
+    (Some Member) fails))
 
 pub answered_by_seed : (a : Accusation) (descriptors : List (Option Description)) (table : List (List (List ℕ))) (keys : List (List ℕ))
     (d : Description) (key sent : List ℕ) (r : Result (Unit {0}) AccusationRefusal)
-    → descriptor_at descriptors a.slot ≡ Some d → 1 ≤ a.member → a.member ≤ length keys → key ≡ key_for keys a.member → sent ≡ pad_sent table a.member a.slot
+    → descriptor_at descriptors a.slot ≡ Some d → 1 ≤ a.member → a.member ≤ length keys → key ≡ key_for keys a.member
+    → sent ≡ pad_sent table a.member a.slot
     → r ≡ answer_of (seed_refusal d a.member a.seed key sent) → r ≡ answer_of (refusal_of a descriptors table keys)
 unfolding refusal_of
 answered_by_seed a descriptors table keys d key sent r some first last is-key is-sent told =
     let within = nat_le 1 a.member && nat_le a.member (length keys) in
-    let holds : within ≡ true = and_from (nat_le 1 a.member) (nat_le a.member (length keys)) (le-leb 1 a.member first) (le-leb a.member (length keys) last) in
+    let holds : within ≡ true = and_from (nat_le 1 a.member) (nat_le a.member (length keys)) (le-leb 1 a.member first)
+    (le-leb a.member (length keys) last) in
     told
     ∙ ap (λ (key : List ℕ). answer_of (seed_refusal d a.member a.seed key sent)) is-key
     ∙ ap (λ (sent : List ℕ). answer_of (seed_refusal d a.member a.seed (key_for keys a.member) sent)) is-sent
     ∙ sym (ap (λ (o : Option Description). answer_of (refusal_by o a table keys)) some
-    ∙ ap answer_of (cond-true within (seed_refusal d a.member a.seed (key_for keys a.member) (pad_sent table a.member a.slot)) (Some Member) holds))
+    ∙ ap answer_of (cond-true within (seed_refusal d a.member a.seed (key_for keys a.member) (pad_sent table a.member a.slot)) (Some Member)
+    holds))
 
 -- ---- the pad that was sent
 pub sent_read : (table rows : List (List (List ℕ))) (member slot : ℕ) (row held : List (List ℕ)) (item pad : List ℕ)
     → member - 1 < length table → rows ≡ table → row ≡ get_or rows (member - 1) row → held ≡ row
     → slot - 1 < length (get_or table (member - 1) []) → item ≡ get_or held (slot - 1) item → pad ≡ item → pad ≡ pad_sent table member slot
 sent_read table rows member slot row held item pad h same is-row is-held room is-item is-pad =
-    let there : row ≡ get_or table (member - 1) [] = get_or_read table (member - 1) row h (is-row ∙ ap (λ (l : List (List (List ℕ))). get_or l (member - 1) row) same) [] in
+    let there : row ≡ get_or table (member - 1) [] = get_or_read table (member - 1) row h
+    (is-row ∙ ap (λ (l : List (List (List ℕ))). get_or l (member - 1) row) same) [] in
     let within : slot - 1 < length row = omega (arith, ap (λ (l : List (List ℕ)). length l) there) in
-    let in_row : item ≡ get_or row (slot - 1) [] = get_or_read row (slot - 1) item within (is-item ∙ ap (λ (l : List (List ℕ)). get_or l (slot - 1) item) is-held) [] in
+    let in_row : item ≡ get_or row (slot - 1) [] = get_or_read row (slot - 1) item within
+    (is-item ∙ ap (λ (l : List (List ℕ)). get_or l (slot - 1) item) is-held) [] in
     is-pad ∙ in_row ∙ ap (λ (l : List (List ℕ)). get_or l (slot - 1) []) there
 
 pub members_of : (descriptors : List (Option Description)) (table : List (List (List ℕ))) (slot : ℕ) (d : Description)
     → AreSlots descriptors table → 1 ≤ slot → slot ≤ length descriptors → descriptor_at descriptors slot ≡ Some d
     → length d.pad_hashes ≡ length descriptors
 members_of descriptors table slot d are first last some =
-    let there : get_or descriptors (slot - 1) None ≡ Some d = sym (cond-true (nat_le 1 slot) (get_or descriptors (slot - 1) None) None (le-leb 1 slot first)) ∙ some in
+    let there : get_or descriptors (slot - 1) None ≡ Some d = sym
+    (cond-true (nat_le 1 slot) (get_or descriptors (slot - 1) None) None (le-leb 1 slot first)) ∙ some in
     let h : IfSome (get_or descriptors (slot - 1) None) (λ d. length d.pad_hashes ≡ length descriptors) =
-    All-get_or (λ slot. IfSome slot (λ (d : Description). length d.pad_hashes ≡ length descriptors)) descriptors (slot - 1) None (omega arith) are.hashes in
+    All-get_or (λ slot. IfSome slot (λ (d : Description). length d.pad_hashes ≡ length descriptors)) descriptors (slot - 1) None
+    (omega arith) are.hashes in
     rw there at h

@@ -29,7 +29,8 @@ EmptyItemRefused = (a : Accusation) (descriptors : List (Option Description)) (t
 -- What a maker accuses holds, unless it names the maker itself: the maker made its descriptor by the keys, and
 -- judges by the opened list and the pads that were sent
 abbrev pub ItemHolds : Type 0
-ItemHolds = (n : ℕ) (keys seeds : List (List ℕ)) (maker : ℕ) (message : List ℕ) (opened : List (Option (List ℕ))) (table : List (List (List ℕ))) (a : Accusation) →
+ItemHolds = (n : ℕ) (keys seeds : List (List ℕ)) (maker : ℕ) (message : List ℕ) (opened : List (Option (List ℕ)))
+    (table : List (List (List ℕ))) (a : Accusation) →
     CanMake n keys seeds maker message → length table ≡ n →
     let own = descriptor_text (made_descriptor keys seeds maker message) in
     let descriptors = map (option_and_then (descriptor_read n)) opened in

@@ -22,26 +22,33 @@ use Rattle.bulk_descriptor.specs.Laws.{PadsGiveMessage}
 swapped : (a b c : List ℕ) → exclusive_or (exclusive_or a b) c ≡ exclusive_or (exclusive_or a c) b
 swapped a b c = exclusive_or_assoc a b c ∙ ap (exclusive_or a) (exclusive_or_comm b c) ∙ sym (exclusive_or_assoc a c b)
 
-hidden_under-exclusive_or : (a c : List ℕ) (pads : List (List ℕ)) → hidden_under (exclusive_or a c) pads ≡ exclusive_or (hidden_under a pads) c
+hidden_under-exclusive_or : (a c : List ℕ) (pads : List (List ℕ))
+    → hidden_under (exclusive_or a c) pads ≡ exclusive_or (hidden_under a pads) c
 hidden_under-exclusive_or a c [] = refl
-hidden_under-exclusive_or a c (d ∷ pads) = ap (λ (x : List ℕ). hidden_under x pads) (swapped a c d) ∙ hidden_under-exclusive_or (exclusive_or a d) c pads
+hidden_under-exclusive_or a c (d ∷ pads) = ap (λ (x : List ℕ). hidden_under x pads) (swapped a c d)
+    ∙ hidden_under-exclusive_or (exclusive_or a d) c pads
 
-pub length-hidden_under : (count : ℕ) (bytes : List ℕ) (pads : List (List ℕ)) → length bytes ≡ count → AllByRecursion (λ pad. length pad ≡ count) pads → length (hidden_under bytes pads) ≡ count
+pub length-hidden_under : (count : ℕ) (bytes : List ℕ) (pads : List (List ℕ)) → length bytes ≡ count
+    → AllByRecursion (λ pad. length pad ≡ count) pads → length (hidden_under bytes pads) ≡ count
 length-hidden_under count bytes [] long sizes = long
 length-hidden_under count bytes (d ∷ pads) long sizes =
     length-hidden_under count (exclusive_or bytes d) pads (length-exclusive_or bytes d (long ∙ sym sizes.0) ∙ long) sizes.1
 
 -- hidden twice is not hidden
-hidden_twice : (count : ℕ) (bytes : List ℕ) (pads : List (List ℕ)) → length bytes ≡ count → AllByRecursion (λ pad. length pad ≡ count) pads → hidden_under (hidden_under bytes pads) pads ≡ bytes
+hidden_twice : (count : ℕ) (bytes : List ℕ) (pads : List (List ℕ)) → length bytes ≡ count → AllByRecursion (λ pad. length pad ≡ count) pads
+    → hidden_under (hidden_under bytes pads) pads ≡ bytes
 hidden_twice count bytes [] long sizes = refl
 hidden_twice count bytes (d ∷ pads) long sizes =
-    let inner : hidden_under (exclusive_or bytes d) pads ≡ exclusive_or (hidden_under bytes pads) d = hidden_under-exclusive_or bytes d pads in
+    let inner : hidden_under (exclusive_or bytes d) pads ≡ exclusive_or (hidden_under bytes pads) d = hidden_under-exclusive_or bytes d pads
+    in
     let size : length (hidden_under bytes pads) ≤ length d = omega (arith, length-hidden_under count bytes pads long sizes.1, sizes.0) in
-    let outer : exclusive_or (hidden_under (exclusive_or bytes d) pads) d ≡ hidden_under bytes pads = ap (λ (x : List ℕ). exclusive_or x d) inner ∙ exclusive_or_undo (hidden_under bytes pads) d size in
+    let outer : exclusive_or (hidden_under (exclusive_or bytes d) pads) d ≡ hidden_under bytes pads = ap (λ (x : List ℕ). exclusive_or x d)
+    inner ∙ exclusive_or_undo (hidden_under bytes pads) d size in
     ap (λ (x : List ℕ). hidden_under x pads) outer ∙ hidden_twice count bytes pads long sizes.1
 
 -- one of many comes to the front
-hidden_under-middle : (a x : List ℕ) (front back : List (List ℕ)) → hidden_under a (front ++ x ∷ back) ≡ hidden_under (exclusive_or a x) (front ++ back)
+hidden_under-middle : (a x : List ℕ) (front back : List (List ℕ))
+    → hidden_under a (front ++ x ∷ back) ≡ hidden_under (exclusive_or a x) (front ++ back)
 hidden_under-middle a x [] back = refl
 hidden_under-middle a x (d ∷ front) back =
     hidden_under-middle (exclusive_or a d) x front back ∙ ap (λ (y : List ℕ). hidden_under y (front ++ back)) (swapped a d x)
@@ -68,7 +75,8 @@ sizes-pads_of : (seeds : List (List ℕ)) (count : ℕ) → All (λ pad. length 
 unfolding pads_of
 sizes-pads_of seeds count = All-map (λ pad. length pad ≡ count) (λ seed. pad_of seed count) seeds (λ k d h. length-pad_of _ count)
 
-pub get_or-pads_of : (seeds : List (List ℕ)) (count k : ℕ) → k < length seeds → get_or (pads_of seeds count) k [] ≡ pad_of (get_or seeds k []) count
+pub get_or-pads_of : (seeds : List (List ℕ)) (count k : ℕ) → k < length seeds
+    → get_or (pads_of seeds count) k [] ≡ pad_of (get_or seeds k []) count
 unfolding pads_of
 get_or-pads_of seeds count k h = get_or-map (λ seed. pad_of seed count) seeds k [] [] h
 
@@ -82,9 +90,11 @@ unfolding own_pad
 length-own_pad seeds member message =
     let count = length message in
     let others = other_pads seeds member count in
-    length-hidden_under count message others refl (recursion_from_All (λ pad. length pad ≡ count) others (sizes-pads_of (remove seeds (member - 1)) count))
+    length-hidden_under count message others refl (recursion_from_All (λ pad. length pad ≡ count) others
+    (sizes-pads_of (remove seeds (member - 1)) count))
 
-pub sizes-made_pads : (seeds : List (List ℕ)) (member : ℕ) (message : List ℕ) → All (λ pad. length pad ≡ length message) (made_pads seeds member message)
+pub sizes-made_pads : (seeds : List (List ℕ)) (member : ℕ) (message : List ℕ)
+    → All (λ pad. length pad ≡ length message) (made_pads seeds member message)
 unfolding made_pads
 sizes-made_pads seeds member message =
     let P : List ℕ → Type 0 = λ pad. length pad ≡ length message in
@@ -92,7 +102,8 @@ sizes-made_pads seeds member message =
     let sizes : All P others = sizes-pads_of (remove seeds (member - 1)) (length message) in
     All-append P (take (member - 1) others) (own_pad seeds member message ∷ drop (member - 1) others)
     (All-take P (member - 1) others sizes)
-    (All-cons P (own_pad seeds member message) (drop (member - 1) others) (length-own_pad seeds member message) (All-drop P (member - 1) others sizes))
+    (All-cons P (own_pad seeds member message) (drop (member - 1) others) (length-own_pad seeds member message)
+    (All-drop P (member - 1) others sizes))
 
 pub pads_give_message : PadsGiveMessage
 unfolding made_pads own_pad
@@ -102,11 +113,13 @@ pads_give_message seeds member message =
     let sizes = recursion_from_All (λ pad. length pad ≡ count) others (sizes-pads_of (remove seeds (member - 1)) count) in
     joined_pads-insert (hidden_under message others) others (member - 1) ∙ hidden_twice count message others refl sizes
 
-length-others : (seeds : List (List ℕ)) (member count : ℕ) → 1 ≤ member → member ≤ length seeds → length (other_pads seeds member count) + 1 ≡ length seeds
+length-others : (seeds : List (List ℕ)) (member count : ℕ) → 1 ≤ member → member ≤ length seeds
+    → length (other_pads seeds member count) + 1 ≡ length seeds
 length-others seeds member count first last =
     omega (arith, length-pads_of (remove seeds (member - 1)) count, length-remove seeds (member - 1) (omega arith))
 
-pub length-made_pads : (seeds : List (List ℕ)) (member : ℕ) (message : List ℕ) → 1 ≤ member → member ≤ length seeds → length (made_pads seeds member message) ≡ length seeds
+pub length-made_pads : (seeds : List (List ℕ)) (member : ℕ) (message : List ℕ) → 1 ≤ member → member ≤ length seeds
+    → length (made_pads seeds member message) ≡ length seeds
 unfolding made_pads
 length-made_pads seeds member message first last =
     let others = other_pads seeds member (length message) in
@@ -114,7 +127,8 @@ length-made_pads seeds member message first last =
     length-insert others (member - 1) (own_pad seeds member message) (omega arith) ∙ count
 
 -- the own pad stands in the maker's place
-pub made_pads-own : (seeds : List (List ℕ)) (member : ℕ) (message : List ℕ) → 1 ≤ member → member ≤ length seeds → get_or (made_pads seeds member message) (member - 1) [] ≡ own_pad seeds member message
+pub made_pads-own : (seeds : List (List ℕ)) (member : ℕ) (message : List ℕ) → 1 ≤ member → member ≤ length seeds
+    → get_or (made_pads seeds member message) (member - 1) [] ≡ own_pad seeds member message
 unfolding made_pads
 made_pads-own seeds member message first last =
     let others = other_pads seeds member (length message) in
@@ -123,7 +137,8 @@ made_pads-own seeds member message first last =
 
 -- places in a list that one is taken out of and another put into
 replaced-other : (xs ys : List (List ℕ)) (f : List ℕ → List ℕ) (y : List ℕ) (p k : ℕ) → p < length xs → k < length xs → (k ≡ p → ⊥)
-    → length ys + 1 ≡ length xs → ((i : ℕ) → i < length ys → get_or ys i [] ≡ f (get_or (remove xs p) i [])) → get_or (insert ys p y) k [] ≡ f (get_or xs k [])
+    → length ys + 1 ≡ length xs → ((i : ℕ) → i < length ys → get_or ys i [] ≡ f (get_or (remove xs p) i []))
+    → get_or (insert ys p y) k [] ≡ f (get_or xs k [])
 replaced-other xs ys f y p k in' below other long each =
     elim (cases_order k p) [
       | inl same ↦ absurd (other same)
@@ -136,20 +151,24 @@ replaced-other xs ys f y p k in' below other long each =
       ]
     ]
   where
-    replaced-after : (xs ys : List (List ℕ)) (f : List ℕ → List ℕ) (y : List ℕ) (p j k : ℕ) → p < length xs → k < length xs → k ≡ j + 1 → p ≤ j
-        → length ys + 1 ≡ length xs → ((i : ℕ) → i < length ys → get_or ys i [] ≡ f (get_or (remove xs p) i [])) → get_or (insert ys p y) k [] ≡ f (get_or xs k [])
+    replaced-after : (xs ys : List (List ℕ)) (f : List ℕ → List ℕ) (y : List ℕ) (p j k : ℕ) → p < length xs → k < length xs → k ≡ j + 1
+        → p ≤ j
+        → length ys + 1 ≡ length xs → ((i : ℕ) → i < length ys → get_or ys i [] ≡ f (get_or (remove xs p) i []))
+        → get_or (insert ys p y) k [] ≡ f (get_or xs k [])
     replaced-after xs ys f y p j k in' below next after long each =
         let there : get_or (insert ys p y) (j + 1) [] ≡ get_or ys j [] = get_or-insert_above ys p y [] j after (omega arith) in
         let here : get_or (remove xs p) j [] ≡ get_or xs (j + 1) [] = get_or-remove_above xs p [] j after in' in
         rw next (there ∙ each j (omega arith) ∙ ap f here)
 
 -- and the pad of each other seed in its own
-pub made_pads-other : (seeds : List (List ℕ)) (maker member : ℕ) (message : List ℕ) → 1 ≤ maker → maker ≤ length seeds → 1 ≤ member → member ≤ length seeds → (member ≡ maker → ⊥)
+pub made_pads-other : (seeds : List (List ℕ)) (maker member : ℕ) (message : List ℕ) → 1 ≤ maker → maker ≤ length seeds → 1 ≤ member
+    → member ≤ length seeds → (member ≡ maker → ⊥)
     → get_or (made_pads seeds maker message) (member - 1) [] ≡ pad_of (get_or seeds (member - 1) []) (length message)
 unfolding made_pads
 made_pads-other seeds maker member message first last first' last' other =
     let count = length message in
     let others = other_pads seeds maker count in
-    replaced-other seeds others (λ seed. pad_of seed count) (own_pad seeds maker message) (maker - 1) (member - 1) (omega arith) (omega arith) (λ same. other (omega arith))
+    replaced-other seeds others (λ seed. pad_of seed count) (own_pad seeds maker message) (maker - 1) (member - 1) (omega arith)
+    (omega arith) (λ same. other (omega arith))
     (length-others seeds maker count first last)
     (λ i h. get_or-pads_of (remove seeds (maker - 1)) count i (omega (arith, length-pads_of (remove seeds (maker - 1)) count)))

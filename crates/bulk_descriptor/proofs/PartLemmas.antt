@@ -9,7 +9,8 @@ pub parts_of-none : (size : ℕ) (bytes : List ℕ) → parts_of size 0 bytes �
 unfolding parts_of
 parts_of-none size bytes = refl
 
-pub parts_of-next : (size n m : ℕ) (bytes : List ℕ) → n ≡ m + 1 → parts_of size n bytes ≡ take size bytes ∷ parts_of size m (drop size bytes)
+pub parts_of-next : (size n m : ℕ) (bytes : List ℕ) → n ≡ m + 1
+    → parts_of size n bytes ≡ take size bytes ∷ parts_of size m (drop size bytes)
 unfolding parts_of
 parts_of-next size n m bytes e = rw (e, add-one) refl
 
@@ -21,7 +22,8 @@ length-parts_of size (suc n) bytes = let rest = length-parts_of size n (drop siz
 pub take-add : (xs : List ℕ) (from count : ℕ) → from ≤ length xs → take (from + count) xs ≡ take from xs ++ take count (drop from xs)
 take-add xs from count within =
     let front : length (take from xs) ≡ from = length-take-le from xs within in
-    let whole : take (length (take from xs) + count) (take from xs ++ drop from xs) ≡ take from xs ++ take count (drop from xs) = take-append-add (take from xs) (drop from xs) count in
+    let whole : take (length (take from xs) + count) (take from xs ++ drop from xs) ≡ take from xs
+    ++ take count (drop from xs) = take-append-add (take from xs) (drop from xs) count in
     rw (front, take-append-drop from xs) at whole
 
 -- put together, the parts are the front of the bytes
@@ -34,7 +36,8 @@ concat-parts_of size (suc n) bytes room =
     rw (product, concat-parts_of size n (drop size bytes) rest) (sym (take-add bytes size (size * n) (omega arith)))
 
 -- what was put together is taken apart again, whatever follows
-pub parts_of-concat : (size n : ℕ) (xs : List (List ℕ)) (more : List ℕ) → length xs ≡ n → AllByRecursion (λ x. length x ≡ size) xs → parts_of size n (concat xs ++ more) ≡ xs
+pub parts_of-concat : (size n : ℕ) (xs : List (List ℕ)) (more : List ℕ) → length xs ≡ n → AllByRecursion (λ x. length x ≡ size) xs
+    → parts_of size n (concat xs ++ more) ≡ xs
 unfolding parts_of
 parts_of-concat size zero [] more e sizes = refl
 parts_of-concat size zero (x ∷ xs) more e sizes = absurd (omega arith)

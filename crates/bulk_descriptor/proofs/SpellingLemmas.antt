@@ -26,7 +26,8 @@ pub record Passes (n : ℕ) (bytes : List ℕ) : Type 0 where
 pub passes : (n : ℕ) (bytes : List ℕ) → is_descriptor n bytes ≡ true → Passes n bytes
 unfolding is_descriptor
 passes n bytes e =
-    let four = and_parts (nat_le 2 n && nat_le n 16 && (length bytes == 36 + 2272 * n) && nat_le (length_in bytes) 65536) (list_all is_reduced (capsules_in n bytes)) e in
+    let four = and_parts (nat_le 2 n && nat_le n 16 && (length bytes == 36 + 2272 * n) && nat_le (length_in bytes) 65536)
+    (list_all is_reduced (capsules_in n bytes)) e in
     let three = and_parts (nat_le 2 n && nat_le n 16 && (length bytes == 36 + 2272 * n)) (nat_le (length_in bytes) 65536) four.0 in
     let two = and_parts (nat_le 2 n && nat_le n 16) (length bytes == 36 + 2272 * n) three.0 in
     let one = and_parts (nat_le 2 n) (nat_le n 16) two.0 in
@@ -43,15 +44,18 @@ unfolding is_descriptor
 passed n bytes p =
     let one = and_from (nat_le 2 n) (nat_le n 16) (le-leb 2 n p.least) (le-leb n 16 p.most) in
     let two = and_from (nat_le 2 n && nat_le n 16) (length bytes == 36 + 2272 * n) one (eq-eqb (length bytes) (36 + 2272 * n) p.long) in
-    let three = and_from (nat_le 2 n && nat_le n 16 && (length bytes == 36 + 2272 * n)) (nat_le (length_in bytes) 65536) two (le-leb (length_in bytes) 65536 p.short) in
-    and_from (nat_le 2 n && nat_le n 16 && (length bytes == 36 + 2272 * n) && nat_le (length_in bytes) 65536) (list_all is_reduced (capsules_in n bytes)) three p.reduced
+    let three = and_from (nat_le 2 n && nat_le n 16 && (length bytes == 36 + 2272 * n)) (nat_le (length_in bytes) 65536) two
+    (le-leb (length_in bytes) 65536 p.short) in
+    and_from (nat_le 2 n && nat_le n 16 && (length bytes == 36 + 2272 * n) && nat_le (length_in bytes) 65536)
+    (list_all is_reduced (capsules_in n bytes)) three p.reduced
 
 -- what was read passed the test
 read_cases : (b : Bool) (x d : Description) → cond b (Some x) None ≡ Some d → (b ≡ true) × (x ≡ d)
 read_cases true x d e = (refl, cc)
 read_cases false x d e = cc
 
-pub read_passes : (n : ℕ) (bytes : List ℕ) (d : Description) → descriptor_read n bytes ≡ Some d → (is_descriptor n bytes ≡ true) × (description_in n bytes ≡ d)
+pub read_passes : (n : ℕ) (bytes : List ℕ) (d : Description) → descriptor_read n bytes ≡ Some d → (is_descriptor n bytes ≡ true)
+    × (description_in n bytes ≡ d)
 read_passes n bytes d e = read_cases (is_descriptor n bytes) (description_in n bytes) d e
 
 -- bytes that pass the test tell a descriptor of the grammar
@@ -69,15 +73,18 @@ in_grammar n bytes p =
         least = rw (length-parts_of 32 n hashes) p.least;
         most = rw (length-parts_of 32 n hashes) p.most;
         as_many = length-parts_of 2240 n capsules ∙ sym (length-parts_of 32 n hashes);
-        hashes = All-from_recursion (λ hash. length hash ≡ 32) (parts_of 32 n hashes) (sizes-parts_of 32 n hashes (omega (arith, length-drop 36 bytes)));
-        sizes = All-from_recursion (λ capsule. length capsule ≡ 2240) (parts_of 2240 n capsules) (sizes-parts_of 2240 n capsules (omega (arith, length-drop (36 + 32 * n) bytes)));
+        hashes = All-from_recursion (λ hash. length hash ≡ 32) (parts_of 32 n hashes)
+            (sizes-parts_of 32 n hashes (omega (arith, length-drop 36 bytes)));
+        sizes = All-from_recursion (λ capsule. length capsule ≡ 2240) (parts_of 2240 n capsules)
+            (sizes-parts_of 2240 n capsules (omega (arith, length-drop (36 + 32 * n) bytes)));
         reduced = AllPass-from_list_all is_reduced (parts_of 2240 n capsules) p.reduced;
       };
       members = length-parts_of 32 n hashes;
     }
 
 -- the parts of the bytes, put together
-whole : (n : ℕ) (bytes : List ℕ) → take 4 bytes ++ (take 32 (drop 4 bytes) ++ (take (32 * n) (drop 36 bytes) ++ drop (36 + 32 * n) bytes)) ≡ bytes
+whole : (n : ℕ) (bytes : List ℕ) → take 4 bytes ++ (take 32 (drop 4 bytes) ++ (take (32 * n) (drop 36 bytes) ++ drop (36 + 32 * n) bytes)) ≡
+    bytes
 whole n bytes =
     let third : drop (36 + 32 * n) bytes ≡ drop (32 * n) (drop 36 bytes) = sym (drop-drop (32 * n) 36 bytes) in
     let second : drop 36 bytes ≡ drop 32 (drop 4 bytes) = sym (drop-drop 32 4 bytes) in
@@ -89,11 +96,13 @@ unfolding description_in
 text_of-read n bytes are p =
     let long = p.long in
     let size : length (take 4 bytes) ≡ 4 = length-take-le 4 bytes (omega arith) in
-    let number : to_be_bytes w32 (length_in bytes) ≡ take 4 bytes = be_bytes_4 (take 4 bytes) (length_in bytes) size (IsBytes-take 4 bytes are) refl in
+    let number : to_be_bytes w32 (length_in bytes) ≡ take 4 bytes = be_bytes_4 (take 4 bytes) (length_in bytes) size
+    (IsBytes-take 4 bytes are) refl in
     let n32 : 32 * n ≤ length (drop 36 bytes) = omega (arith, length-drop 36 bytes) in
     let n2240 : 2240 * n ≤ length (drop (36 + 32 * n) bytes) = omega (arith, length-drop (36 + 32 * n) bytes) in
     let end : length (drop (36 + 32 * n) bytes) ≤ 2240 * n = omega (arith, length-drop (36 + 32 * n) bytes) in
-    let last : concat (capsules_in n bytes) ≡ drop (36 + 32 * n) bytes = concat-parts_of 2240 n (drop (36 + 32 * n) bytes) n2240 ∙ take_all (2240 * n) (drop (36 + 32 * n) bytes) end in
+    let last : concat (capsules_in n bytes) ≡ drop (36 + 32 * n) bytes = concat-parts_of 2240 n (drop (36 + 32 * n) bytes) n2240
+    ∙ take_all (2240 * n) (drop (36 + 32 * n) bytes) end in
     let hashes : concat (parts_of 32 n (drop 36 bytes)) ≡ take (32 * n) (drop 36 bytes) = concat-parts_of 32 n (drop 36 bytes) n32 in
     ap (λ (x : List ℕ). x ++ (take 32 (drop 4 bytes) ++ (concat (parts_of 32 n (drop 36 bytes)) ++ concat (capsules_in n bytes)))) number
     ∙ ap (λ (x : List ℕ). take 4 bytes ++ (take 32 (drop 4 bytes) ++ (x ++ concat (capsules_in n bytes)))) hashes
@@ -134,25 +143,41 @@ spells n d g =
     (parts_of-concat 32 n d.pad_hashes capsules members hash_sizes)
     (ap (parts_of 2240 n) (sym (append-nil capsules)) ∙ parts_of-concat 2240 n d.capsules [] as_many capsule_sizes)
   where
-    spells_parts : (n : ℕ) (d : Description) (head hashes capsules : List ℕ) → length head ≡ 4 → length d.message_hash ≡ 32 → length hashes ≡ 32 * n → length capsules ≡ 2240 * n
+    spells_parts : (n : ℕ) (d : Description) (head hashes capsules : List ℕ) → length head ≡ 4 → length d.message_hash ≡ 32
+        → length hashes ≡ 32 * n → length capsules ≡ 2240 * n
         → from_be_bytes w32 head ≡ d.length → parts_of 32 n (hashes ++ capsules) ≡ d.pad_hashes → parts_of 2240 n capsules ≡ d.capsules
         → Spells n d (head ++ (d.message_hash ++ (hashes ++ capsules)))
     spells_parts n d head hashes capsules four long hashes_long capsules_long number first second =
         let text = head ++ (d.message_hash ++ (hashes ++ capsules)) in
         let start : take 4 text ≡ head = take_at head (d.message_hash ++ (hashes ++ capsules)) 4 four in
         let after : drop 4 text ≡ d.message_hash ++ (hashes ++ capsules) = drop_at head (d.message_hash ++ (hashes ++ capsules)) 4 four in
-        let rest : drop 36 text ≡ hashes ++ capsules = sym (drop-drop 32 4 text) ∙ ap (drop 32) after ∙ drop_at d.message_hash (hashes ++ capsules) 32 long in
-        let last : drop (36 + 32 * n) text ≡ capsules = sym (drop-drop (32 * n) 36 text) ∙ ap (drop (32 * n)) rest ∙ drop_at hashes capsules (32 * n) hashes_long in
+        let rest : drop 36 text ≡ hashes ++ capsules = sym (drop-drop 32 4 text) ∙ ap (drop 32) after
+        ∙ drop_at d.message_hash (hashes ++ capsules) 32 long in
+        let last : drop (36 + 32 * n) text ≡ capsules = sym (drop-drop (32 * n) 36 text) ∙ ap (drop (32 * n)) rest
+        ∙ drop_at hashes capsules (32 * n) hashes_long in
         record {
-          long = omega (arith, length-append head (d.message_hash ++ (hashes ++ capsules)), length-append d.message_hash (hashes ++ capsules), length-append hashes capsules);
+          long = omega (
+            arith,
+            length-append head (d.message_hash ++ (hashes ++ capsules)),
+            length-append d.message_hash
+                (hashes ++ capsules),
+            length-append hashes capsules,
+          );
           number = ap (from_be_bytes w32) start ∙ number;
           hash = ap (take 32) after ∙ take_at d.message_hash (hashes ++ capsules) 32 long;
           hashes = ap (parts_of 32 n) rest ∙ first;
           capsules = ap (parts_of 2240 n) last ∙ second;
         }
 
-pub same_description : (d e : Description) → d.length ≡ e.length → d.message_hash ≡ e.message_hash → d.pad_hashes ≡ e.pad_hashes → d.capsules ≡ e.capsules → d ≡ e
-same_description d e length hash hashes capsules = λ i. record { length = length i; message_hash = hash i; pad_hashes = hashes i; capsules = capsules i }
+pub same_description : (d e : Description) → d.length ≡ e.length → d.message_hash ≡ e.message_hash → d.pad_hashes ≡ e.pad_hashes
+    → d.capsules ≡ e.capsules → d ≡ e
+same_description d e length hash hashes capsules = λ i. record {
+  length = length i;
+  message_hash = hash i;
+  pad_hashes = hashes i;
+  capsules =
+      capsules i;
+}
 
 read_again : (b : Bool) (x d : Description) → b ≡ true → x ≡ d → cond b (Some x) None ≡ Some d
 read_again b x d e same = cond-true b (Some x) None e ∙ ap (λ (d : Description). Some d) same
@@ -171,7 +196,8 @@ spelled_are_read n d g =
       short = rw s.number form.short;
       reduced = ap (list_all is_reduced) s.capsules ∙ list_all-from_AllPass is_reduced d.capsules form.reduced;
     }) in
-    read_again (is_descriptor n text) (description_in n text) d test (same_description (description_in n text) d s.number s.hash s.hashes s.capsules)
+    read_again (is_descriptor n text) (description_in n text) d test
+    (same_description (description_in n text) d s.number s.hash s.hashes s.capsules)
 
 pub spelling_determines : SpellingDetermines
 spelling_determines n d e g h same =
@@ -187,24 +213,33 @@ spelling_determines n d e g h same =
 pub not_passed : (n : ℕ) (bytes : List ℕ) → (Passes n bytes → ⊥) → false ≡ is_descriptor n bytes
 not_passed n bytes h = sym (false_from_ne_true (is_descriptor n bytes) (λ e. h (passes n bytes e)))
 
-pub passed_if_reduced : (n : ℕ) (bytes : List ℕ) (r : Bool) → 2 ≤ n → n ≤ 16 → length bytes ≡ 36 + 2272 * n → length_in bytes ≤ 65536 → r ≡ list_all is_reduced (capsules_in n bytes) → r ≡ is_descriptor n bytes
-passed_if_reduced n bytes true least most long short told = sym (passed n bytes (record { least = least; most = most; long = long; short = short; reduced = sym told }))
+pub passed_if_reduced : (n : ℕ) (bytes : List ℕ) (r : Bool) → 2 ≤ n → n ≤ 16 → length bytes ≡ 36 + 2272 * n → length_in bytes ≤ 65536
+    → r ≡ list_all is_reduced (capsules_in n bytes) → r ≡ is_descriptor n bytes
+passed_if_reduced n bytes true least most long short told = sym
+    (passed n bytes (record { least = least; most = most; long = long; short = short; reduced = sym told }))
 passed_if_reduced n bytes false least most long short told = not_passed n bytes (λ p. both_ways false refl (told ∙ p.reduced))
 
 -- what the code makes of bytes that pass
-pub description_is : (n : ℕ) (bytes hash hashes capsules : List ℕ) (number : ℕ) (made read : List (List ℕ)) → number ≡ length_in bytes → hash ≡ take 32 (drop 4 bytes) → made ≡ parts_of 32 n hashes → hashes ≡ drop 36 bytes
-    → read ≡ parts_of 2240 n capsules → capsules ≡ drop (32 * n) hashes → record { length = number; message_hash = hash; pad_hashes = made; capsules = read } ≡ description_in n bytes
+pub description_is : (n : ℕ) (bytes hash hashes capsules : List ℕ) (number : ℕ) (made read : List (List ℕ)) → number ≡ length_in bytes
+    → hash ≡ take 32 (drop 4 bytes) → made ≡ parts_of 32 n hashes → hashes ≡ drop 36 bytes
+    → read ≡ parts_of 2240 n capsules → capsules ≡ drop (32 * n) hashes
+    → record { length = number; message_hash = hash; pad_hashes = made; capsules = read } ≡ description_in n bytes
 unfolding description_in
 description_is n bytes hash hashes capsules number made read is-number is-hash is-made is-hashes is-read is-capsules =
     let last : capsules ≡ drop (36 + 32 * n) bytes = is-capsules ∙ ap (drop (32 * n)) is-hashes ∙ drop-drop (32 * n) 36 bytes in
-    same_description (record { length = number; message_hash = hash; pad_hashes = made; capsules = read }) (description_in n bytes) is-number is-hash (is-made ∙ ap (parts_of 32 n) is-hashes) (is-read ∙ ap (parts_of 2240 n) last)
+    same_description (record { length = number; message_hash = hash; pad_hashes = made; capsules = read }) (description_in n bytes)
+    is-number is-hash (is-made ∙ ap (parts_of 32 n) is-hashes) (is-read ∙ ap (parts_of 2240 n) last)
 
 -- so what it makes has the form of a descriptor
-pub form_of : (n : ℕ) (bytes : List ℕ) (d : Description) → is_descriptor n bytes ≡ true → d ≡ description_in n bytes → IsDescriptor d.length d.message_hash d.pad_hashes d.capsules
-form_of n bytes d e same = subst (λ (d : Description). IsDescriptor d.length d.message_hash d.pad_hashes d.capsules) (sym same) (in_grammar n bytes (passes n bytes e)).form
+pub form_of : (n : ℕ) (bytes : List ℕ) (d : Description) → is_descriptor n bytes ≡ true → d ≡ description_in n bytes
+    → IsDescriptor d.length d.message_hash d.pad_hashes d.capsules
+form_of n bytes d e same = subst (λ (d : Description). IsDescriptor d.length d.message_hash d.pad_hashes d.capsules) (sym same)
+    (in_grammar n bytes (passes n bytes e)).form
 
-pub read_if_passed : (n : ℕ) (bytes : List ℕ) (d : Description) → is_descriptor n bytes ≡ true → d ≡ description_in n bytes → Some d ≡ descriptor_read n bytes
-read_if_passed n bytes d e same = ap (λ (d : Description). Some d) same ∙ sym (cond-true (is_descriptor n bytes) (Some (description_in n bytes)) None e)
+pub read_if_passed : (n : ℕ) (bytes : List ℕ) (d : Description) → is_descriptor n bytes ≡ true → d ≡ description_in n bytes
+    → Some d ≡ descriptor_read n bytes
+read_if_passed n bytes d e same = ap (λ (d : Description). Some d) same
+    ∙ sym (cond-true (is_descriptor n bytes) (Some (description_in n bytes)) None e)
 
 pub members_of-read : (n : ℕ) (bytes : List ℕ) (d : Description) → Some d ≡ descriptor_read n bytes → length d.pad_hashes ≡ n
 members_of-read n bytes d e =

@@ -62,7 +62,8 @@ capsules_in n bytes = parts_of CAPSULE_BYTES n (drop (HEAD_BYTES + 32 * n) bytes
 -- whether bytes spell a descriptor for a group of n members
 unfoldable pub is_descriptor : ℕ → List ℕ → Bool
 is_descriptor n bytes =
-    nat_le 2 n && nat_le n 16 && (length bytes == HEAD_BYTES + MEMBER_BYTES * n) && nat_le (length_in bytes) MESSAGE_LIMIT && list_all is_reduced (capsules_in n bytes)
+    nat_le 2 n && nat_le n 16 && (length bytes == HEAD_BYTES + MEMBER_BYTES * n) && nat_le (length_in bytes) MESSAGE_LIMIT && list_all
+    is_reduced (capsules_in n bytes)
 
 -- what the bytes of a descriptor tell
 unfoldable pub description_in : ℕ → List ℕ → Description

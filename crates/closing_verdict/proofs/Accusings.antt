@@ -23,8 +23,10 @@ ok-unless : (o : Option AccusationRefusal) → is_ok (value_unless o (tt {0})) �
 ok-unless None = refl
 ok-unless (Some refusal) = refl
 
-pub held-is : (shape : Shape) (past : List (List ℕ)) (a : Accusation) (found : List (Option Description)) (table : List (List (List ℕ))) (keys : List (List ℕ)) (r : Result (Unit {0}) AccusationRefusal) (b : Bool)
-    → b ≡ is_ok r → r ≡ value_unless (refusal_of a found table keys) (tt {0}) → found ≡ descriptors_opened shape past → table ≡ pads_sent shape past → keys ≡ keys_said shape past bulk_place
+pub held-is : (shape : Shape) (past : List (List ℕ)) (a : Accusation) (found : List (Option Description)) (table : List (List (List ℕ)))
+    (keys : List (List ℕ)) (r : Result (Unit {0}) AccusationRefusal) (b : Bool)
+    → b ≡ is_ok r → r ≡ value_unless (refusal_of a found table keys) (tt {0}) → found ≡ descriptors_opened shape past
+    → table ≡ pads_sent shape past → keys ≡ keys_said shape past bulk_place
     → b ≡ is_held shape past a
 unfolding is_held
 held-is shape past a found table keys r b ok is found_is table_is keys_are =
@@ -38,11 +40,13 @@ none-is None e = refl
 none-is (Some x) e = absurd cc
 
 -- an accusation that holds is of a member
-pub held-member : (shape : Shape) (past : List (List ℕ)) (a : Accusation) → is_held shape past a ≡ true → (1 ≤ a.member) × (a.member ≤ shape.members)
+pub held-member : (shape : Shape) (past : List (List ℕ)) (a : Accusation) → is_held shape past a ≡ true → (1 ≤ a.member)
+    × (a.member ≤ shape.members)
 unfolding is_held
 held-member shape past a held =
     let refusal = refusal_of a (descriptors_opened shape past) (pads_sent shape past) (keys_said shape past bulk_place) in
-    let holds = (holds_exactly a (descriptors_opened shape past) (pads_sent shape past) (keys_said shape past bulk_place)).0 (none-is (refusal_of a (descriptors_opened shape past) (pads_sent shape past) (keys_said shape past bulk_place)) held) in
+    let holds = (holds_exactly a (descriptors_opened shape past) (pads_sent shape past) (keys_said shape past bulk_place)).0
+    (none-is (refusal_of a (descriptors_opened shape past) (pads_sent shape past) (keys_said shape past bulk_place)) held) in
     let of_it = holds.2 in
     (of_it.first, (let last = of_it.last in omega (arith, last, keys-count shape past bulk_place)))
 
@@ -60,7 +64,8 @@ pad-by v (Some bytes) = by_accusation (accusation_of bytes)
     by_accusation None = refl
     by_accusation (Some a) = mapped-some (bad_pad v) (is_held_at v a) a
 
-first-pad : (v : ClosedStage) (items : List (Option (List ℕ))) → first_some (map (bad_pad_by v) items) ≡ option_map (bad_pad v) (first_some (map (held_by v) items))
+first-pad : (v : ClosedStage) (items : List (Option (List ℕ))) → first_some (map (bad_pad_by v) items) ≡ option_map (bad_pad v)
+    (first_some (map (held_by v) items))
 first-pad v [] = refl
 first-pad v (item ∷ items) =
     ap (λ (o : Option Verdict). first_some (o ∷ map (bad_pad_by v) items)) (pad-by v item) ∙ by_held (held_by v item) (first-pad v items)
@@ -71,13 +76,16 @@ first-pad v (item ∷ items) =
     by_held (Some a) later = refl
 
 -- what was found, as a verdict
-pub pad-told : (v : ClosedStage) (items : List (Option (List ℕ))) (found : Option Accusation) → items ≡ items_opened (shape_at v) (past_at v) 2 → found ≡ first_some (map (held_by v) items)
+pub pad-told : (v : ClosedStage) (items : List (Option (List ℕ))) (found : Option Accusation)
+    → items ≡ items_opened (shape_at v) (past_at v) 2 → found ≡ first_some (map (held_by v) items)
     → first_bad_pad v ≡ option_map (bad_pad v) found
 unfolding first_bad_pad
 pad-told v items found are is =
-    ap (λ (t : List (Option (List ℕ))). first_some (map (bad_pad_by v) t)) (sym are) ∙ first-pad v items ∙ ap (option_map (bad_pad v)) (sym is)
+    ap (λ (t : List (Option (List ℕ))). first_some (map (bad_pad_by v) t)) (sym are) ∙ first-pad v items
+    ∙ ap (option_map (bad_pad v)) (sym is)
 
-pub held-told : (v : ClosedStage) (items : List (Option (List ℕ))) (a : Accusation) → first_some (map (held_by v) items) ≡ Some a → is_held_at v a ≡ true
+pub held-told : (v : ClosedStage) (items : List (Option (List ℕ))) (a : Accusation) → first_some (map (held_by v) items) ≡ Some a
+    → is_held_at v a ≡ true
 held-told v [] a e = absurd (none-some a e)
 held-told v (item ∷ items) a e = by_item (held-told v items a) (held_by v item) refl e
   where
@@ -92,12 +100,14 @@ held-told v (item ∷ items) a e = by_item (held-told v items a) (held_by v item
     by_read None is = absurd (none-some a is)
     by_read (Some b) is = held-some b is
 
-    by_item : (first_some (map (held_by v) items) ≡ Some a → is_held_at v a ≡ true) → (o : Option Accusation) → held_by v item ≡ o → first_some (o ∷ map (held_by v) items) ≡ Some a → is_held_at v a ≡ true
+    by_item : (first_some (map (held_by v) items) ≡ Some a → is_held_at v a ≡ true) → (o : Option Accusation) → held_by v item ≡ o
+        → first_some (o ∷ map (held_by v) items) ≡ Some a → is_held_at v a ≡ true
     by_item later None is got = later got
     by_item later (Some b) is got = by_read (option_and_then accusation_of item) (is ∙ got)
 
 -- the first of the items from a place on is at it
-pub first-at : (v : ClosedStage) (items : List (Option (List ℕ))) (k : ℕ) (item : Option (List ℕ)) (a : Accusation) → first_some (map (held_by v) items) ≡ first_some (map (held_by v) (drop k items))
+pub first-at : (v : ClosedStage) (items : List (Option (List ℕ))) (k : ℕ) (item : Option (List ℕ)) (a : Accusation)
+    → first_some (map (held_by v) items) ≡ first_some (map (held_by v) (drop k items))
     → slice_get items k ≡ Some item → held_by v item ≡ Some a → Some a ≡ first_some (map (held_by v) items)
 first-at v items k item a so_far at held =
     sym (so_far ∙ ap (λ (t : List (Option (List ℕ))). first_some (map (held_by v) t)) (drop-here items k item at)

@@ -31,7 +31,8 @@ closing-said c is member least most =
     let slot : Slot = record { stage = c.stage; sender = member } in
     let there : is_slot c.log.shape c.stage member ≡ true = closing-slot c.log.shape c.stage member is.closing least most in
     let kept = closed-kept c is slot there (omega arith) in
-    let stands : StandsIn c.log.shape slot (post_in (stage_closed c) c.stage member).content = is.stand c.stage member (post_in (stage_closed c) c.stage member) kept in
+    let stands : StandsIn c.log.shape slot (post_in (stage_closed c) c.stage member).content = is.stand c.stage member
+    (post_in (stage_closed c) c.stage member) kept in
     record {
       content = stands.said;
       kept = kept;
@@ -41,7 +42,8 @@ closing-said c is member least most =
     }
 
 -- its post is there
-pub closing-missing : (c : Completed) → IsComplete c → (member : ℕ) → 1 ≤ member → member ≤ c.log.shape.members → kept_in c.log (record { stage = c.stage; sender = member }) ≡ None → ⊥
+pub closing-missing : (c : Completed) → IsComplete c → (member : ℕ) → 1 ≤ member → member ≤ c.log.shape.members
+    → kept_in c.log (record { stage = c.stage; sender = member }) ≡ None → ⊥
 closing-missing c is member least most e =
     never (post_in (stage_closed c) c.stage member) (sym e ∙ (closing-said c is member least most).kept)
   where
@@ -49,21 +51,24 @@ closing-missing c is member least most e =
     never post e = absurd cc
 
 -- what is read of it
-pub closing-read : (c : Completed) (is : IsComplete c) → (member : ℕ) (least : 1 ≤ member) (most : member ≤ c.log.shape.members) (shape : Shape) (post : Post) (bytes : List ℕ)
+pub closing-read : (c : Completed) (is : IsComplete c) → (member : ℕ) (least : 1 ≤ member) (most : member ≤ c.log.shape.members)
+    (shape : Shape) (post : Post) (bytes : List ℕ)
     → Some post ≡ kept_in c.log (record { stage = c.stage; sender = member }) → bytes ≡ post.content → shape ≡ c.log.shape
     → content_read shape bytes ≡ Ok (closing-said c is member least most).content
 closing-read c is member least most shape post bytes kept are same =
     let said = closing-said c is member least most in
-    let own : post ≡ post_in (stage_closed c) c.stage member = post-same post (post_in (stage_closed c) c.stage member) (kept ∙ said.kept) in
+    let own : post ≡ post_in (stage_closed c) c.stage member = post-same post (post_in (stage_closed c) c.stage member) (kept ∙ said.kept)
+    in
     ap (λ (s : Shape). content_read s bytes) same ∙ ap (content_read c.log.shape) (are ∙ ap (λ (p : Post). p.content) own) ∙ said.reads
   where
     post-same : (a b : Post) → (let some : Post → Option Post = λ z. Some z in some a ≡ some b) → a ≡ b
     post-same a b e = cc
 
-content-same : (r : Result Content Offence) (a b : Content) → r ≡ Ok a → r ≡ Ok b → a ≡ b
+pub content-same : (r : Result Content Offence) (a b : Content) → r ≡ Ok a → r ≡ Ok b → a ≡ b
 content-same r a b one two = cc
 
-pub said-fault : (refusal : DecodeRefusal) (at rule : ℕ) (r : Result Content Offence) (content : Content) → refusal ≡ Malformed at rule → IsFault (fault refusal) r → r ≡ Ok content → ⊥
+pub said-fault : (refusal : DecodeRefusal) (at rule : ℕ) (r : Result Content Offence) (content : Content) → refusal ≡ Malformed at rule
+    → IsFault (fault refusal) r → r ≡ Ok content → ⊥
 said-fault refusal at rule r content is faulty reads =
     let told : r ≡ Err (record { at = at; rule = rule }) = subst (λ (x : DecodeRefusal). IsFault (fault x) r) is faulty in
     never r (record { at = at; rule = rule }) content told reads
@@ -72,14 +77,17 @@ said-fault refusal at rule r content is faulty reads =
     never r e content one two = absurd cc
 
 -- what was read is the member's closing content, of the stage
-pub closing-is : (c : Completed) → IsComplete c → (member : ℕ) → 1 ≤ member → member ≤ c.log.shape.members → (shape : Shape) (post : Post) (bytes : List ℕ) (content : Content)
-    → Some post ≡ kept_in c.log (record { stage = c.stage; sender = member }) → bytes ≡ post.content → shape ≡ c.log.shape → content_read shape bytes ≡ Ok content
+pub closing-is : (c : Completed) → IsComplete c → (member : ℕ) → 1 ≤ member → member ≤ c.log.shape.members
+    → (shape : Shape) (post : Post) (bytes : List ℕ) (content : Content)
+    → Some post ≡ kept_in c.log (record { stage = c.stage; sender = member }) → bytes ≡ post.content → shape ≡ c.log.shape
+    → content_read shape bytes ≡ Ok content
     → (closing_content (stage_closed c) member ≡ Ok content) × (content.header.stage ≡ c.stage)
 closing-is c is member least most shape post bytes content kept are same reads =
     let said = closing-said c is member least most in
     let read = closing-read c is member least most shape post bytes kept are same in
     let own : said.content ≡ content = content-same (content_read shape bytes) said.content content read reads in (
-      ap (λ (s : Shape). content_read s (post_in (stage_closed c) c.stage member).content) (sym is.shape) ∙ said.reads ∙ ap (λ (x : Content). told x) own,
+      ap (λ (s : Shape). content_read s (post_in (stage_closed c) c.stage member).content) (sym is.shape) ∙ said.reads
+          ∙ ap (λ (x : Content). told x) own,
       ap (λ (x : Content). x.header.stage) (sym own) ∙ said.stage_is,
     )
   where

@@ -34,17 +34,20 @@ use Rattle.closing_verdict.proofs.Culprits.{culprit-one}
 use Rattle.closing_verdict.proofs.PadPosts.{front-there}
 
 -- a call replays what the verdict does
-pub culprit-is : (c : Completed) (shown : List Shown) (found : Option Fault) → IsComplete c → shown ≡ shown_at (stage_closed c) (kind_of_stage c.log.shape c.stage)
+pub culprit-is : (c : Completed) (shown : List Shown) (found : Option Fault) → IsComplete c
+    → shown ≡ shown_at (stage_closed c) (kind_of_stage c.log.shape c.stage)
     → found ≡ culprit_of (inquiry_of c.log c.stage c.round shown) → found ≡ culprit_of (inquiry_into (stage_closed c))
 culprit-is c shown found is shown_is found_is =
     let v : ClosedStage = stage_closed c in
-    let there = front-there c is c.stage (omega arith) ∙ ap (λ (shape : Shape). Some (take (slots_before shape c.stage) v.posts)) is.shape in
+    let there = front-there c is c.stage (omega arith) ∙ ap (λ (shape : Shape). Some (take (slots_before shape c.stage) v.posts)) is.shape
+    in
     found_is ∙ ap culprit_of
     (ap (inquiry_of c.log c.stage c.round) (shown_is ∙ ap (λ (shape : Shape). shown_at v (kind_of_stage shape c.stage)) is.shape)
     ∙ sym (inquiry_is_of_log v c.log is.shape there))
 
 -- it blames somebody
-pub never-spared : (c : Completed) (told : List Told) (found : Option Fault) → IsComplete c → AreTold c told → list_all tells_assent told ≡ false
+pub never-spared : (c : Completed) (told : List Told) (found : Option Fault) → IsComplete c → AreTold c told
+    → list_all tells_assent told ≡ false
     → found ≡ culprit_of (inquiry_into (stage_closed c)) → found ≡ None → ⊥
 never-spared c told found is are differ found_is none =
     let v : ClosedStage = stage_closed c in
@@ -54,34 +57,45 @@ never-spared c told found is are differ found_is none =
     let long : n ≤ length (past_at v) = omega (arith, whole.posts, rises, length-map v.posts (λ (post : Post). post.content)) in
     let front : n ≤ length (take n (past_at v)) = omega (arith, length-take-le n (past_at v) long) in
     let disagree : agree_before v ≡ false = sym (told-agree c told is are) ∙ differ in
-    not-none (culprit_of (inquiry_into v)) (not_unanimous_blames (inquiry_into v) whole.closing front (votes-front (shape_at v) (past_at v) v.stage whole.closing ∙ disagree)) (sym found_is ∙ none)
+    not-none (culprit_of (inquiry_into v)) (not_unanimous_blames (inquiry_into v) whole.closing front
+    (votes-front (shape_at v) (past_at v) v.stage whole.closing ∙ disagree)) (sym found_is ∙ none)
 
 -- whom it blames is a member
-pub blamed-one : (c : Completed) (found : Option Fault) (fault : Fault) → IsComplete c → found ≡ culprit_of (inquiry_into (stage_closed c)) → found ≡ Some fault
+pub blamed-one : (c : Completed) (found : Option Fault) (fault : Fault) → IsComplete c → found ≡ culprit_of (inquiry_into (stage_closed c))
+    → found ≡ Some fault
     → (1 ≤ fault.member) × (fault.member ≤ c.log.shape.members)
 blamed-one c found fault is found_is some =
-    subst (λ (shape : Shape). (1 ≤ fault.member) × (fault.member ≤ shape.members)) (sym is.shape) (culprit-one (inquiry_into (stage_closed c)) fault (sym found_is ∙ some))
+    subst (λ (shape : Shape). (1 ≤ fault.member) × (fault.member ≤ shape.members)) (sym is.shape)
+    (culprit-one (inquiry_into (stage_closed c)) fault (sym found_is ∙ some))
 
 -- the verdict
-replay-verdict : (c : Completed) (told : List Told) (found : Option Fault) (fault : Fault) → IsComplete c → AreTold c told → list_all tells_assent told ≡ false
+replay-verdict : (c : Completed) (told : List Told) (found : Option Fault) (fault : Fault) → IsComplete c → AreTold c told
+    → list_all tells_assent told ≡ false
     → found ≡ culprit_of (inquiry_into (stage_closed c)) → found ≡ Some fault → verdict_in c ≡ replay_conviction (stage_closed c) fault
 unfolding dissented_at
 replay-verdict c told found fault is are differ found_is some =
     let v : ClosedStage = stage_closed c in
-    dissented-verdict c told is are differ ∙ ap (λ (o : Option Fault). unwrap_or (option_map (replay_conviction v) o) Goes) (sym found_is ∙ some)
+    dissented-verdict c told is are differ ∙ ap (λ (o : Option Fault). unwrap_or (option_map (replay_conviction v) o) Goes)
+    (sym found_is ∙ some)
 
 -- ---- what is written down
 
-pub replay-charge : (c : Completed) (charge : Charge) (posts : List (List ℕ)) (member : ℕ) → IsComplete c → charge ≡ charge_of Replay member c.round → posts ≡ by_member c.log.shape (sent_in (stage_closed c) c.stage)
+pub replay-charge : (c : Completed) (charge : Charge) (posts : List (List ℕ)) (member : ℕ) → IsComplete c
+    → charge ≡ charge_of Replay member c.round → posts ≡ by_member c.log.shape (sent_in (stage_closed c) c.stage)
     → (1 ≤ member) × (member ≤ c.log.shape.members) → c.round < 2 ^ 64 → All (λ post. length post < 2 ^ 32) posts → IsCharge charge posts
 replay-charge c charge posts member is e are one early short =
-    let count : length posts ≡ c.log.shape.members = ap (λ (t : List (List ℕ)). length t) are ∙ length-map-range_with_len (sent_in (stage_closed c) c.stage) 1 c.log.shape.members in
+    let count : length posts ≡ c.log.shape.members = ap (λ (t : List (List ℕ)). length t) are
+    ∙ length-map-range_with_len (sent_in (stage_closed c) c.stage) 1 c.log.shape.members in
     subst (λ (x : Charge). IsCharge x posts) (sym e)
-    (is-charge c.log.shape (charge_of Replay member c.round) posts is.form.shape one.0 one.1 early tt count (all-items (λ post. length post < 2 ^ 32) posts short))
+    (is-charge c.log.shape (charge_of Replay member c.round) posts is.form.shape one.0 one.1 early tt count
+    (all-items (λ post. length post < 2 ^ 32) posts short))
 
-pub replay-told : (c : Completed) (told : List Told) (found : Option Fault) (fault : Fault) (charge : Charge) (posts : List (List ℕ)) (conviction : Conviction) → IsComplete c → AreTold c told
-    → list_all tells_assent told ≡ false → found ≡ culprit_of (inquiry_into (stage_closed c)) → found ≡ Some fault → charge ≡ charge_of Replay fault.member c.round
-    → posts ≡ by_member c.log.shape (sent_in (stage_closed c) c.stage) → IsConvictionBy (transcript_of charge posts) conviction → TellsConviction (verdict_in c) conviction
+pub replay-told : (c : Completed) (told : List Told) (found : Option Fault) (fault : Fault) (charge : Charge) (posts : List (List ℕ))
+    (conviction : Conviction) → IsComplete c → AreTold c told
+    → list_all tells_assent told ≡ false → found ≡ culprit_of (inquiry_into (stage_closed c)) → found ≡ Some fault
+    → charge ≡ charge_of Replay fault.member c.round
+    → posts ≡ by_member c.log.shape (sent_in (stage_closed c) c.stage) → IsConvictionBy (transcript_of charge posts) conviction
+    → TellsConviction (verdict_in c) conviction
 replay-told c told found fault charge posts conviction is are differ found_is some e posts_are by =
     let same = posts_are ∙ ap (λ (shape : Shape). by_member shape (sent_in (stage_closed c) c.stage)) is.shape in
     subst (λ (x : Verdict). TellsConviction x conviction) (sym (replay-verdict c told found fault is are differ found_is some))

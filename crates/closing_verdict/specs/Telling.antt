@@ -49,7 +49,8 @@ seed_conviction v member = conviction v.round member WrongSeed (sent_in v 0 memb
 
 -- the number of the member at a place, from 0, of which the seed is not that of its key
 abbrev pub wrong_at : List (List ℕ) → List (List ℕ) → ℕ → Option ℕ
-wrong_at seeds keys place = if bytes_eq (key_of_seed (slice_index_or seeds place [])) (slice_index_or keys place []) then None else Some (place + 1)
+wrong_at seeds keys place = if bytes_eq (key_of_seed (slice_index_or seeds place [])) (slice_index_or keys place []) then None else Some
+    (place + 1)
 
 -- whether an accusation holds, by what was said to the end of a stage
 abbrev pub is_held_at : ClosedStage → Accusation → Bool

@@ -13,4 +13,9 @@ mod reading;
 mod seeds;
 
 pub use convicting::{Conviction, contradicted, malformed};
+pub use group_roster::Roster;
+pub use honest_say::{GroupKeys, Slots};
 pub use judging::{Closing, Judged};
+pub use phase_message::Post;
+pub use stage_log::StageLog;
+pub use transcript_form::Claim;

@@ -98,12 +98,19 @@ pad-short c own (Some entry) message = elim (cases_Bool (bytes_eq entry own)) [
       pad_row-own (shape_in c).members own _ c.number (own_key_seed c bulk_place) entry same in
       omega (arith, message, ap length kept, length-own_pad (own_pad_seeds c) c.number c.message)
   | inr apart ↦
-      let found : pad_for c own (Some entry) ≡ unwrap_or (option_and_then (λ d. pad_found d c.number (own_key_seed c bulk_place)) (descriptor_read (shape_in c).members entry)) [] =
+      let found : pad_for c own (Some entry) ≡ unwrap_or (option_and_then (λ d. pad_found d c.number (own_key_seed c bulk_place))
+      (descriptor_read (shape_in c).members entry)) [] =
       row-apart (shape_in c).members own _ c.number (own_key_seed c bulk_place) entry apart in
-      omega (arith, ap length found, found-short (shape_in c).members c.number (own_key_seed c bulk_place) entry (descriptor_read (shape_in c).members entry) refl)
+      omega (
+        arith,
+        ap length found,
+        found-short (shape_in c).members c.number (own_key_seed c bulk_place) entry
+            (descriptor_read (shape_in c).members entry) refl,
+      )
 ]
 
-all-short : (c : Configuration) (own : List ℕ) (items : List (Option (List ℕ))) → length c.message ≤ 65536 → ArePieces (map (pad_for c own) items)
+all-short : (c : Configuration) (own : List ℕ) (items : List (Option (List ℕ))) → length c.message ≤ 65536
+    → ArePieces (map (pad_for c own) items)
 all-short c own [] message = tt
 all-short c own (item ∷ items) message = (omega (arith, pad-short c own item message), all-short c own items message)
 
@@ -114,7 +121,8 @@ pieces-short (pad ∷ pads) short = (let first = short.0 in omega arith, pieces-
 -- lists of pads of one text are one list
 texts-same : (xs ys : List (List ℕ)) → ArePieces xs → ArePieces ys → flat_map prefixed xs ≡ flat_map prefixed ys → xs ≡ ys
 unfolding hashed
-texts-same xs ys short short' e = (hashed_determines PadHash PadHash xs ys short short' (ap (λ (text : List ℕ). magic ++ tag_number PadHash ∷ text) e)).1
+texts-same xs ys short short' e = (hashed_determines PadHash PadHash xs ys short short'
+    (ap (λ (text : List ℕ). magic ++ tag_number PadHash ∷ text) e)).1
 
 -- what the own pads post lists is the row
 pub pads-own : (run : Run) (header : Header) (pads : List (List ℕ)) (own : IsRowOf run (record { header = header; body = Pads pads }))
@@ -149,7 +157,8 @@ pads-own run header pads own message at =
 -- ---- the slot
 
 -- what opened to the descriptor of a slot
-pub entry-at : (n : ℕ) (items : List (Option (List ℕ))) (k : ℕ) (d : Description) → slice_index_or (map (option_and_then (descriptor_read n)) items) k None ≡ Some d
+pub entry-at : (n : ℕ) (items : List (Option (List ℕ))) (k : ℕ) (d : Description)
+    → slice_index_or (map (option_and_then (descriptor_read n)) items) k None ≡ Some d
     → (entry : List ℕ) × (slice_get items k ≡ Some (Some entry)) × (descriptor_read n entry ≡ Some d)
 entry-at n [] k d e = absurd cc
 entry-at n (None ∷ items) zero d e = absurd cc
@@ -163,27 +172,34 @@ slot-descriptor descriptors slot d e = elim (cases_Bool (nat_le 1 slot)) [
   | inr none ↦ absurd (let nothing = sym (cond-false (nat_le 1 slot) (slice_index_or descriptors (slot - 1) None) None none) ∙ e in cc)
 ]
 
-pub opened-at : (shape : Shape) (past : List (List ℕ)) (slot : ℕ) (d : Description) → descriptor_at (descriptors_opened shape past) slot ≡ Some d
-    → (entry : List ℕ) × (slice_get (items_opened shape past 1) (slot - 1) ≡ Some (Some entry)) × (descriptor_read shape.members entry ≡ Some d)
+pub opened-at : (shape : Shape) (past : List (List ℕ)) (slot : ℕ) (d : Description)
+    → descriptor_at (descriptors_opened shape past) slot ≡ Some d
+    → (entry : List ℕ) × (slice_get (items_opened shape past 1) (slot - 1) ≡ Some (Some entry))
+    × (descriptor_read shape.members entry ≡ Some d)
 unfolding descriptors_opened
-opened-at shape past slot d e = entry-at shape.members (items_opened shape past 1) (slot - 1) d (slot-descriptor (descriptors_opened shape past) slot d e)
+opened-at shape past slot d e = entry-at shape.members (items_opened shape past 1) (slot - 1) d
+    (slot-descriptor (descriptors_opened shape past) slot d e)
 
 -- the pad of the accused for a slot
 pub sent-is : (shape : Shape) (accused slot : ℕ) (pads : List (List ℕ)) → 1 ≤ accused → accused ≤ shape.members
     → pad_sent (table_of shape accused pads) accused slot ≡ slice_index_or pads (slot - 1) []
 sent-is shape accused slot pads least most =
     ap (λ (row : List (List ℕ)). slice_index_or row (slot - 1) [])
-    (get_or_from_slice_get (table_of shape accused pads) (accused - 1) _ [] (by-member (λ m. if m == accused then pads else []) shape.members accused least most)
+    (get_or_from_slice_get (table_of shape accused pads) (accused - 1) _ []
+    (by-member (λ m. if m == accused then pads else []) shape.members accused least most)
     ∙ cond-true (accused == accused) pads [] (eq-eqb accused accused refl))
 
 -- ---- the own bulk key
 
 pub bulk-key : (run : Run) (content : Content) (own : IsRowOf run content) → HonestRun run → 1 ≤ own.row.stage
-    → key_for (keys_said (shape_in run.config) (contents_of own.row.past) bulk_place) run.config.number ≡ key_of_seed (own_key_seed run.config bulk_place)
+    → key_for (keys_said (shape_in run.config) (contents_of own.row.past) bulk_place) run.config.number ≡ key_of_seed
+    (own_key_seed run.config bulk_place)
 unfolding said_in
 bulk-key run content own honest least =
-    get_or_from_slice_get (keys_said shape past bulk_place) (c.number - 1) _ [] (by-member (key_said shape past bulk_place) shape.members c.number within.1 within.2)
-    ∙ ap (λ (b : Body). slice_index_or (keys_in b) bulk_place []) (own-body run own.row.past 0 said ∙ keys-are run said.text said.row (ap (kind_of_stage shape) said.at))
+    get_or_from_slice_get (keys_said shape past bulk_place) (c.number - 1) _ []
+    (by-member (key_said shape past bulk_place) shape.members c.number within.1 within.2)
+    ∙ ap (λ (b : Body). slice_index_or (keys_in b) bulk_place [])
+    (own-body run own.row.past 0 said ∙ keys-are run said.text said.row (ap (kind_of_stage shape) said.at))
   where
     c : Configuration
     c = run.config
@@ -209,11 +225,13 @@ unfolding pad_found
 found-opened d member seed s opens hash =
     let pad : List ℕ = pad_of s d.length in
     ap (option_and_then (pad_if_hashed d member)) opens
-    ∙ cond-true (bytes_eq (hash_of_pad pad) (pad_hash_for d member)) (Some pad) None ((bytes_eq-Decides (hash_of_pad pad) (pad_hash_for d member)).1 hash)
+    ∙ cond-true (bytes_eq (hash_of_pad pad) (pad_hash_for d member)) (Some pad) None
+    ((bytes_eq-Decides (hash_of_pad pad) (pad_hash_for d member)).1 hash)
 
 -- an honest member can make its descriptor
 pub can-make : (run : Run) (past : List (List ℕ)) → HonestRun run
-    → CanMake (shape_in run.config).members (keys_said (shape_in run.config) past bulk_place) (own_pad_seeds run.config) run.config.number run.config.message
+    → CanMake (shape_in run.config).members (keys_said (shape_in run.config) past bulk_place) (own_pad_seeds run.config) run.config.number
+    run.config.message
 can-make run past honest =
     let c = run.config in
     let shape = shape_in c in
@@ -237,14 +255,16 @@ unfolding own_descriptor
 own-read run past honest =
     let c = run.config in
     let keys : List (List ℕ) = keys_said (shape_in c) past bulk_place in
-    spelled_are_read (shape_in c).members (own_description c past) (made_is_of_grammar (shape_in c).members keys (own_pad_seeds c) c.number c.message (can-make run past honest))
+    spelled_are_read (shape_in c).members (own_description c past)
+    (made_is_of_grammar (shape_in c).members keys (own_pad_seeds c) c.number c.message (can-make run past honest))
 
 description-same : (a b : Description) → (let told : Description → Option Description = λ z. Some z in told a ≡ told b) → a ≡ b
 description-same a b e = cc
 
 -- the own pad is among those that the own descriptor asks for
 pub own-made : (run : Run) → HonestRun run
-    → Contains (made_pads (own_pad_seeds run.config) run.config.number run.config.message) (own_pad (own_pad_seeds run.config) run.config.number run.config.message)
+    → Contains (made_pads (own_pad_seeds run.config) run.config.number run.config.message)
+    (own_pad (own_pad_seeds run.config) run.config.number run.config.message)
 own-made run honest =
     let c = run.config in
     let seeds : List (List ℕ) = own_pad_seeds c in
@@ -253,7 +273,8 @@ own-made run honest =
     let first = within.1 in
     let last : c.number ≤ length seeds = (let most = within.2 in omega (arith, count)) in
     subst (Contains (made_pads seeds c.number c.message)) (made_pads-own seeds c.number c.message first last)
-    (place-listed (made_pads seeds c.number c.message) (c.number - 1) (omega (arith, first, last, length-made_pads seeds c.number c.message first last)))
+    (place-listed (made_pads seeds c.number c.message) (c.number - 1)
+    (omega (arith, first, last, length-made_pads seeds c.number c.message first last)))
 
 -- ---- the law
 
@@ -298,7 +319,8 @@ frame-pad run runs t listed one form bytes none e = held.2.other (sent ∙ eithe
     d : Description
     d = held.0
 
-    item : (entry : List ℕ) × (slice_get (items_opened shape past 1) (a.slot - 1) ≡ Some (Some entry)) × (descriptor_read shape.members entry ≡ Some d)
+    item : (entry : List ℕ) × (slice_get (items_opened shape past 1) (a.slot - 1) ≡ Some (Some entry))
+        × (descriptor_read shape.members entry ≡ Some d)
     item = opened-at shape past a.slot d held.1
 
     own_bytes : List ℕ
@@ -321,7 +343,8 @@ frame-pad run runs t listed one form bytes none e = held.2.other (sent ∙ eithe
         let member = accused-within shape t form in
         ap (λ (m : ℕ). pad_sent table m a.slot) e.accused
         ∙ sent-is shape t.accused a.slot e.pads member.0 member.1
-        ∙ ap (λ (pads : List (List ℕ)). slice_index_or pads (a.slot - 1) []) (pads-own run e.header e.pads own one.honest.config.enter.message at)
+        ∙ ap (λ (pads : List (List ℕ)). slice_index_or pads (a.slot - 1) [])
+        (pads-own run e.header e.pads own one.honest.config.enter.message at)
         ∙ get_or_from_slice_get (row_pads c past) (a.slot - 1) _ []
         (slice_get-map (pad_for c own_bytes) (items_opened shape past 1) (a.slot - 1) ∙ ap (option_map (pad_for c own_bytes)) item.1)
 
@@ -331,7 +354,8 @@ frame-pad run runs t listed one form bytes none e = held.2.other (sent ∙ eithe
         let long = (detail-is t.claim a (subst (HasDetail t.claim) e.detail form.detail)).1 in
         let sealed : capsule_for d c.number ≡ capsule_of (key_of_seed seed) a.seed =
         subst (λ (m : ℕ). capsule_for d m ≡ capsule_of (key_for keys m) a.seed) number held.2.sealed
-        ∙ ap (λ (key : List ℕ). capsule_of key a.seed) (bulk-key run _ own one.honest (let some : pad_stage shape ≡ shape.members + 4 = refl in omega (arith, at, some))) in
+        ∙ ap (λ (key : List ℕ). capsule_of key a.seed) (bulk-key run _ own one.honest
+        (let some : pad_stage shape ≡ shape.members + 4 = refl in omega (arith, at, some))) in
         let opens : opened seed (capsule_for d c.number) ≡ Some a.seed =
         (opens_exactly seed (capsule_for d c.number) a.seed).1 (seed-message t a bytes e.detail long, sealed) in
         pad_row-other shape.members own_bytes kept c.number seed item.0 pad d apart item.2 (found-opened d c.number seed a.seed opens hash)
@@ -342,17 +366,20 @@ frame-pad run runs t listed one form bytes none e = held.2.other (sent ∙ eithe
         let can = can-make run past one.honest in
         let made : d ≡ own_description c past =
         description-same d (own_description c past) (sym item.2 ∙ ap (descriptor_read shape.members) is ∙ own-read run past one.honest) in
-        let size : d.length ≡ length c.message = ap (λ (x : Description). x.length) made ∙ length_of-made keys (own_pad_seeds c) c.number c.message in
+        let size : d.length ≡ length c.message = ap (λ (x : Description). x.length) made
+        ∙ length_of-made keys (own_pad_seeds c) c.number c.message in
         let message = one.honest.config.enter.message in
         pad_row-own shape.members own_bytes kept c.number seed item.0 ((bytes_eq-Decides item.0 own_bytes).1 is)
         ∙ fits_determines (strings_of_runs runs ++ strings_of_evidence c.roster (transcript_spelling t)) d c.number kept pad
         (omega (arith, size, message)) none of_run of_accusation
-        (subst (λ (x : Description). fits x c.number kept ≡ true) (sym made) (own_pad_fits shape.members keys (own_pad_seeds c) c.number c.message can))
+        (subst (λ (x : Description). fits x c.number kept ≡ true) (sym made)
+        (own_pad_fits shape.members keys (own_pad_seeds c) c.number c.message can))
         (fits_from d c.number pad (length-pad_of a.seed d.length) hash)
       where
         of_run : Contains (strings_of_runs runs ++ strings_of_evidence c.roster (transcript_spelling t)) (pad_string kept)
         of_run = Contains-append_left (strings_of_runs runs) (strings_of_evidence c.roster (transcript_spelling t)) (pad_string kept)
-            (contains-flat-from strings_of_run runs run (pad_string kept) listed ((run_has_strings run).own_pads kept (own-made run one.honest)))
+            (contains-flat-from strings_of_run runs run (pad_string kept) listed
+            ((run_has_strings run).own_pads kept (own-made run one.honest)))
 
         of_accusation : Contains (strings_of_runs runs ++ strings_of_evidence c.roster (transcript_spelling t)) (pad_string pad)
         of_accusation = transcript-among run runs t one form (pad_string pad)

@@ -33,7 +33,8 @@ pub one-body : (a b : Content) → a.header ≡ b.header → content_text a ≡ 
 one-body a b header text =
     let ra : List ℕ = (kind_number a.body ∷ []) ++ body_text a.body in
     let rb : List ℕ = (kind_number b.body ∷ []) ++ body_text b.body in
-    let rest = (split_once (header_text a.header) (header_text b.header) ra rb (ap (λ (h : Header). length (header_text h)) header) text).1 in
+    let rest = (split_once (header_text a.header) (header_text b.header) ra rb (ap (λ (h : Header). length (header_text h)) header) text).1
+    in
     let parts = split_once (kind_number a.body ∷ []) (kind_number b.body ∷ []) (body_text a.body) (body_text b.body) refl rest in
     record { kind = ap (λ (xs : List ℕ). get_or xs 0 0) parts.0; text = parts.1 }
 
@@ -42,7 +43,8 @@ one-body a b header text =
 -- what the member had to say, by the kind of the stage
 abbrev pub body_due : (run : Run) (content : List ℕ) → IsOwnRow run content → Body
 body_due run content row =
-    own_body_if run.config (own_descriptor run.config (contents_of row.past)) row.past row.stage (kind_of_stage (shape_in run.config) row.stage)
+    own_body_if run.config (own_descriptor run.config (contents_of row.past)) row.past row.stage
+    (kind_of_stage (shape_in run.config) row.stage)
 
 abbrev pub content_due : (run : Run) (content : List ℕ) → IsOwnRow run content → Content
 content_due run content row = record { header = own_header run.config row.past row.stage; body = body_due run content row }
@@ -70,4 +72,5 @@ row-is run content row is =
     let header : IsHeader (shape_in run.config) (own_header run.config row.past row.stage) =
     subst (IsHeader (shape_in run.config)) (row-header run content row) row.grammar.0 in
     contents-same row.read (content_due run content row) (content_read (shape_in run.config) content) (row-reads run content row)
-    (ap (content_read (shape_in run.config)) (due-text run content row) ∙ content-is_read (shape_in run.config) (content_due run content row) (header, is))
+    (ap (content_read (shape_in run.config)) (due-text run content row)
+    ∙ content-is_read (shape_in run.config) (content_due run content row) (header, is))

@@ -42,7 +42,8 @@ use Rattle.conviction.proofs.Pasts.{checks-admitted, checks-for-slot, embedded-f
 -- the past of an honest run: how long it is, and what stands at each place
 pub record IsPast (run : Run) (stage : ℕ) (past : List Post) : Type 0 where
   pub long : length past ≡ slots_before (shape_in run.config) stage
-  pub checks : (k : ℕ) (slot : Slot) (post : Post) → slot_at (shape_in run.config) k ≡ Some slot → slice_get past k ≡ Some post → ChecksIn run.config slot post
+  pub checks : (k : ℕ) (slot : Slot) (post : Post) → slot_at (shape_in run.config) k ≡ Some slot → slice_get past k ≡ Some post
+      → ChecksIn run.config slot post
   pub short : (k : ℕ) (post : Post) → slice_get past k ≡ Some post → length (post_spelling post) < 2 ^ 32
 
 some-slot : (a b : Slot) → (let told : Slot → Option Slot = λ z. Some z in told a ≡ told b) → a ≡ b
@@ -58,10 +59,12 @@ is-past run stage past honest e = record {
       let few = posts_are_short run.config.roster run.config.round post admitted.0 admitted.1 in omega arith);
 }
   where
-    checks : (k : ℕ) (slot : Slot) (post : Post) → slot_at (shape_in run.config) k ≡ Some slot → slice_get past k ≡ Some post → ChecksIn run.config slot post
+    checks : (k : ℕ) (slot : Slot) (post : Post) → slot_at (shape_in run.config) k ≡ Some slot → slice_get past k ≡ Some post
+        → ChecksIn run.config slot post
     checks k slot post there at =
         let kept = past-kept run.log stage k past post honest.log e at in
-        let same : kept.slot ≡ slot = some-slot kept.slot slot (sym kept.at ∙ ap (λ (shape : Shape). slot_at shape k) honest.shape ∙ there) in
+        let same : kept.slot ≡ slot = some-slot kept.slot slot (sym kept.at ∙ ap (λ (shape : Shape). slot_at shape k) honest.shape ∙ there)
+        in
         honest.posts slot post (subst (λ (s : Slot). kept_in run.log s ≡ Some post) same kept.kept)
 
 -- ---- what a content embeds
@@ -97,15 +100,18 @@ all-written : (xs : List Post) → ((k : ℕ) (post : Post) → slice_get xs k �
 all-written [] short = tt
 all-written (x ∷ xs) short = (short 0 x refl, all-written xs (λ k post at. short (suc k) post at))
 
-stage-short : (shape : Shape) (posts : List Post) (stage : ℕ) → ((k : ℕ) (post : Post) → slice_get posts k ≡ Some post → length (post_spelling post) < 2 ^ 32)
+stage-short : (shape : Shape) (posts : List Post) (stage : ℕ) →
+    ((k : ℕ) (post : Post) → slice_get posts k ≡ Some post → length (post_spelling post) < 2 ^ 32)
     → AllByRecursion (λ item. length item < 2 ^ 32) (written (posts_at shape posts stage))
 stage-short shape posts stage short =
     let a : ℕ = slots_before shape stage in
     let b : ℕ = slots_before shape (stage + 1) in
-    all-written (posts_at shape posts stage) (λ k post at. short (a + k) post (sym (get_drop posts a k) ∙ (take-get (drop a posts) (b - a) k post at).1))
+    all-written (posts_at shape posts stage) (λ k post at. short (a + k) post
+    (sym (get_drop posts a k) ∙ (take-get (drop a posts) (b - a) k post at).1))
 
 -- as many votes as members stand before a closing stage
-votes-count : (shape : Shape) (posts : List Post) (stage : ℕ) (kind vote : StageKind) → kind_of_stage shape stage ≡ Some kind → vote_of kind ≡ Some vote
+votes-count : (shape : Shape) (posts : List Post) (stage : ℕ) (kind vote : StageKind) → kind_of_stage shape stage ≡ Some kind
+    → vote_of kind ≡ Some vote
     → senders_of shape vote ≡ shape.members
     → length posts ≡ slots_before shape stage → length (written (posts_at shape posts (stage - 1))) ≡ shape.members
 votes-count shape posts stage kind vote at closes all whole =
@@ -120,7 +126,8 @@ votes-count shape posts stage kind vote at closes all whole =
     ∙ length-take-le (b - a) (drop a posts) (omega (arith, whole, end, next, length-drop a posts))
     ∙ omega (arith, next, all)
 
-pub final-body : (shape : Shape) (posts : List Post) (stage shuffle : ℕ) (inner outer opening : List ℕ) → kind_of_stage shape stage ≡ Some (Final shuffle)
+pub final-body : (shape : Shape) (posts : List Post) (stage shuffle : ℕ) (inner outer opening : List ℕ)
+    → kind_of_stage shape stage ≡ Some (Final shuffle)
     → length posts ≡ slots_before shape stage
     → ((k : ℕ) (post : Post) → slice_get posts k ≡ Some post → length (post_spelling post) < 2 ^ 32) → length inner ≡ 32 → length outer ≡ 32
     → length opening ≡ 32
@@ -134,7 +141,10 @@ final-body shape posts stage shuffle inner outer opening kind whole short i o p 
           (Dispute (written posts) outer opening) agree)) (
             _,
             ap (λ (k : Option StageKind). form_of shape (slots_before shape stage) k 6) kind,
-            ((stage-short shape posts (stage - 1) short, votes-count shape posts stage (Final shuffle) (Go shuffle) kind refl refl whole), i),
+            (
+              (stage-short shape posts (stage - 1) short, votes-count shape posts stage (Final shuffle) (Go shuffle) kind refl refl whole),
+              i,
+            ),
           )
       | inr differ ↦
           subst (IsBody shape stage)
@@ -146,7 +156,8 @@ final-body shape posts stage shuffle inner outer opening kind whole short i o p 
           )
     ]
 
-pub confirm-body : (shape : Shape) (posts : List Post) (stage : ℕ) → kind_of_stage shape stage ≡ Some Confirm → length posts ≡ slots_before shape stage
+pub confirm-body : (shape : Shape) (posts : List Post) (stage : ℕ) → kind_of_stage shape stage ≡ Some Confirm
+    → length posts ≡ slots_before shape stage
     → ((k : ℕ) (post : Post) → slice_get posts k ≡ Some post → length (post_spelling post) < 2 ^ 32)
     → IsBody shape stage (confirm_row shape posts stage)
 unfolding confirm_row body_form
@@ -154,14 +165,16 @@ confirm-body shape posts stage kind whole short =
     elim (cases_Bool (votes_agree shape (contents_of posts) stage)) [
       | inl agree ↦
           subst (IsBody shape stage)
-          (sym (cond-true (votes_agree shape (contents_of posts) stage) (ConfirmBody (written (posts_at shape posts (stage - 1)))) (Differ (written posts)) agree)) (
+          (sym (cond-true (votes_agree shape (contents_of posts) stage) (ConfirmBody (written (posts_at shape posts (stage - 1))))
+          (Differ (written posts)) agree)) (
             _,
             ap (λ (k : Option StageKind). form_of shape (slots_before shape stage) k 10) kind,
             (stage-short shape posts (stage - 1) short, votes-count shape posts stage Confirm Check kind refl refl whole),
           )
       | inr differ ↦
           subst (IsBody shape stage)
-          (sym (cond-false (votes_agree shape (contents_of posts) stage) (ConfirmBody (written (posts_at shape posts (stage - 1)))) (Differ (written posts)) differ)) (
+          (sym (cond-false (votes_agree shape (contents_of posts) stage) (ConfirmBody (written (posts_at shape posts (stage - 1))))
+          (Differ (written posts)) differ)) (
             _,
             ap (λ (k : Option StageKind). form_of shape (slots_before shape stage) k 11) kind,
             (all-written posts short, length-map posts post_spelling ∙ whole),
@@ -171,7 +184,8 @@ confirm-body shape posts stage kind whole short =
 -- ---- the own closing content
 
 -- a closing stage is the end of a shuffle or stands behind the checks
-pub closing-kind : (o : Option StageKind) → IsSome (option_and_then vote_of o) → ((shuffle : ℕ) × (o ≡ Some (Final shuffle))) ⊎ (o ≡ Some Confirm)
+pub closing-kind : (o : Option StageKind) → IsSome (option_and_then vote_of o) → ((shuffle : ℕ) × (o ≡ Some (Final shuffle)))
+    ⊎ (o ≡ Some Confirm)
 closing-kind (Some (Final shuffle)) is = inl (shuffle, refl)
 closing-kind (Some Confirm) is = inr refl
 closing-kind None is = absurd cc
@@ -205,10 +219,12 @@ final-is run content row shuffle honest kind =
     let is = is-past run row.stage row.past honest row.before in
     let due : content_due run content row ≡ own_final run shuffle row.past row.stage = ap (due-at run content row) kind in
     let body =
-    final-body (shape_in run.config) row.past row.stage shuffle _ _ _ kind is.long is.short (hash_bytes _ _).0 (hash_bytes _ _).0 (hash_bytes _ _).0 in
+    final-body (shape_in run.config) row.past row.stage shuffle _ _ _ kind is.long is.short (hash_bytes _ _).0 (hash_bytes _ _).0
+    (hash_bytes _ _).0 in
     row-is run content row (subst (λ (c : Content). IsBody (shape_in run.config) row.stage c.body) (sym due) body) ∙ due
 
-pub confirm-is : (run : Run) (content : List ℕ) (row : IsOwnRow run content) → HonestRun run → kind_of_stage (shape_in run.config) row.stage ≡ Some Confirm
+pub confirm-is : (run : Run) (content : List ℕ) (row : IsOwnRow run content) → HonestRun run
+    → kind_of_stage (shape_in run.config) row.stage ≡ Some Confirm
     → row.read ≡ confirm_content (shape_in run.config) row.past (own_header run.config row.past row.stage)
 confirm-is run content row honest kind =
     let is = is-past run row.stage row.past honest row.before in
@@ -239,7 +255,8 @@ own-closing run content row honest closing = elim (closing-kind (kind_of_stage (
         let embeds = final-embeds shape row.past header inner outer opening is.long in
         record {
           justified =
-              own-justified run row.stage row.past (own_final run shuffle row.past row.stage) is embeds (final-justified shape row.past header inner outer opening closing refl);
+              own-justified run row.stage row.past (own_final run shuffle row.past row.stage) is embeds
+              (final-justified shape row.past header inner outer opening closing refl);
           embeds = own-embeds run row.stage row.past (own_final run shuffle row.past row.stage) is embeds;
         }
 
@@ -249,6 +266,7 @@ own-closing run content row honest closing = elim (closing-kind (kind_of_stage (
         let embeds = confirm-embeds shape row.past header is.long in
         record {
           justified =
-              own-justified run row.stage row.past (confirm_content shape row.past header) is embeds (confirm-justified shape row.past header closing refl);
+              own-justified run row.stage row.past (confirm_content shape row.past header) is embeds
+              (confirm-justified shape row.past header closing refl);
           embeds = own-embeds run row.stage row.past (confirm_content shape row.past header) is embeds;
         }

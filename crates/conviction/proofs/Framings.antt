@@ -17,7 +17,8 @@ use Rattle.conviction.proofs.Posts.{frame_equivocation, frame_malformed}
 use Rattle.conviction.proofs.ReplayStrings.{frame_replay}
 
 -- what a claim asks of the listed posts is not shown
-not-shown : (roster : Roster) (runs : List Run) (t : Transcript) (claim : Claim) → AreHonest roster runs → IsTranscript (shape_of_roster roster) t
+not-shown : (roster : Roster) (runs : List Run) (t : Transcript) (claim : Claim) → AreHonest roster runs
+    → IsTranscript (shape_of_roster roster) t
     → IsBytes (transcript_spelling t) → NoneCollide roster runs (transcript_spelling t)
     → SaidBy roster runs t.accused t.round t.posts → Convicts roster t claim → ⊥
 not-shown roster runs t Equivocation honest form bytes none said shows = frame_equivocation roster runs t honest said shows
@@ -30,9 +31,12 @@ not-shown roster runs t Pad honest form bytes none said shows = frame_pad roster
 pub no_framing : NoFraming
 no_framing roster bytes accused claim is accepts runs honest none said =
     let t = accepts.transcript in
-    not-shown roster runs t claim honest accepts.form (subst IsBytes accepts.spelled is) (subst (NoneCollide roster runs) accepts.spelled none)
-    (subst (λ (number : ℕ). SaidBy roster runs number t.round t.posts) (sym accepts.accused_is) (said t accepts.form accepts.spelled)) accepts.convicts
+    not-shown roster runs t claim honest accepts.form (subst IsBytes accepts.spelled is)
+    (subst (NoneCollide roster runs) accepts.spelled none)
+    (subst (λ (number : ℕ). SaidBy roster runs number t.round t.posts) (sym accepts.accused_is) (said t accepts.form accepts.spelled))
+    accepts.convicts
 
 pub nobody_honest_is_convicted : NobodyHonestIsConvicted
 nobody_honest_is_convicted roster bytes accused claim is accepts runs honest none unforged has =
-    no_framing roster bytes accused claim is accepts runs honest none (λ t form spelled. unforged_is_said roster runs accused t.round t.posts (unforged t form spelled) has)
+    no_framing roster bytes accused claim is accepts runs honest none
+    (λ t form spelled. unforged_is_said roster runs accused t.round t.posts (unforged t form spelled) has)

@@ -54,16 +54,20 @@ all-contained P (x ∷ xs) y all there = elim (contains-cases x xs y there) [
 pub listed-bytes : (t : Transcript) (bytes : List ℕ) → IsBytes (transcript_spelling t) → Contains t.posts bytes → IsBytes bytes
 listed-bytes t bytes is listed = all-contained IsBytes t.posts bytes (transcript-bytes t is) listed
 
-said-bytes : (roster : Roster) (round : ℕ) (bytes content : List ℕ) (header : Header) → IsBytes bytes → Says roster round bytes content header → IsBytes content
+said-bytes : (roster : Roster) (round : ℕ) (bytes content : List ℕ) (header : Header) → IsBytes bytes
+    → Says roster round bytes content header → IsBytes content
 said-bytes roster round bytes content header is says =
     let spelled : IsBytes (to_be_bytes w32 (length content) ++ content ++ says.signature) = subst IsBytes says.spelled is in
-    IsBytes-back (to_be_bytes w32 (length content)) content (IsBytes-front (to_be_bytes w32 (length content) ++ content) says.signature spelled)
+    IsBytes-back (to_be_bytes w32 (length content)) content (IsBytes-front (to_be_bytes w32 (length content) ++ content) says.signature
+    spelled)
 
 -- a content that a file says is of the grammar
-pub file-grammar : (roster : Roster) (round : ℕ) (bytes : List ℕ) (content : Content) → IsBytes bytes → IsPostFile roster round bytes content
+pub file-grammar : (roster : Roster) (round : ℕ) (bytes : List ℕ) (content : Content) → IsBytes bytes
+    → IsPostFile roster round bytes content
     → OfGrammar (shape_of_roster roster) content
 file-grammar roster round bytes content is file =
-    (content-is_spelled (shape_of_roster roster) file.text content (said-bytes roster round bytes file.text content.header is file.says) file.reads).1
+    (content-is_spelled (shape_of_roster roster) file.text content (said-bytes roster round bytes file.text content.header is file.says)
+    file.reads).1
 
 -- ---- the accusation
 
@@ -77,11 +81,13 @@ detail-is BadLog a has = absurd has
 detail-is Replay a has = absurd has
 
 -- that seed is bytes
-pub seed-message : (t : Transcript) (a : Accusation) → IsBytes (transcript_spelling t) → t.detail ≡ Some a → length a.seed ≡ 32 → IsMessage a.seed
+pub seed-message : (t : Transcript) (a : Accusation) → IsBytes (transcript_spelling t) → t.detail ≡ Some a → length a.seed ≡ 32
+    → IsMessage a.seed
 seed-message t a is detail long = record { length = long; bytes = seed }
   where
     head : IsBytes (head_spelling t)
-    head = IsBytes-front (head_spelling t) (flat_map prefixed t.posts) (IsBytes-back transcript_magic (head_spelling t ++ flat_map prefixed t.posts) is)
+    head = IsBytes-front (head_spelling t) (flat_map prefixed t.posts)
+        (IsBytes-back transcript_magic (head_spelling t ++ flat_map prefixed t.posts) is)
 
     behind_round : List ℕ
     behind_round = detail_spelling t.detail ++ to_be_bytes w32 (length t.posts)
@@ -94,7 +100,8 @@ seed-message t a is detail long = record { length = long; bytes = seed }
 
     accusation : IsBytes (accusation_spelling a)
     accusation = subst (λ (o : Option Accusation). IsBytes (detail_spelling o)) detail
-        (IsBytes-front (detail_spelling t.detail) (to_be_bytes w32 (length t.posts)) (IsBytes-back (to_be_bytes w64 t.round) behind_round behind_accused))
+        (IsBytes-front (detail_spelling t.detail) (to_be_bytes w32 (length t.posts))
+        (IsBytes-back (to_be_bytes w64 t.round) behind_round behind_accused))
 
     seed : IsBytes a.seed
     seed = IsBytes-back (a.slot ∷ a.member ∷ []) a.seed accusation
@@ -102,13 +109,15 @@ seed-message t a is detail long = record { length = long; bytes = seed }
 -- ---- contents and strings
 
 -- a listed post that reads is among the contents that are listed
-pub content-listed : (roster : Roster) (t : Transcript) (bytes : List ℕ) (content : Content) → Contains t.posts bytes → IsPostFile roster t.round bytes content
+pub content-listed : (roster : Roster) (t : Transcript) (bytes : List ℕ) (content : Content) → Contains t.posts bytes
+    → IsPostFile roster t.round bytes content
     → Contains (contents_listed roster t) content
 unfolding contents_read
 content-listed roster t bytes content listed file =
     contains-filter_map-from (λ (post : Post). result_ok (content_read (shape_of_roster roster) post.content)) (posts_listed t)
     (record { content = file.text; signature = file.says.signature }) content
-    (contains-filter_map-from (λ bytes. result_ok (frame_of bytes)) t.posts bytes (record { content = file.text; signature = file.says.signature }) listed
+    (contains-filter_map-from (λ bytes. result_ok (frame_of bytes)) t.posts bytes
+    (record { content = file.text; signature = file.says.signature }) listed
     (ap result_ok (says-frame roster t.round bytes file.text content.header file.says)))
     (ap result_ok file.reads)
 

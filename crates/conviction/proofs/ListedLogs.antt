@@ -79,7 +79,8 @@ numbered shape (suc n) first le =
     at (x ∷ xs) (suc k) d lt = at xs k d (omega (arith, lt))
 
 -- the posts of such slots are kept behind those before them
-log-filled : (shape : Shape) (done : List Post) (slots : List Slot) (posts : List Post) → NumberedFrom shape (length done) slots → length slots ≡ length posts
+log-filled : (shape : Shape) (done : List Post) (slots : List Slot) (posts : List Post) → NumberedFrom shape (length done) slots
+    → length slots ≡ length posts
     → length done + length slots ≤ slot_count shape
     → fold (λ log (pair : Slot × Post). filled log pair.0 pair.1) (log_kept shape done) (zip slots posts) ≡ log_kept shape (done ++ posts)
 log-filled shape done [] [] numbers long within = ap (log_kept shape) (sym (append-nil done))
@@ -89,23 +90,28 @@ log-filled shape done (slot ∷ slots) (post ∷ posts) numbers long within =
     let step : Log → Slot × Post → Log = λ log pair. filled log pair.0 pair.1 in
     let more : length (done ++ post ∷ []) ≡ length done + 1 = length-append done (post ∷ []) in
     let next : filled (log_kept shape done) slot post ≡ log_kept shape (done ++ post ∷ []) =
-    ap (λ (k : ℕ). log_with shape (slice_set (kept_places (slot_count shape) done) k (Some post))) (slot_at-is shape (length done) slot numbers.0).1
+    ap (λ (k : ℕ). log_with shape (slice_set (kept_places (slot_count shape) done) k (Some post)))
+    (slot_at-is shape (length done) slot numbers.0).1
     ∙ ap (log_with shape) (places-next (slot_count shape) done post (omega (arith, within))) in
     let others =
-    log-filled shape (done ++ post ∷ []) slots posts (subst (λ (k : ℕ). NumberedFrom shape k slots) (sym more) numbers.1) (omega (arith, long)) (omega (arith, within, more)) in
+    log-filled shape (done ++ post ∷ []) slots posts (subst (λ (k : ℕ). NumberedFrom shape k slots) (sym more) numbers.1)
+    (omega (arith, long)) (omega (arith, within, more)) in
     ap (λ (l : Log). fold step l (zip slots posts)) next ∙ others ∙ ap (log_kept shape) (append_assoc done (post ∷ []) posts)
 
 -- ---- the log that is listed
 
-firsts : (slots : List Slot) (items : List (List ℕ)) → length slots ≤ length items → map (λ (pair : Slot × List ℕ). pair.0) (zip slots items) ≡ slots
+firsts : (slots : List Slot) (items : List (List ℕ)) → length slots ≤ length items
+    → map (λ (pair : Slot × List ℕ). pair.0) (zip slots items) ≡ slots
 firsts [] [] le = refl
 firsts [] (item ∷ items) le = refl
 firsts (slot ∷ slots) [] le = absurd (omega (arith, le))
 firsts (slot ∷ slots) (item ∷ items) le = ap (λ (s : List Slot). slot ∷ s) (firsts slots items (omega (arith, le)))
 
 -- where the posts of the slots before the pads are found, the log that is listed keeps them
-pub log-listed : (roster : Roster) (t : Transcript) (log : List Post) → length log ≡ slots_before (shape_of_roster roster) (pad_stage (shape_of_roster roster))
-    → slots_before (shape_of_roster roster) (pad_stage (shape_of_roster roster)) ≤ length t.posts → posts_for roster t.round 0 (pairs_listed roster t) ≡ Ok log
+pub log-listed : (roster : Roster) (t : Transcript) (log : List Post)
+    → length log ≡ slots_before (shape_of_roster roster) (pad_stage (shape_of_roster roster))
+    → slots_before (shape_of_roster roster) (pad_stage (shape_of_roster roster)) ≤ length t.posts
+    → posts_for roster t.round 0 (pairs_listed roster t) ≡ Ok log
     → log_listed roster t Pad ≡ Some (log_kept (shape_of_roster roster) log)
 log-listed roster t log long many stands = ap made stands ∙ ap told (ap (λ (s : List Slot). log_of shape (zip s log)) of_slots ∙ kept)
   where
@@ -147,7 +153,8 @@ log-listed roster t log long many stands = ap made stands ∙ ap told (ap (λ (s
         ∙ log-filled shape [] slots log (numbered shape n 0 (omega arith)) (slots_long ∙ sym long) (omega arith)
 
 -- its past at that stage are these posts
-pub kept-before : (shape : Shape) (stage : ℕ) (log : List Post) → length log ≡ slots_before shape stage → before (log_kept shape log) stage ≡ Some log
+pub kept-before : (shape : Shape) (stage : ℕ) (log : List Post) → length log ≡ slots_before shape stage
+    → before (log_kept shape log) stage ≡ Some log
 kept-before shape stage log long =
     let front : List (Option Post) = map (λ x. Some x) log in
     let rest : List (Option Post) = replicate (slot_count shape - length log) no_post in

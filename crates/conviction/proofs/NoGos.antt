@@ -62,7 +62,8 @@ all-there {A} (None ∷ xs) each = absurd (let first = (each 0 (omega arith)).1 
 pub all-at : {A : Type 0} (xs : List (Option A)) (ys : List A) (i : ℕ) (x : A) → all_some xs ≡ Some ys → slice_get xs i ≡ Some (Some x)
     → slice_get ys i ≡ Some x
 all-at {A} xs ys i x all at =
-    told (slice_get ys i) (sym (ap (λ (zs : List (Option A)). slice_get zs i) (all_some-is xs ys all) ∙ slice_get-map (λ x. Some x) ys i) ∙ at)
+    told (slice_get ys i) (sym (ap (λ (zs : List (Option A)). slice_get zs i) (all_some-is xs ys all) ∙ slice_get-map (λ x. Some x) ys i)
+    ∙ at)
   where
     told : (o : Option A) → option_map (λ x. Some x) o ≡ Some (Some x) → o ≡ Some x
     told (Some y) e = cc
@@ -76,7 +77,8 @@ pub none-wrong : (shape : Shape) (past : List (List ℕ)) (stage later : ℕ) �
 none-wrong shape past stage later le none =
     first_wrong-take shape past stage stage (omega arith)
     ∙ first_below-none (wrong_at shape past) (slots_before shape stage)
-    (λ k lt. first_below-each (wrong_at shape past) (slots_before shape later) none k (omega (arith, lt, slots_before-rises shape stage later le)))
+    (λ k lt. first_below-each (wrong_at shape past) (slots_before shape later) none k
+    (omega (arith, lt, slots_before-rises shape stage later le)))
 
 -- ---- the last list
 
@@ -127,7 +129,8 @@ pub record IsTurnRead (run : Run) (q : Inquiry) (posts : List Post) (stage i : �
       (turns_before (shape_in run.config) (take (slots_before (shape_in run.config) stage) (contents_of posts)) stage)) i ≡ Some (Some list)
   pub said : list_after q (suc i) ≡ Some list
 
-pub turn-read : (run : Run) (q : Inquiry) (shuffle i : ℕ) (e : IsEnded run q shuffle) → HonestRun run → i < q.shape.members → is_turn q (suc i) ≡ true
+pub turn-read : (run : Run) (q : Inquiry) (shuffle i : ℕ) (e : IsEnded run q shuffle) → HonestRun run → i < q.shape.members
+    → is_turn q (suc i) ≡ true
     → IsTurnRead run q e.is.posts (q.stage - 1) i
 turn-read run q shuffle i e honest lt right =
     let shape = shape_in run.config in
@@ -156,7 +159,8 @@ turn-read run q shuffle i e honest lt right =
       list = list.0;
       read = slice_get-map (λ turn. list_read (content_read shape turn)) (turns_before shape (take b past) vote) i
           ∙ ap (option_map (λ turn. list_read (content_read shape turn)))
-          (slice_get-take (drop a (take b past)) (b - a) i (omega (arith, end, lt, members)) ∙ get_drop (take b past) a i ∙ slice_get-take past b
+          (slice_get-take (drop a (take b past)) (b - a) i (omega (arith, end, lt, members)) ∙ get_drop (take b past) a i
+          ∙ slice_get-take past b
           (a + i) (omega (arith, end, lt, members)) ∙ ap (slice_get past) place ∙ text.1)
           ∙ ap (λ (l : Option (List (List ℕ))). Some l) (list-is_read (content_read shape text.0) list.0 body);
       said = list.1;
@@ -181,7 +185,8 @@ abbrev pub inner_said : (run : Run) → List (List ℕ) → ℕ → List ℕ
 inner_said run past shuffle = (own_submission run.config (own_descriptor run.config past) past shuffle).inner_ciphertext
 
 -- it stands in the last list
-pub inner-there : (run : Run) (q : Inquiry) (shuffle : ℕ) (own : IsFaultless run q shuffle) → HonestRun run → (last : HasStripped q q.shape.members)
+pub inner-there : (run : Run) (q : Inquiry) (shuffle : ℕ) (own : IsFaultless run q shuffle) → HonestRun run
+    → (last : HasStripped q q.shape.members)
     → (submitted : IsSubmitted run q own.ended.is.posts shuffle) → Contains last.list (inner_said run submitted.said shuffle)
 inner-there run q shuffle own honest last submitted =
     let c = run.config in
@@ -199,7 +204,8 @@ inner-there run q shuffle own honest last submitted =
     contains-map-from (submission q) (range_with_len 1 q.shape.members) c.number
     (in-range 1 q.shape.members c.number least (omega (arith, most, ap (λ (s : Shape). s.members) is.shape))) in
     let kept =
-    strips_through_keeps (take q.shape.members seeds) (submissions q) last.bodies (submission q c.number) (inner_said run submitted.said shuffle) last.stripped listed
+    strips_through_keeps (take q.shape.members seeds) (submissions q) last.bodies (submission q c.number)
+    (inner_said run submitted.said shuffle) last.stripped listed
     (own_layer_seeds c shuffle 2, ap (λ (s : List (List ℕ)). opened_through s (submission q c.number)) all ∙ opens) in
     ((permutation_keeps last.bodies last.list last.order).1 (inner_said run submitted.said shuffle)).0 kept
 
@@ -227,13 +233,19 @@ stands-there run q shuffle own entry honest last listed =
 
     some_member : 1 ≤ q.shape.members
     some_member =
-        (let bounds = slot-bounds shape 0 run.config.number (own-speaks run.config honest.config) in let least = bounds.1 in let most = bounds.2 in omega (arith, same_members))
+        (let bounds = slot-bounds shape 0 run.config.number (own-speaks run.config honest.config) in let least = bounds.1 in let most =
+        bounds.2 in omega (arith, same_members))
 
     count : length turns ≤ q.shape.members
     count =
         let a : ℕ = slots_before shape (q.stage - 1) - shape.members in
         let b : ℕ = slots_before shape (q.stage - 1) in
-        omega (arith, same_members, length-map (turns_before shape past (q.stage - 1)) (λ turn. list_read (content_read shape turn)), length-take (b - a) (drop a past))
+        omega (
+          arith,
+          same_members,
+          length-map (turns_before shape past (q.stage - 1)) (λ turn. list_read (content_read shape turn)),
+          length-take (b - a) (drop a past),
+        )
 
     read : (i : ℕ) → i < q.shape.members → IsTurnRead run q own.ended.is.posts (q.stage - 1) i
     read i lt = turn-read run q shuffle i own.ended honest lt (each-turn q (suc i) own.turns (omega arith) (omega (arith, lt)))

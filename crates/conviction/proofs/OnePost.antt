@@ -48,7 +48,8 @@ pub record HasOwnPost (roster : Roster) (t : Transcript) : Type 0 where
   pub sender : header.sender ≡ t.accused
 
 -- what lists a post of the accused is of one run
-pub one-run : (roster : Roster) (runs : List Run) (t : Transcript) → AreHonest roster runs → SaidBy roster runs t.accused t.round t.posts → HasOwnPost roster t
+pub one-run : (roster : Roster) (runs : List Run) (t : Transcript) → AreHonest roster runs → SaidBy roster runs t.accused t.round t.posts
+    → HasOwnPost roster t
     → (run : Run) × Contains runs run × (run.config.roster ≡ roster) × OneRun t run
 one-run roster runs t honest said p =
     let found = the_run roster runs t.accused t.round t.posts p.bytes p.content p.header honest said p.listed p.says p.sender in
@@ -77,7 +78,8 @@ pub record IsRowOf (run : Run) (content : Content) : Type 0 where
   pub reads : row.read ≡ content
   pub at : content.header.stage ≡ row.stage
 
-pub file-row : (run : Run) (t : Transcript) (bytes : List ℕ) (content : Content) → OneRun t run → IsPostFile run.config.roster t.round bytes content
+pub file-row : (run : Run) (t : Transcript) (bytes : List ℕ) (content : Content) → OneRun t run
+    → IsPostFile run.config.roster t.round bytes content
     → Contains t.posts bytes → content.header.sender ≡ t.accused
     → IsRowOf run content
 file-row run t bytes content one file listed sender =
@@ -104,7 +106,11 @@ unfolding keys_row body_form
 keys-body shape stage c kind = (
   _,
   ap (λ (o : Option StageKind). form_of shape (slots_before shape stage) o 1) kind,
-  (all-map IsPublicKey (λ place. key_of_seed (own_key_seed c place)) (range_with_len 0 5) (λ place. key_is_public_key (own_key_seed c place)), refl),
+  (
+    all-map IsPublicKey (λ place. key_of_seed (own_key_seed c place)) (range_with_len 0 5)
+        (λ place. key_is_public_key (own_key_seed c place)),
+    refl,
+  ),
 )
 
 pub keys-are : (run : Run) (content : List ℕ) (row : IsOwnRow run content) → kind_of_stage (shape_in run.config) row.stage ≡ Some AtKeys
@@ -113,7 +119,8 @@ unfolding keys_row
 keys-are run content row kind =
     let due : body_due run content row ≡ keys_row run.config =
     ap (own_body_if run.config (own_descriptor run.config (contents_of row.past)) row.past row.stage) kind in
-    ap (λ (c : Content). c.body) (row-is run content row (subst (IsBody (shape_in run.config) row.stage) (sym due) (keys-body (shape_in run.config) row.stage run.config kind)))
+    ap (λ (c : Content). c.body) (row-is run content row (subst (IsBody (shape_in run.config) row.stage) (sym due)
+    (keys-body (shape_in run.config) row.stage run.config kind)))
     ∙ due
 
 -- the keys by their places
@@ -140,9 +147,11 @@ seed-told shape posts stage votes seed inner outer opening e =
     let agree : Bool = votes_agree shape (contents_of posts) stage in
     let shown : List (List ℕ) = written (posts_at shape posts (stage - 1)) in
     elim (cases_Bool (votes_agree shape (contents_of posts) stage)) [
-      | inl agrees ↦ revealed votes shown seed inner (e ∙ cond-true agree (Reveal shown inner) (Dispute (written posts) outer opening) agrees)
+      | inl agrees ↦ revealed votes shown seed inner (e ∙ cond-true agree (Reveal shown inner) (Dispute (written posts) outer opening)
+          agrees)
       | inr differs ↦
-          absurd (disputed votes (written posts) seed outer opening (e ∙ cond-false agree (Reveal shown inner) (Dispute (written posts) outer opening) differs))
+          absurd (disputed votes (written posts) seed outer opening
+          (e ∙ cond-false agree (Reveal shown inner) (Dispute (written posts) outer opening) differs))
     ]
   where
     revealed : (v w : List (List ℕ)) (s i : List ℕ) → Reveal v s ≡ Reveal w i → s ≡ i
@@ -160,12 +169,16 @@ frame-seed run t one e =
     let final =
     file-row run t e.final_post (record { header = e.final_header; body = Reveal e.votes e.seed }) one e.final_is
     (listed-in t.posts (e.keys_post ∷ e.final_post ∷ []) e.final_post e.listed (1, omega arith, refl)) e.final_sender in
-    let keys_kind : kind_of_stage (shape_in c) keys.row.stage ≡ Some AtKeys = ap (kind_of_stage (shape_in c)) (sym keys.at) ∙ e.keys_stage in
-    let final_kind : kind_of_stage (shape_in c) final.row.stage ≡ Some (Final e.shuffle) = ap (kind_of_stage (shape_in c)) (sym final.at) ∙ e.final_stage in
-    let own : e.keys ≡ own_keys c = keys-same e.keys (own_keys c) (ap (λ (x : Content). x.body) (sym keys.reads) ∙ keys-are run keys.text keys.row keys_kind) in
+    let keys_kind : kind_of_stage (shape_in c) keys.row.stage ≡ Some AtKeys = ap (kind_of_stage (shape_in c)) (sym keys.at)
+    ∙ e.keys_stage in
+    let final_kind : kind_of_stage (shape_in c) final.row.stage ≡ Some (Final e.shuffle) = ap (kind_of_stage (shape_in c)) (sym final.at)
+    ∙ e.final_stage in
+    let own : e.keys ≡ own_keys c = keys-same e.keys (own_keys c)
+    (ap (λ (x : Content). x.body) (sym keys.reads) ∙ keys-are run keys.text keys.row keys_kind) in
     let seed : e.seed ≡ own_key_seed c (inner_place e.shuffle) =
     seed-told (shape_in c) final.row.past final.row.stage e.votes e.seed _ _ _
-    (ap (λ (x : Content). x.body) (sym final.reads) ∙ ap (λ (x : Content). x.body) (final-is run final.text final.row e.shuffle one.honest final_kind)) in
+    (ap (λ (x : Content). x.body) (sym final.reads) ∙ ap (λ (x : Content). x.body)
+    (final-is run final.text final.row e.shuffle one.honest final_kind)) in
     e.other (ap key_of_seed seed ∙ sym (inner-key c e.shuffle) ∙ ap (inner_key e.shuffle) (sym own))
 
 pub frame_wrong_seed : NotShown RevealsWrongSeed
@@ -184,7 +197,8 @@ frame_wrong_seed = by-run RevealsWrongSeed
 
 frame-log : (run : Run) (t : Transcript) → OneRun t run → ShowsBadLog run.config.roster t → ⊥
 frame-log run t one e =
-    let own = file-row run t e.post e.content one e.file (listed-in t.posts (e.post ∷ []) e.post e.listed (0, omega arith, refl)) e.sender in
+    let own = file-row run t e.post e.content one e.file (listed-in t.posts (e.post ∷ []) e.post e.listed (0, omega arith, refl)) e.sender
+    in
     let closing = subst (λ (stage : ℕ). IsSome (option_and_then vote_of (kind_of_stage (shape_in run.config) stage))) own.at e.closing in
     let is = own-closing run own.text own.row one.honest closing in
     let justified : is_content_justified run.config.roster t.round e.content ≡ true =

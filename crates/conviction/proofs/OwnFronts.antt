@@ -32,31 +32,41 @@ said-front shape past later stage member speaks lt =
     let number : ℕ = slot_number shape stage member in
     let within = (slot_number-within shape stage member speaks).1 in
     ap (λ (bytes : List ℕ). body_of (content_read shape bytes))
-    (get_or-take (slots_before shape later) past number [] (omega (arith, within, slots_before-rises shape (stage + 1) later (omega arith))))
+    (get_or-take (slots_before shape later) past number [] (omega
+    (arith, within, slots_before-rises shape (stage + 1) later (omega arith))))
 
-pub map-range : {A : Type 0} (f g : ℕ → A) (a n : ℕ) → ((m : ℕ) → a ≤ m → m < a + n → f m ≡ g m) → map f (range_with_len a n) ≡ map g (range_with_len a n)
+pub map-range : {A : Type 0} (f g : ℕ → A) (a n : ℕ) → ((m : ℕ) → a ≤ m → m < a + n → f m ≡ g m)
+    → map f (range_with_len a n) ≡ map g (range_with_len a n)
 map-range f g a zero each = refl
-map-range f g a (suc n) each = rw (each a (omega arith) (omega arith), map-range f g (a + 1) n (λ m le lt. each m (omega arith) (omega arith))) refl
+map-range f g a (suc n) each = rw (
+  each a (omega arith) (omega arith),
+  map-range f g (a + 1) n
+      (λ m le lt. each m (omega arith) (omega arith)),
+) refl
 
 is-there : (n member : ℕ) → 1 ≤ member → member < 1 + n → is_member n member ≡ true
 is-there n member first last = search rules
 
 -- ---- what was said, by member
 
-pub keys-front : (shape : Shape) (past : List (List ℕ)) (later place : ℕ) → 1 ≤ later → keys_said shape (front shape past later) place ≡ keys_said shape past place
+pub keys-front : (shape : Shape) (past : List (List ℕ)) (later place : ℕ) → 1 ≤ later
+    → keys_said shape (front shape past later) place ≡ keys_said shape past place
 keys-front shape past later place le =
     map-range (λ m. slice_index_or (keys_in (said_in shape (front shape past later) 0 m)) place [])
     (λ m. slice_index_or (keys_in (said_in shape past 0 m)) place []) 1 shape.members
     (λ m least most. ap (λ (b : Body). slice_index_or (keys_in b) place [])
-    (said-front shape past later 0 m (ap (λ (o : Option StageKind). speaks shape o m) (keys_is shape 0 refl) ∙ is-there shape.members m least most) (omega arith)))
+    (said-front shape past later 0 m (ap (λ (o : Option StageKind). speaks shape o m) (keys_is shape 0 refl)
+    ∙ is-there shape.members m least most) (omega arith)))
 
 pub list-front : (shape : Shape) (past : List (List ℕ)) (later turn : ℕ) → turn + 1 < later → turn ≤ shape.members
     → list_said shape (front shape past later) 1 turn ≡ list_said shape past 1 turn
 list-front shape past later zero lt few =
     ap (λ (xs : List (List ℕ)). Some xs)
-    (map-range (λ m. ciphertext_of (said_in shape (front shape past later) 1 m)) (λ m. ciphertext_of (said_in shape past 1 m)) 1 shape.members
+    (map-range (λ m. ciphertext_of (said_in shape (front shape past later) 1 m)) (λ m. ciphertext_of (said_in shape past 1 m)) 1
+    shape.members
     (λ m least most. ap ciphertext_of
-    (said-front shape past later 1 m (ap (λ (o : Option StageKind). speaks shape o m) (submit_a_is shape 1 refl) ∙ is-there shape.members m least most) (omega (arith, lt)))))
+    (said-front shape past later 1 m (ap (λ (o : Option StageKind). speaks shape o m) (submit_a_is shape 1 refl)
+    ∙ is-there shape.members m least most) (omega (arith, lt)))))
 list-front shape past later (suc turn) lt few =
     let kind = turn_a shape (1 + suc turn) (suc turn) (omega arith) (omega arith) few in
     ap list_of (said-front shape past later (1 + suc turn) (suc turn)
@@ -66,15 +76,18 @@ pub seeds-front : (shape : Shape) (past : List (List ℕ)) (later : ℕ) → sha
     → seeds_revealed shape (front shape past later) 1 ≡ seeds_revealed shape past 1
 seeds-front shape past later lt =
     let kind = final_a_is shape (final_stage shape 1) (omega arith) in
-    map-range (λ m. seed_in (said_in shape (front shape past later) (final_stage shape 1) m)) (λ m. seed_in (said_in shape past (final_stage shape 1) m)) 1 shape.members
+    map-range (λ m. seed_in (said_in shape (front shape past later) (final_stage shape 1) m))
+    (λ m. seed_in (said_in shape past (final_stage shape 1) m)) 1 shape.members
     (λ m least most. ap seed_in
-    (said-front shape past later (final_stage shape 1) m (ap (λ (o : Option StageKind). speaks shape o m) kind ∙ is-there shape.members m least most) (omega (arith, lt))))
+    (said-front shape past later (final_stage shape 1) m (ap (λ (o : Option StageKind). speaks shape o m) kind
+    ∙ is-there shape.members m least most) (omega (arith, lt))))
 
 pub items-front : (shape : Shape) (past : List (List ℕ)) (later : ℕ) → shape.members + 3 < later
     → items_opened shape (front shape past later) 1 ≡ items_opened shape past 1
 unfolding items_opened
 items-front shape past later lt =
-    ap (λ (seeds : List (List ℕ)). entries_opened shape seeds (list_said shape (front shape past later) 1 shape.members)) (seeds-front shape past later lt)
+    ap (λ (seeds : List (List ℕ)). entries_opened shape seeds (list_said shape (front shape past later) 1 shape.members))
+    (seeds-front shape past later lt)
     ∙ ap (entries_opened shape (seeds_revealed shape past 1)) (list-front shape past later shape.members (omega (arith, lt)) (omega arith))
 
 pub descriptors-front : (shape : Shape) (past : List (List ℕ)) (later : ℕ) → shape.members + 3 < later
@@ -82,13 +95,16 @@ pub descriptors-front : (shape : Shape) (past : List (List ℕ)) (later : ℕ) �
 unfolding descriptors_opened
 descriptors-front shape past later lt = ap (map (option_and_then (descriptor_read shape.members))) (items-front shape past later lt)
 
-pub pads-front : (shape : Shape) (past : List (List ℕ)) (later : ℕ) → shape.members + 4 < later → pads_sent shape (front shape past later) ≡ pads_sent shape past
+pub pads-front : (shape : Shape) (past : List (List ℕ)) (later : ℕ) → shape.members + 4 < later
+    → pads_sent shape (front shape past later) ≡ pads_sent shape past
 unfolding pads_sent
 pads-front shape past later lt =
     let kind = pad_is shape (pad_stage shape) refl in
-    map-range (λ m. pads_in (said_in shape (front shape past later) (pad_stage shape) m)) (λ m. pads_in (said_in shape past (pad_stage shape) m)) 1 shape.members
+    map-range (λ m. pads_in (said_in shape (front shape past later) (pad_stage shape) m))
+    (λ m. pads_in (said_in shape past (pad_stage shape) m)) 1 shape.members
     (λ m least most. ap pads_in
-    (said-front shape past later (pad_stage shape) m (ap (λ (o : Option StageKind). speaks shape o m) kind ∙ is-there shape.members m least most) (omega (arith, lt))))
+    (said-front shape past later (pad_stage shape) m (ap (λ (o : Option StageKind). speaks shape o m) kind
+    ∙ is-there shape.members m least most) (omega (arith, lt))))
 
 pub slots-front : (shape : Shape) (past : List (List ℕ)) (later : ℕ) → shape.members + 4 < later
     → slots_of_past shape (front shape past later) ≡ slots_of_past shape past
@@ -103,9 +119,11 @@ pub descriptor-front : (c : Configuration) (past : List (List ℕ)) (later : ℕ
     → own_descriptor c (front (shape_in c) past later) ≡ own_descriptor c past
 unfolding own_descriptor
 descriptor-front c past later le =
-    ap (λ (keys : List (List ℕ)). descriptor_text (made_descriptor keys (own_pad_seeds c) c.number c.message)) (keys-front (shape_in c) past later bulk_place le)
+    ap (λ (keys : List (List ℕ)). descriptor_text (made_descriptor keys (own_pad_seeds c) c.number c.message))
+    (keys-front (shape_in c) past later bulk_place le)
 
-item-front : (c : Configuration) (own : List ℕ) (past : List (List ℕ)) (later shuffle : ℕ) → ((shuffle == 1) ≡ false → (shape_in c).members + 4 < later)
+item-front : (c : Configuration) (own : List ℕ) (past : List (List ℕ)) (later shuffle : ℕ)
+    → ((shuffle == 1) ≡ false → (shape_in c).members + 4 < later)
     → own_item c own (front (shape_in c) past later) shuffle ≡ own_item c own past shuffle
 unfolding own_item
 item-front c own past later shuffle far =
@@ -118,14 +136,18 @@ item-front c own past later shuffle far =
       | inr second ↦
           let lt = far second in
           cond-false (shuffle == 1) own row second
-          ∙ ap (λ (items : List (Option (List ℕ))). item_row own items (slots_of_past shape before) (own_pad_seeds c)) (items-front shape past later (omega (arith, lt)))
-          ∙ ap (λ (states : List SlotState). item_row own (items_opened shape past 1) states (own_pad_seeds c)) (slots-front shape past later lt)
+          ∙ ap (λ (items : List (Option (List ℕ))). item_row own items (slots_of_past shape before) (own_pad_seeds c))
+          (items-front shape past later (omega (arith, lt)))
+          ∙ ap (λ (states : List SlotState). item_row own (items_opened shape past 1) states (own_pad_seeds c))
+          (slots-front shape past later lt)
           ∙ sym (cond-false (shuffle == 1) own whole second)
     ]
 
 -- what is submitted by the front is what is submitted by the whole
-pub submission-front : (c : Configuration) (past : List (List ℕ)) (later shuffle : ℕ) → 1 ≤ later → ((shuffle == 1) ≡ false → (shape_in c).members + 4 < later)
-    → own_submission c (own_descriptor c (front (shape_in c) past later)) (front (shape_in c) past later) shuffle ≡ own_submission c (own_descriptor c past) past shuffle
+pub submission-front : (c : Configuration) (past : List (List ℕ)) (later shuffle : ℕ) → 1 ≤ later
+    → ((shuffle == 1) ≡ false → (shape_in c).members + 4 < later)
+    → own_submission c (own_descriptor c (front (shape_in c) past later)) (front (shape_in c) past later) shuffle ≡ own_submission c
+    (own_descriptor c past) past shuffle
 unfolding own_submission
 submission-front c past later shuffle le far =
     let shape = shape_in c in
@@ -133,9 +155,11 @@ submission-front c past later shuffle le far =
     let inner_seeds : List (List ℕ) = own_layer_seeds c shuffle 1 in
     let outer_seeds : List (List ℕ) = own_layer_seeds c shuffle 2 in
     ap (λ (own : List ℕ). submission_of (keys_said shape before (inner_place shuffle))
-    (keys_said shape before (outer_place shuffle)) inner_seeds outer_seeds (own_item c own before shuffle)) (descriptor-front c past later le)
+    (keys_said shape before (outer_place shuffle)) inner_seeds outer_seeds (own_item c own before shuffle))
+    (descriptor-front c past later le)
     ∙ ap (λ (item : List ℕ). submission_of (keys_said shape before (inner_place shuffle))
-    (keys_said shape before (outer_place shuffle)) inner_seeds outer_seeds item) (item-front c (own_descriptor c past) past later shuffle far)
+    (keys_said shape before (outer_place shuffle)) inner_seeds outer_seeds item)
+    (item-front c (own_descriptor c past) past later shuffle far)
     ∙ ap (λ (keys : List (List ℕ)). submission_of keys (keys_said shape before (outer_place shuffle)) inner_seeds outer_seeds
     (own_item c (own_descriptor c past) past shuffle)) (keys-front shape past later (inner_place shuffle) le)
     ∙ ap (λ (keys : List (List ℕ)). submission_of (keys_said shape past (inner_place shuffle)) keys inner_seeds outer_seeds

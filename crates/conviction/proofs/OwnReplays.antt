@@ -26,30 +26,34 @@ nobody found e = absurd cc
 pub replay_not_own : ReplayNotOwn
 replay_not_own run q strings found honest is closing shown e own = elim (closing-kind (kind_of_stage q.shape q.stage) closing) [
   | inl (shuffle, kind) ↦
-      elim (first_some-some_parts (view_fault q) (seed_fault q shuffle ∷ submission_fault q shuffle ∷ turn_fault q ∷ vote_fault q ∷ []) found
+      elim (first_some-some_parts (view_fault q) (seed_fault q shuffle ∷ submission_fault q shuffle ∷ turn_fault q ∷ vote_fault q ∷ [])
+      found
       (sym (ap (λ (o : Option StageKind). culprit_at o q) kind) ∙ e)) [
         | inl view ↦ view_not_own run q found honest is view own
-        | inr (no_view, e1) ↦ elim (first_some-some_parts (seed_fault q shuffle) (submission_fault q shuffle ∷ turn_fault q ∷ vote_fault q ∷ []) found e1) [
-          | inl seed ↦ seed_not_own run q shuffle found honest is kind seed own
-          | inr (no_seed, e2) ↦ elim (first_some-some_parts (submission_fault q shuffle) (turn_fault q ∷ vote_fault q ∷ []) found e2) [
-            | inl submission ↦ submission_not_own run q shuffle found honest is kind no_seed submission own
-            | inr (no_submission, e3) ↦ elim (first_some-some_parts (turn_fault q) (vote_fault q ∷ []) found e3) [
-              | inl turn ↦ shuffle_not_own run q shuffle found strings honest is kind no_submission (shown shuffle kind) turn own
-              | inr (no_turn, e4) ↦ elim (first_some-some_parts (vote_fault q) [] found e4) [
-                | inl vote ↦ no_go_not_own run q found honest is closing no_view
-                    (λ other at. (let same = same-shuffle (kind_of_stage q.shape q.stage) shuffle other kind at in
-                    (ap (seed_fault q) (sym same) ∙ no_seed, ap (submission_fault q) (sym same) ∙ no_submission, no_turn))) vote own
-                | inr (no_vote, e5) ↦ nobody found e5
+        | inr (no_view, e1) ↦ elim (first_some-some_parts (seed_fault q shuffle)
+            (submission_fault q shuffle ∷ turn_fault q ∷ vote_fault q ∷ []) found e1) [
+              | inl seed ↦ seed_not_own run q shuffle found honest is kind seed own
+              | inr (no_seed, e2) ↦ elim (first_some-some_parts (submission_fault q shuffle) (turn_fault q ∷ vote_fault q ∷ []) found e2) [
+                | inl submission ↦ submission_not_own run q shuffle found honest is kind no_seed submission own
+                | inr (no_submission, e3) ↦ elim (first_some-some_parts (turn_fault q) (vote_fault q ∷ []) found e3) [
+                  | inl turn ↦ shuffle_not_own run q shuffle found strings honest is kind no_submission (shown shuffle kind) turn own
+                  | inr (no_turn, e4) ↦ elim (first_some-some_parts (vote_fault q) [] found e4) [
+                    | inl vote ↦ no_go_not_own run q found honest is closing no_view
+                        (λ other at. (let same = same-shuffle (kind_of_stage q.shape q.stage) shuffle other kind at in
+                        (ap (seed_fault q) (sym same) ∙ no_seed, ap (submission_fault q) (sym same) ∙ no_submission, no_turn))) vote own
+                    | inr (no_vote, e5) ↦ nobody found e5
+                  ]
+                ]
               ]
             ]
-          ]
+      ]
+  | inr kind ↦ elim (first_some-some_parts (view_fault q) (vote_fault q ∷ []) found
+      (sym (ap (λ (o : Option StageKind). culprit_at o q) kind) ∙ e)) [
+        | inl view ↦ view_not_own run q found honest is view own
+        | inr (no_view, e1) ↦ elim (first_some-some_parts (vote_fault q) [] found e1) [
+          | inl vote ↦ no_go_not_own run q found honest is closing no_view
+              (λ other at. absurd (not-final (kind_of_stage q.shape q.stage) other kind at)) vote own
+          | inr (no_vote, e2) ↦ nobody found e2
         ]
       ]
-  | inr kind ↦ elim (first_some-some_parts (view_fault q) (vote_fault q ∷ []) found (sym (ap (λ (o : Option StageKind). culprit_at o q) kind) ∙ e)) [
-    | inl view ↦ view_not_own run q found honest is view own
-    | inr (no_view, e1) ↦ elim (first_some-some_parts (vote_fault q) [] found e1) [
-      | inl vote ↦ no_go_not_own run q found honest is closing no_view (λ other at. absurd (not-final (kind_of_stage q.shape q.stage) other kind at)) vote own
-      | inr (no_vote, e2) ↦ nobody found e2
-    ]
-  ]
 ]

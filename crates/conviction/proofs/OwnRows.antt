@@ -35,7 +35,8 @@ use Rattle.conviction.proofs.Closings.{is-past}
 -- ---- the own number
 
 -- a member's number is one of the roster
-number-within : (roster : Roster) (number : ℕ) (key : LmsPublic) → key_of roster number ≡ Some key → is_member (length roster.keys) number ≡ true
+number-within : (roster : Roster) (number : ℕ) (key : LmsPublic) → key_of roster number ≡ Some key
+    → is_member (length roster.keys) number ≡ true
 number-within roster zero key e = absurd (none-some key e)
 number-within roster (suc k) key e = option_and_then_some _ (slice_get roster.keys k) key e (λ bytes there found. (
     let lt = slice_get_within roster.keys k bytes there in
@@ -88,7 +89,8 @@ own-said run later stage posts honest kept speaks lt =
     let found = there posts number (omega (arith, long, within, slots_before-rises shape (stage + 1) later (omega arith))) in
     let is = past-kept run.log later number posts found.0 honest.log kept found.1 in
     let slot : is.slot ≡ own_slot run stage =
-    some-slot is.slot (own_slot run stage) (sym is.at ∙ ap (λ (s : Shape). slot_at s number) honest.shape ∙ slot_at-number shape stage run.config.number speaks) in
+    some-slot is.slot (own_slot run stage) (sym is.at ∙ ap (λ (s : Shape). slot_at s number) honest.shape
+    ∙ slot_at-number shape stage run.config.number speaks) in
     let here : kept_in run.log (own_slot run stage) ≡ Some found.0 = subst (λ (s : Slot). kept_in run.log s ≡ Some found.0) slot is.kept in
     told found.0 found.1 here
   where
@@ -96,11 +98,13 @@ own-said run later stage posts honest kept speaks lt =
         → kept_in run.log (own_slot run stage) ≡ Some post → OwnSaid run posts stage
     told post at here =
         let bound : stage < stage_count run.log.shape =
-        (let few = (slot-bounds (shape_in run.config) stage run.config.number speaks).0 in omega (arith, few, ap (λ (s : Shape). s.members) honest.shape)) in
+        (let few = (slot-bounds (shape_in run.config) stage run.config.number speaks).0 in omega
+        (arith, few, ap (λ (s : Shape). s.members) honest.shape)) in
         let row = own_row run post.content honest (kept-sent run stage post bound here) in
         let checks = honest.posts (own_slot run stage) post here in
         let parts = checks-parts run.config.roster run.config.round post checks.content checks.checks in
-        let same = contents-same row.read checks.content (content_read (shape_in run.config) post.content) (row-reads run post.content row) parts.2 in
+        let same = contents-same row.read checks.content (content_read (shape_in run.config) post.content) (row-reads run post.content row)
+        parts.2 in
         let stage_is : row.stage ≡ stage =
         ap (λ (h : Header). h.stage) (sym (row-header run post.content row)) ∙ ap (λ (c : Content). c.header.stage) same
         ∙ ap (λ (s : Slot). s.stage) checks.named in
@@ -110,15 +114,18 @@ own-said run later stage posts honest kept speaks lt =
           row = row;
           at = stage_is;
           stands = slice_get-map (λ (p : Post). p.content) posts _ ∙ ap (option_map (λ (p : Post). p.content)) at;
-          front = row_past run stage later row.past posts (omega arith) (subst (λ (s : ℕ). before run.log s ≡ Some row.past) stage_is row.before) kept
+          front = row_past run stage later row.past posts (omega arith)
+              (subst (λ (s : ℕ). before run.log s ≡ Some row.past) stage_is row.before) kept
               ∙ ap (λ (s : Shape). take (slots_before s stage) posts) shape_is;
         }
 
 -- the body that stands in an own slot is that of the row
 pub own-body : (run : Run) (posts : List Post) (stage : ℕ) (own : OwnSaid run posts stage)
-    → body_of (content_read (shape_in run.config) (slice_index_or (contents_of posts) (slot_number (shape_in run.config) stage run.config.number) [])) ≡ own.row.read.body
+    → body_of (content_read (shape_in run.config) (slice_index_or (contents_of posts)
+    (slot_number (shape_in run.config) stage run.config.number) [])) ≡ own.row.read.body
 own-body run posts stage own =
-    ap (λ (bytes : List ℕ). body_of (content_read (shape_in run.config) bytes)) (get_or_from_slice_get (contents_of posts) _ own.text [] own.stands)
+    ap (λ (bytes : List ℕ). body_of (content_read (shape_in run.config) bytes))
+    (get_or_from_slice_get (contents_of posts) _ own.text [] own.stands)
     ∙ ap body_of (row-reads run own.text own.row)
 
 -- and it carries the view of its stage
@@ -128,7 +135,8 @@ own-right run posts stage own =
     let shape = shape_in run.config in
     let view : List ℕ = view_of shape (contents_of posts) stage in
     let n : ℕ = slots_before shape stage in
-    let front : contents_of own.row.past ≡ take n (contents_of posts) = ap contents_of own.front ∙ sym (take-map (λ (p : Post). p.content) n posts) in
+    let front : contents_of own.row.past ≡ take n (contents_of posts) = ap contents_of own.front
+    ∙ sym (take-map (λ (p : Post). p.content) n posts) in
     let same : view_of shape (contents_of own.row.past) own.row.stage ≡ view =
     ap (view_of shape (contents_of own.row.past)) own.at ∙ ap (λ (past : List (List ℕ)). view_of shape past stage) front
     ∙ view_of-take shape (contents_of posts) stage stage (omega arith) in

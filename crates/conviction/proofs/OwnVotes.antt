@@ -44,7 +44,8 @@ pub go-body : (shape : Shape) (past : List (List ℕ)) (stage shuffle : ℕ) (in
 unfolding go_row body_form
 go-body shape past stage shuffle inner kind = (_, ap (λ (o : Option StageKind). form_of shape (slots_before shape stage) o 5) kind, tt)
 
-pub check-body : (shape : Shape) (past : List (List ℕ)) (stage : ℕ) → kind_of_stage shape stage ≡ Some Check → IsBody shape stage (check_row shape past stage)
+pub check-body : (shape : Shape) (past : List (List ℕ)) (stage : ℕ) → kind_of_stage shape stage ≡ Some Check
+    → IsBody shape stage (check_row shape past stage)
 unfolding check_row body_form
 check-body shape past stage kind = (_, ap (λ (o : Option StageKind). form_of shape (slots_before shape stage) o 9) kind, tt)
 
@@ -54,7 +55,8 @@ unfolding go_row
 go-yes shape past stage inner right stands =
     ap (λ (o : Option Slot). is_none o && stands_last shape inner (lists_before shape past stage)) right ∙ stands
 
-check-yes : (shape : Shape) (past : List (List ℕ)) (stage : ℕ) → first_wrong shape past stage ≡ None → is_yes (check_row shape past stage) ≡ true
+check-yes : (shape : Shape) (past : List (List ℕ)) (stage : ℕ) → first_wrong shape past stage ≡ None
+    → is_yes (check_row shape past stage) ≡ true
 unfolding check_row
 check-yes shape past stage right = ap (λ (o : Option Slot). is_none o) right
 
@@ -69,8 +71,15 @@ pub record OwnVote (run : Run) (q : Inquiry) (is : IsOwnInquiry run q) (kind : S
 
 own-vote : (run : Run) (q : Inquiry) (is : IsOwnInquiry run q) (kind : StageKind) → HonestRun run → 1 ≤ q.stage
     → kind_of_stage q.shape (q.stage - 1) ≡ Some kind
-    → ((member : ℕ) → speaks (shape_in run.config) (Some kind) member ≡ is_slot (shape_in run.config) 0 member) → view_fault q ≡ None → OwnVote run q is kind
-own-vote run q is kind honest least vote all none = record { said = said; at = ap (kind_of_stage shape) said.at ∙ at; past = past; right = right }
+    → ((member : ℕ) → speaks (shape_in run.config) (Some kind) member ≡ is_slot (shape_in run.config) 0 member) → view_fault q ≡ None
+    → OwnVote run q is kind
+own-vote run q is kind honest least vote all none = record {
+  said = said;
+  at = ap (kind_of_stage shape) said.at
+      ∙ at;
+  past = past;
+  right = right;
+}
   where
     shape : Shape
     shape = shape_in run.config
@@ -80,7 +89,8 @@ own-vote run q is kind honest least vote all none = record { said = said; at = a
 
     said : OwnSaid run is.posts (q.stage - 1)
     said = own-said run q.stage (q.stage - 1) is.posts honest is.kept
-        (ap (λ (o : Option StageKind). speaks shape o run.config.number) at ∙ all run.config.number ∙ own-speaks run.config honest.config) (omega (arith, least))
+        (ap (λ (o : Option StageKind). speaks shape o run.config.number) at ∙ all run.config.number ∙ own-speaks run.config honest.config)
+        (omega (arith, least))
 
     past : contents_of said.row.past ≡ take (slots_before shape (q.stage - 1)) (contents_of is.posts)
     past = ap contents_of said.front ∙ sym (take-map (λ (p : Post). p.content) (slots_before shape (q.stage - 1)) is.posts)
@@ -102,14 +112,16 @@ votes-of : (run : Run) (q : Inquiry) (is : IsOwnInquiry run q) (said : OwnSaid r
 votes-of run q is said = ap is_yes (body-in run q is (q.stage - 1) run.config.number ∙ own-body run is.posts (q.stage - 1) said)
 
 -- shuffle B ends late
-far : (run : Run) (q : Inquiry) (shuffle : ℕ) → IsEnded run q shuffle → (shuffle == 1) ≡ false → (shape_in run.config).members + 4 < submit_stage q
+far : (run : Run) (q : Inquiry) (shuffle : ℕ) → IsEnded run q shuffle → (shuffle == 1) ≡ false
+    → (shape_in run.config).members + 4 < submit_stage q
 far run q shuffle e other = elim (ends_at q.shape q.stage shuffle e.kind) [
   | inl a ↦ absurd (not_both (shuffle == 1) (ap (λ (s : ℕ). s == 1) a.0) other)
   | inr b ↦ (let at = b.1 in omega (arith, at, ap (λ (s : Shape). s.members) e.is.shape))
 ]
 
 -- at the end of a shuffle in which nothing else is at fault
-pub go-vote : (run : Run) (q : Inquiry) (shuffle : ℕ) → IsFaultless run q shuffle → HonestRun run → view_fault q ≡ None → votes_yes q run.config.number ≡ true
+pub go-vote : (run : Run) (q : Inquiry) (shuffle : ℕ) → IsFaultless run q shuffle → HonestRun run → view_fault q ≡ None
+    → votes_yes q run.config.number ≡ true
 go-vote run q shuffle own honest none =
     votes-of run q is vote.said
     ∙ ap is_yes body
@@ -138,7 +150,8 @@ go-vote run q shuffle own honest none =
         let due : body_due run vote.said.text row ≡ go_row shape (contents_of row.past) row.stage inner =
         ap (own_body_if run.config (own_descriptor run.config (contents_of row.past)) row.past row.stage) vote.at in
         ap (λ (x : Content). x.body)
-        (row-is run vote.said.text row (subst (IsBody shape row.stage) (sym due) (go-body shape (contents_of row.past) row.stage shuffle inner vote.at)))
+        (row-is run vote.said.text row (subst (IsBody shape row.stage) (sym due)
+        (go-body shape (contents_of row.past) row.stage shuffle inner vote.at)))
         ∙ due
 
     stands : stands_last shape inner (lists_before shape (contents_of row.past) row.stage) ≡ true
@@ -149,7 +162,8 @@ go-vote run q shuffle own honest none =
         let last = last_list_has q (let many = (is.shows shuffle own.ended.kind).many in omega arith) own.turns in
         let said : List (List ℕ) = contents_of is.posts in
         let here =
-        submission-front run.config said (q.stage - 1) shuffle (omega (arith, long)) (λ other. (let some = far run q shuffle own.ended other in omega (arith, some, long))) in
+        submission-front run.config said (q.stage - 1) shuffle (omega (arith, long))
+        (λ other. (let some = far run q shuffle own.ended other in omega (arith, some, long))) in
         let first = submission-front run.config said (submit_stage q) shuffle (omega (arith, late)) (far run q shuffle own.ended) in
         let same : inner ≡ inner_said run submitted.said shuffle =
         ap (λ (p : List (List ℕ)). inner_said run p shuffle) vote.past
@@ -157,10 +171,12 @@ go-vote run q shuffle own honest none =
         ∙ ap (λ (p : List (List ℕ)). inner_said run p shuffle) (sym submitted.front) in
         ap (λ (stage : ℕ). stands_last shape inner (lists_before shape (contents_of row.past) stage)) vote.said.at
         ∙ ap (λ (p : List (List ℕ)). stands_last shape inner (lists_before shape p (q.stage - 1))) vote.past
-        ∙ stands-there run q shuffle own inner honest last (subst (Contains last.list) (sym same) (inner-there run q shuffle own honest last submitted))
+        ∙ stands-there run q shuffle own inner honest last (subst (Contains last.list) (sym same)
+        (inner-there run q shuffle own honest last submitted))
 
 -- behind the checks
-pub check-vote : (run : Run) (q : Inquiry) → HonestRun run → IsOwnInquiry run q → kind_of_stage q.shape q.stage ≡ Some Confirm → view_fault q ≡ None
+pub check-vote : (run : Run) (q : Inquiry) → HonestRun run → IsOwnInquiry run q → kind_of_stage q.shape q.stage ≡ Some Confirm
+    → view_fault q ≡ None
     → votes_yes q run.config.number ≡ true
 check-vote run q honest is kind none =
     let shape = shape_in run.config in
@@ -170,7 +186,8 @@ check-vote run q honest is kind none =
     let due : body_due run vote.said.text row ≡ check_row shape (contents_of row.past) row.stage =
     ap (own_body_if run.config (own_descriptor run.config (contents_of row.past)) row.past row.stage) vote.at in
     let body =
-    ap (λ (x : Content). x.body) (row-is run vote.said.text row (subst (IsBody shape row.stage) (sym due) (check-body shape (contents_of row.past) row.stage vote.at)))
+    ap (λ (x : Content). x.body) (row-is run vote.said.text row
+    (subst (IsBody shape row.stage) (sym due) (check-body shape (contents_of row.past) row.stage vote.at)))
     ∙ due in
     votes-of run q is vote.said ∙ ap is_yes body ∙ check-yes shape (contents_of row.past) row.stage vote.right
 

@@ -44,7 +44,8 @@ there (x ∷ xs) (suc k) lt = there xs k (omega (arith, lt))
 
 -- ---- the past of a log
 
-pub past-length : (log : Log) (stage : ℕ) (past : List Post) → IsLog log → before log stage ≡ Some past → length past ≡ slots_before log.shape stage
+pub past-length : (log : Log) (stage : ℕ) (past : List Post) → IsLog log → before log stage ≡ Some past
+    → length past ≡ slots_before log.shape stage
 past-length log stage past is e =
     let n : ℕ = slots_before log.shape stage in
     let all : take n log.posts ≡ map (λ x. Some x) past = all_some-is (take n log.posts) past e in
@@ -56,26 +57,30 @@ pub record IsKeptAt (log : Log) (k : ℕ) (post : Post) : Type 0 where
   pub at : slot_at log.shape k ≡ Some slot
   pub kept : kept_in log slot ≡ Some post
 
-pub past-kept : (log : Log) (stage k : ℕ) (past : List Post) (post : Post) → IsLog log → before log stage ≡ Some past → slice_get past k ≡ Some post
+pub past-kept : (log : Log) (stage k : ℕ) (past : List Post) (post : Post) → IsLog log → before log stage ≡ Some past
+    → slice_get past k ≡ Some post
     → IsKeptAt log k post
 past-kept log stage k past post is e at =
     let n : ℕ = slots_before log.shape stage in
     let all : take n log.posts ≡ map (λ x. Some x) past = all_some-is (take n log.posts) past e in
     let found =
-    take-get log.posts n k (Some post) (ap (λ (xs : List (Option Post)). slice_get xs k) all ∙ slice_get-map (λ x. Some x) past k ∙ ap (option_map (λ x. Some x)) at) in
+    take-get log.posts n k (Some post) (ap (λ (xs : List (Option Post)). slice_get xs k) all ∙ slice_get-map (λ x. Some x) past k
+    ∙ ap (option_map (λ x. Some x)) at) in
     let few = found.0 in
     let slot = there (slots_of log.shape) k (omega (arith, few, slots_before-most log.shape stage, length-slots_of log.shape)) in
     let number = slot_at-is log.shape k slot.0 slot.1 in
     record {
       slot = slot.0;
       at = slot.1;
-      kept = kept_in-at log slot.0 k (Some post) is number.0 (sym number.1) (sym (get_or_from_slice_get log.posts k (Some post) (Some post) found.1));
+      kept = kept_in-at log slot.0 k (Some post) is number.0 (sym number.1)
+          (sym (get_or_from_slice_get log.posts k (Some post) (Some post) found.1));
     }
 
 -- ---- posts that check
 
 -- a post that checks is admitted
-pub checks-admitted : (c : Configuration) (slot : Slot) (post : Post) (is : ChecksIn c slot post) → (header : Header) × Admitted c.roster c.round post header
+pub checks-admitted : (c : Configuration) (slot : Slot) (post : Post) (is : ChecksIn c slot post) → (header : Header)
+    × Admitted c.roster c.round post header
 checks-admitted c slot post is =
     let parts = checks-parts c.roster c.round post is.content is.checks in
     (parts.0, (admits_exactly c.roster c.round post parts.0 is.signature_bytes).0 parts.1)
@@ -97,7 +102,8 @@ checks-for-slot c slot post is =
 
 -- posts that are each for its slot are found
 pub posts-found : (roster : Roster) (round place : ℕ) (slots : List Slot) (posts : List Post) → length posts ≤ length slots
-    → ((k : ℕ) (slot : Slot) (post : Post) → slice_get slots k ≡ Some slot → slice_get posts k ≡ Some post → post_for_slot roster round slot (post_spelling post) ≡ Ok post)
+    → ((k : ℕ) (slot : Slot) (post : Post) → slice_get slots k ≡ Some slot → slice_get posts k ≡ Some post
+    → post_for_slot roster round slot (post_spelling post) ≡ Ok post)
     → posts_for roster round place (zip slots (written posts)) ≡ Ok posts
 unfolding posts_for
 posts-found roster round place [] [] few each = refl
@@ -105,7 +111,8 @@ posts-found roster round place (slot ∷ slots) [] few each = refl
 posts-found roster round place [] (post ∷ posts) few each = absurd (omega (arith, few))
 posts-found roster round place (slot ∷ slots) (post ∷ posts) few each =
     let first = each 0 slot post refl refl in
-    let others = posts-found roster round (place + 1) slots posts (omega (arith, few)) (λ k slot post at there. each (suc k) slot post at there) in
+    let others = posts-found roster round (place + 1) slots posts (omega (arith, few))
+    (λ k slot post at there. each (suc k) slot post at there) in
     rw (first, others) refl
 
 -- ---- what is embedded
@@ -114,7 +121,8 @@ posts-found roster round place (slot ∷ slots) (post ∷ posts) few each =
 abbrev first_place : Shape → Content → ℕ
 first_place shape content = if is_assent content.body then slots_before shape (content.header.stage - 1) else 0
 
-pub embedded-get : {A : Type 0} (shape : Shape) (content : Content) (xs : List A) (k : ℕ) (x : A) → slice_get (embedded_of shape content xs) k ≡ Some x
+pub embedded-get : {A : Type 0} (shape : Shape) (content : Content) (xs : List A) (k : ℕ) (x : A)
+    → slice_get (embedded_of shape content xs) k ≡ Some x
     → slice_get xs (first_place shape content + k) ≡ Some x
 embedded-get {A} shape content xs k x e =
     let a : ℕ = slots_before shape (content.header.stage - 1) in
@@ -124,12 +132,14 @@ embedded-get {A} shape content xs k x e =
       | inl assents ↦
           ap (λ (p : ℕ). slice_get xs (p + k)) (cond-true (is_assent content.body) a 0 assents)
           ∙ sym (get_drop xs a k)
-          ∙ (take-get (drop a xs) (b - a) k x (ap (λ (ys : List A). slice_get ys k) (sym (cond-true (is_assent content.body) (slice_range xs a b) (take n xs) assents)) ∙ e)).1
+          ∙ (take-get (drop a xs) (b - a) k x (ap (λ (ys : List A). slice_get ys k)
+          (sym (cond-true (is_assent content.body) (slice_range xs a b) (take n xs) assents)) ∙ e)).1
       | inr objects ↦
           let from : 0 + k ≡ k = omega arith in
           ap (λ (p : ℕ). slice_get xs (p + k)) (cond-false (is_assent content.body) a 0 objects)
           ∙ ap (slice_get xs) from
-          ∙ (take-get xs n k x (ap (λ (ys : List A). slice_get ys k) (sym (cond-false (is_assent content.body) (slice_range xs a b) (take n xs) objects)) ∙ e)).1
+          ∙ (take-get xs n k x (ap (λ (ys : List A). slice_get ys k)
+          (sym (cond-false (is_assent content.body) (slice_range xs a b) (take n xs) objects)) ∙ e)).1
     ]
 
 pub embedded-few : {A B : Type 0} (shape : Shape) (content : Content) (xs : List A) (ys : List B) → length xs ≤ length ys
@@ -142,7 +152,17 @@ embedded-few {A} {B} shape content xs ys few =
       | inl assents ↦
           let left = ap length (cond-true (is_assent content.body) (slice_range xs a b) (take n xs) assents) in
           let right = ap length (cond-true (is_assent content.body) (slice_range ys a b) (take n ys) assents) in
-          omega (arith, few, left, right, length-take (b - a) (drop a xs), length-take (b - a) (drop a ys), length-drop a xs, length-drop a ys)
+          omega (
+            arith,
+            few,
+            left,
+            right,
+            length-take (b - a) (drop a xs),
+            length-take (b - a) (drop a ys),
+            length-drop a xs,
+            length-drop a
+                ys,
+          )
       | inr objects ↦
           let left = ap length (cond-false (is_assent content.body) (slice_range xs a b) (take n xs) objects) in
           let right = ap length (cond-false (is_assent content.body) (slice_range ys a b) (take n ys) objects) in

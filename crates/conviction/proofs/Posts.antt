@@ -30,11 +30,13 @@ pub said-sent : (roster : Roster) (runs : List Run) (number round : ℕ) (posts 
     → SaidBy roster runs number round posts
     → Contains posts bytes → Says roster round bytes content header → header.sender ≡ number → Sent runs number content
 said-sent roster runs number round posts bytes content header said listed says sender =
-    said bytes (record { content = content; signature = says.signature }) header listed (says-frame roster round bytes content header says) says.admitted sender
+    said bytes (record { content = content; signature = says.signature }) header listed (says-frame roster round bytes content header says)
+    says.admitted sender
 
 -- ---- the run
 
-run-in : (runs : List Run) (number round other : ℕ) (run : Run) → other ≡ round → IsRunOf runs number other run → IsRunOf runs number round run
+run-in : (runs : List Run) (number round other : ℕ) (run : Run) → other ≡ round → IsRunOf runs number other run
+    → IsRunOf runs number round run
 run-in runs number round other run e is = subst (λ (r : ℕ). IsRunOf runs number r run) e is
 
 pub the_run : TheRun
@@ -42,7 +44,8 @@ the_run roster runs number round posts bytes content header honest said listed s
   where
     first : (run : Run) × IsRunOf runs number header.round run × Contains (sent run) content
     first =
-        run_of_content roster runs number content header honest (said-sent roster runs number round posts bytes content header said listed says sender) says.admitted.reads
+        run_of_content roster runs number content header honest
+        (said-sent roster runs number round posts bytes content header said listed says sender) says.admitted.reads
 
     is_first : IsRunOf runs number round first.0
     is_first = run-in runs number round header.round first.0 says.admitted.this_round first.1
@@ -50,9 +53,11 @@ the_run roster runs number round posts bytes content header honest said listed s
     all : AllSent roster round posts number first.0
     all other text head there tells by =
         let found =
-        run_of_content roster runs number text head honest (said-sent roster runs number round posts other text head said there tells by) tells.admitted.reads in
+        run_of_content roster runs number text head honest (said-sent roster runs number round posts other text head said there tells by)
+        tells.admitted.reads in
         let same : found.0 ≡ first.0 =
-        run_unique roster runs number round found.0 first.0 honest (run-in runs number round head.round found.0 tells.admitted.this_round found.1) is_first in
+        run_unique roster runs number round found.0 first.0 honest
+        (run-in runs number round head.round found.0 tells.admitted.this_round found.1) is_first in
         subst (λ (run : Run). Contains (sent run) text) same found.2
 
 -- ---- two posts, and one
@@ -69,7 +74,8 @@ frame_equivocation roster runs t honest said e =
     said-sent roster runs t.accused t.round t.posts e.second e.second_content e.second_header said
     (listed-in t.posts (e.first ∷ e.second ∷ []) e.second e.listed (1, omega arith, refl)) e.second_says e.second_sender in
     e.differ (one_per_slot roster runs t.accused e.first_content e.second_content e.first_header e.second_header honest one two
-    e.first_says.admitted.reads e.second_says.admitted.reads (e.first_says.admitted.this_round ∙ sym e.second_says.admitted.this_round) (sym e.one_stage))
+    e.first_says.admitted.reads e.second_says.admitted.reads (e.first_says.admitted.this_round ∙ sym e.second_says.admitted.this_round)
+    (sym e.one_stage))
 
 -- the shape of an honest run is that of the roster
 pub run-roster : (roster : Roster) (runs : List Run) (run : Run) → AreHonest roster runs → Contains runs run → run.config.roster ≡ roster
@@ -82,6 +88,7 @@ pub frame_malformed : NotShown SaysMalformed
 frame_malformed roster runs t honest said e =
     let listed = listed-in t.posts (e.post ∷ []) e.post e.listed (0, omega arith, refl) in
     let run = the_run roster runs t.accused t.round t.posts e.post e.content e.header honest said listed e.says e.sender in
-    let row = own_row run.0 e.content (run-honest roster runs run.0 honest run.1.listed) (run.2 e.post e.content e.header listed e.says e.sender) in
+    let row = own_row run.0 e.content (run-honest roster runs run.0 honest run.1.listed)
+    (run.2 e.post e.content e.header listed e.says e.sender) in
     let roster_is = run-roster roster runs run.0 honest run.1.listed in
     e.outside row.read (subst (λ (r : Roster). OfGrammar (shape_of_roster r) row.read) roster_is row.grammar) row.spelled

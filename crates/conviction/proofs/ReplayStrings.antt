@@ -54,7 +54,8 @@ dispute-at shape stage shuffle (Dispute posts seed opening) kind is e =
     let fits : IsBodyAt shape (slots_before shape stage) (Final shuffle) (Dispute posts seed opening) =
     (bodies_are_of_kinds shape stage (Final shuffle) (Dispute posts seed opening) kind).0 is in
     record { posts = posts; seed = seed; opening = opening; is = refl; long = fits.2 }
-dispute-at shape stage shuffle (Differ posts) kind is e = absurd ((bodies_are_of_kinds shape stage (Final shuffle) (Differ posts) kind).0 is)
+dispute-at shape stage shuffle (Differ posts) kind is e = absurd
+    ((bodies_are_of_kinds shape stage (Final shuffle) (Differ posts) kind).0 is)
 dispute-at shape stage shuffle (Keys keys) kind is e = absurd cc
 dispute-at shape stage shuffle (Submit ciphertext) kind is e = absurd cc
 dispute-at shape stage shuffle (Shuffled list) kind is e = absurd cc
@@ -68,7 +69,8 @@ dispute-at shape stage shuffle (Confirm votes) kind is e = absurd cc
 -- ---- what they show
 
 -- the post of a member is listed
-pub object-listed : (roster : Roster) (t : Transcript) (member : ℕ) → (e : ReplaysFault roster t) → 1 ≤ member → member ≤ (shape_of_roster roster).members
+pub object-listed : (roster : Roster) (t : Transcript) (member : ℕ) → (e : ReplaysFault roster t) → 1 ≤ member
+    → member ≤ (shape_of_roster roster).members
     → Contains t.posts (post_listed t member)
 object-listed roster t member e least most = place-listed t.posts (member - 1) (let count = e.count in omega arith)
 
@@ -92,8 +94,10 @@ shows-opening roster t e shuffle member bytes kind least most =
     dispute : IsDispute (e.said member).body
     dispute =
         let grammar =
-        file-grammar roster t.round (post_listed t member) (e.said member) (listed-bytes t (post_listed t member) bytes (object-listed roster t member e least most)) own.file in
-        dispute-at shape (e.said member).header.stage shuffle (e.said member).body (ap (kind_of_stage shape) own.at ∙ kind) grammar.1 own.dissents
+        file-grammar roster t.round (post_listed t member) (e.said member)
+        (listed-bytes t (post_listed t member) bytes (object-listed roster t member e least most)) own.file in
+        dispute-at shape (e.said member).header.stage shuffle (e.said member).body (ap (kind_of_stage shape) own.at ∙ kind) grammar.1
+        own.dissents
 
     parts : List Shown
     parts = parts_shown shape (kind_of_stage shape e.stage) e.said
@@ -108,9 +112,11 @@ shows-opening roster t e shuffle member bytes kind least most =
         (slice_get-map (λ (s : Shown). s.outer_opening) parts (member - 1) ∙ ap (option_map (λ (s : Shown). s.outer_opening)) place)
 
 -- the strings of the layer seeds that are shown are among those of the transcript
-shown-strings : (roster : Roster) (t : Transcript) (strings : List (List ℕ)) (e : ReplaysFault roster t) (shuffle : ℕ) → IsTranscript (shape_of_roster roster) t
+shown-strings : (roster : Roster) (t : Transcript) (strings : List (List ℕ)) (e : ReplaysFault roster t) (shuffle : ℕ)
+    → IsTranscript (shape_of_roster roster) t
     → IsBytes (transcript_spelling t) → NoCollision strings
-    → ((s : List ℕ) → Contains (strings_of_transcript roster t) s → Contains strings s) → kind_of_stage (shape_of_roster roster) e.stage ≡ Some (Final shuffle)
+    → ((s : List ℕ) → Contains (strings_of_transcript roster t) s → Contains strings s)
+    → kind_of_stage (shape_of_roster roster) e.stage ≡ Some (Final shuffle)
     → HasShownStrings (inquiry_by (shape_of_roster roster) t.round e.stage e.past e.said) shuffle strings
 shown-strings roster t strings e shuffle form bytes none among kind = record {
   distinct = none;
@@ -129,7 +135,8 @@ shown-strings roster t strings e shuffle form bytes none among kind = record {
     opens member is = shows-opening roster t e shuffle member bytes kind is.least is.most
 
     listed : (member layer : ℕ) (is : IsMember q member) → IsMember q layer
-        → Contains (strings_of_transcript roster t) (layer_seed_string (opens member is).dispute.opening t.round shuffle 2 (e.said member).header.sender layer)
+        → Contains (strings_of_transcript roster t) (layer_seed_string (opens member is).dispute.opening t.round shuffle 2
+        (e.said member).header.sender layer)
     listed member layer is lies =
         let own = e.object member is.least is.most in
         let dispute = (opens member is).dispute in
@@ -141,7 +148,8 @@ shown-strings roster t strings e shuffle form bytes none among kind = record {
         → layer_seed_string (opens member is).dispute.opening t.round shuffle 2 (e.said member).header.sender layer
         ≡ layer_seed_string (outer_opening q member) q.round shuffle 2 member layer
     strings-same member layer is =
-        ap (λ (opening : List ℕ). layer_seed_string opening t.round shuffle 2 (e.said member).header.sender layer) (sym (opens member is).opening)
+        ap (λ (opening : List ℕ). layer_seed_string opening t.round shuffle 2 (e.said member).header.sender layer)
+        (sym (opens member is).opening)
         ∙ ap (λ (m : ℕ). layer_seed_string (outer_opening q member) t.round shuffle 2 m layer) (e.object member is.least is.most).sender
 
 -- ---- the law
@@ -167,7 +175,8 @@ pub transcript-among : (run : Run) (runs : List Run) (t : Transcript) → OneRun
     → Contains (strings_of_runs runs ++ strings_of_evidence run.config.roster (transcript_spelling t)) s
 transcript-among run runs t one form s listed =
     Contains-append_right (strings_of_runs runs) (strings_of_evidence run.config.roster (transcript_spelling t)) s
-    (subst (λ (strings : List (List ℕ)). Contains strings s) (sym (evidence-is run.config.roster t (shape-is run.config one.honest.config.enter) form)) listed)
+    (subst (λ (strings : List (List ℕ)). Contains strings s) (sym
+    (evidence-is run.config.roster t (shape-is run.config one.honest.config.enter) form)) listed)
 
 pub frame_replay : NotShownUnlessCollide ReplaysFault
 frame_replay = by-run-unless ReplaysFault

@@ -47,10 +47,12 @@ use Rattle.conviction.proofs.OwnRows.{OwnSaid, own-body, own-right, own-said, ow
 -- ---- by member
 
 -- the value of a member
-pub by-member : {A : Type 0} (f : ℕ → A) (n member : ℕ) → 1 ≤ member → member ≤ n → slice_get (map f (range_with_len 1 n)) (member - 1) ≡ Some (f member)
+pub by-member : {A : Type 0} (f : ℕ → A) (n member : ℕ) → 1 ≤ member → member ≤ n
+    → slice_get (map f (range_with_len 1 n)) (member - 1) ≡ Some (f member)
 by-member {A} f n member least most =
     let back : member - 1 + 1 ≡ member = omega arith in
-    slice_get-map f (range_with_len 1 n) (member - 1) ∙ ap (option_map f) (member-in n (member - 1) (omega arith)) ∙ ap (λ (k : ℕ). Some (f k)) back
+    slice_get-map f (range_with_len 1 n) (member - 1) ∙ ap (option_map f) (member-in n (member - 1) (omega arith))
+    ∙ ap (λ (k : ℕ). Some (f k)) back
 
 -- ---- the log that is common
 
@@ -129,39 +131,48 @@ common_log_is_own run t one form e = from (file-row run t (post_listed t t.accus
         whole =
             let at : said.row.read.header.stage ≡ said.row.stage = ap (λ (c : Content). c.header.stage) said.reads ∙ said.at in
             let long = past.long in
-            cond-false (is_assent said.row.read.body) _ (take (slots_before shape said.row.read.header.stage) said.row.past) (dissent-objects said.row.read.body dissents)
+            cond-false (is_assent said.row.read.body) _ (take (slots_before shape said.row.read.header.stage) said.row.past)
+            (dissent-objects said.row.read.body dissents)
             ∙ take_all (slots_before shape said.row.read.header.stage) said.row.past (omega (arith, long, ap (slots_before shape) at))
 
         log : own.posts ≡ said.row.past
         log =
-            let embeds : posts_in_content run.config.roster t.round (e.said t.accused) ≡ Ok (embedded_of shape said.row.read said.row.past) =
+            let embeds : posts_in_content run.config.roster t.round (e.said t.accused) ≡ Ok (embedded_of shape said.row.read said.row.past)
+            =
             ap (λ (c : Content). posts_in_content run.config.roster t.round c) (sym said.reads)
             ∙ ap (λ (r : ℕ). posts_in_content run.config.roster r said.row.read) (sym one.round) ∙ is.embeds in
             posts-same own.posts (embedded_of shape said.row.read said.row.past) _ own.embeds embeds ∙ whole
 
-        shows : (shuffle : ℕ) → kind_of_stage shape e.stage ≡ Some (Final shuffle) → ShowsOwn run (inquiry_by shape t.round e.stage e.past e.said) shuffle
+        shows : (shuffle : ℕ) → kind_of_stage shape e.stage ≡ Some (Final shuffle)
+            → ShowsOwn run (inquiry_by shape t.round e.stage e.past e.said) shuffle
         shows shuffle kind =
             let all : parts_shown shape (kind_of_stage shape e.stage) e.said ≡ by_member shape (λ m. shown_in (e.said m).body) =
             ap (λ (o : Option StageKind). parts_shown shape o e.said) kind in
             let here : kind_of_stage shape said.row.stage ≡ Some (Final shuffle) = ap (kind_of_stage shape) (sym stage) ∙ kind in
             let read = final-is run said.text said.row shuffle one.honest here in
-            let shown : shown_in (e.said t.accused).body ≡ record { outer_seed = own_key_seed run.config (outer_place shuffle); outer_opening = own_opening run.config shuffle 2 } =
+            let shown : shown_in (e.said t.accused).body ≡ record
+            { outer_seed = own_key_seed run.config (outer_place shuffle); outer_opening = own_opening run.config shuffle 2 } =
             ap (λ (c : Content). shown_in c.body) (sym said.reads ∙ read)
             ∙ dispute-shows shape said.row.past said.row.stage _ _ _ (ap (λ (c : Content). is_dissent c.body) (sym read) ∙ dissents) in
-            let place : slice_get (parts_shown shape (kind_of_stage shape e.stage) e.said) (run.config.number - 1) ≡ Some (shown_in (e.said t.accused).body) =
+            let place : slice_get (parts_shown shape (kind_of_stage shape e.stage) e.said) (run.config.number - 1) ≡ Some
+            (shown_in (e.said t.accused).body) =
             ap (λ (xs : List Shown). slice_get xs (run.config.number - 1)) all
             ∙ ap (λ (m : ℕ). slice_get (by_member shape (λ m. shown_in (e.said m).body)) (m - 1)) one.number
             ∙ by-member (λ m. shown_in (e.said m).body) shape.members t.accused member.0 member.1 in
             record {
               many = ap length all ∙ length-map-range_with_len (λ m. shown_in (e.said m).body) 1 shape.members;
               seed =
-                  get_or_from_slice_get (map (λ (s : Shown). s.outer_seed) (parts_shown shape (kind_of_stage shape e.stage) e.said)) (run.config.number - 1) _ []
-                  (slice_get-map (λ (s : Shown). s.outer_seed) (parts_shown shape (kind_of_stage shape e.stage) e.said) (run.config.number - 1) ∙ ap
+                  get_or_from_slice_get (map (λ (s : Shown). s.outer_seed) (parts_shown shape (kind_of_stage shape e.stage) e.said))
+                  (run.config.number - 1) _ []
+                  (slice_get-map (λ (s : Shown). s.outer_seed) (parts_shown shape (kind_of_stage shape e.stage) e.said)
+                  (run.config.number - 1) ∙ ap
                   (option_map (λ (s : Shown). s.outer_seed)) place)
                   ∙ ap (λ (s : Shown). s.outer_seed) shown;
               opening =
-                  get_or_from_slice_get (map (λ (s : Shown). s.outer_opening) (parts_shown shape (kind_of_stage shape e.stage) e.said)) (run.config.number - 1) _ []
-                  (slice_get-map (λ (s : Shown). s.outer_opening) (parts_shown shape (kind_of_stage shape e.stage) e.said) (run.config.number - 1)
+                  get_or_from_slice_get (map (λ (s : Shown). s.outer_opening) (parts_shown shape (kind_of_stage shape e.stage) e.said))
+                  (run.config.number - 1) _ []
+                  (slice_get-map (λ (s : Shown). s.outer_opening) (parts_shown shape (kind_of_stage shape e.stage) e.said)
+                  (run.config.number - 1)
                   ∙ ap (option_map (λ (s : Shown). s.outer_opening)) place)
                   ∙ ap (λ (s : Shown). s.outer_opening) shown;
             }
@@ -174,7 +185,8 @@ earlier : (shape : Shape) (slot : Slot) (stage : ℕ) → is_slot shape slot.sta
 earlier shape slot stage speaks few = elim (cases_lt slot.stage stage) [
   | inl lt ↦ lt
   | inr late ↦
-      absurd (let within = (slot_number-within shape slot.stage slot.sender speaks).0 in omega (arith, within, few, slots_before-rises shape stage slot.stage (omega arith)))
+      absurd (let within = (slot_number-within shape slot.stage slot.sender speaks).0 in omega
+      (arith, within, few, slots_before-rises shape stage slot.stage (omega arith)))
 ]
 
 wrong-parts : (shape : Shape) (past : List (List ℕ)) (slot found : Slot) → wrong_slot shape past slot ≡ Some found
@@ -211,13 +223,15 @@ view_not_own run q found honest is e own =
         let said = own-said run q.stage slot.stage is.posts honest is.kept here lt in
         let slot_is : own_slot run slot.stage ≡ slot = ap (λ (k : ℕ). record { stage = slot.stage; sender = k }) (sym sender) in
         let right : is_right q.shape q.past slot ≡ true =
-        ap (λ (s : Shape). is_right s q.past slot) is.shape ∙ ap (λ (past : List (List ℕ)). is_right (shape_in run.config) past slot) is.past
+        ap (λ (s : Shape). is_right s q.past slot) is.shape ∙ ap (λ (past : List (List ℕ)). is_right (shape_in run.config) past slot)
+        is.past
         ∙ ap (is_right (shape_in run.config) (contents_of is.posts)) (sym slot_is) ∙ own-right run is.posts slot.stage said in
         not_both (is_right q.shape q.past slot) right wrong
 
 -- ---- outer seeds
 
-pub outer-key : (c : Configuration) (shuffle : ℕ) → slice_index_or (own_keys c) (outer_place shuffle) [] ≡ key_of_seed (own_key_seed c (outer_place shuffle))
+pub outer-key : (c : Configuration) (shuffle : ℕ) → slice_index_or (own_keys c) (outer_place shuffle) [] ≡ key_of_seed
+    (own_key_seed c (outer_place shuffle))
 outer-key c shuffle = elim (cases_Bool (shuffle == 1)) [
   | inl first ↦
       let place : outer_place shuffle ≡ 1 = cond-true (shuffle == 1) 1 4 first in
@@ -234,7 +248,8 @@ unless-found false x found e = (refl, cc)
 
 pub seed_not_own : SeedNotOwn
 seed_not_own run q shuffle found honest is kind e own =
-    let at = first_below-found (λ place. fault_unless (shows_its_seed q shuffle (place + 1)) (fault OuterSeed (place + 1))) q.shape.members found e in
+    let at = first_below-found (λ place. fault_unless (shows_its_seed q shuffle (place + 1)) (fault OuterSeed (place + 1))) q.shape.members
+    found e in
     let parts = unless-found (shows_its_seed q shuffle (at.0 + 1)) (fault OuterSeed (at.0 + 1)) found at.2 in
     let member : at.0 + 1 ≡ run.config.number = ap (λ (f : Fault). f.member) parts.1 ∙ own in
     not_both (shows_its_seed q shuffle run.config.number) shows_it (ap (shows_its_seed q shuffle) (sym member) ∙ parts.0)
@@ -251,7 +266,8 @@ seed_not_own run q shuffle found honest is kind e own =
     body : body_in q 0 c.number ≡ Keys (own_keys c)
     body =
         ap (λ (s : Shape). body_of (content_read s (slice_index_or q.past (slot_number s 0 c.number) []))) is.shape
-        ∙ ap (λ (past : List (List ℕ)). body_of (content_read (shape_in c) (slice_index_or past (slot_number (shape_in c) 0 c.number) []))) is.past
+        ∙ ap (λ (past : List (List ℕ)). body_of (content_read (shape_in c) (slice_index_or past (slot_number (shape_in c) 0 c.number) [])))
+        is.past
         ∙ own-body run is.posts 0 said
         ∙ keys-are run said.text said.row (ap (kind_of_stage (shape_in c)) said.at)
 

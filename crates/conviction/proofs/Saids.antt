@@ -28,10 +28,12 @@ use Rattle.conviction.proofs.Pasts.{there}
 -- what was said in a slot is of the grammar
 pub record IsSaid (run : Run) (posts : List Post) (stage member : ℕ) : Type 0 where
   pub body : Body
-  pub said : body_of (content_read (shape_in run.config) (slice_index_or (contents_of posts) (slot_number (shape_in run.config) stage member) [])) ≡ body
+  pub said : body_of (content_read (shape_in run.config) (slice_index_or (contents_of posts)
+      (slot_number (shape_in run.config) stage member) [])) ≡ body
   pub grammar : IsBody (shape_in run.config) stage body
 
-pub past-said : (run : Run) (later stage member : ℕ) (posts : List Post) → IsPast run later posts → is_slot (shape_in run.config) stage member ≡ true
+pub past-said : (run : Run) (later stage member : ℕ) (posts : List Post) → IsPast run later posts
+    → is_slot (shape_in run.config) stage member ≡ true
     → stage < later → IsSaid run posts stage member
 past-said run later stage member posts is speaks lt =
     let shape = shape_in run.config in
@@ -65,20 +67,29 @@ pub list-long : (shape : Shape) (stage shuffle turn : ℕ) (list : List (List �
     → AllByRecursion (λ entry. length entry ≡ level shape.members shuffle turn) list × (length list ≡ shape.members)
 unfolding body_form
 list-long shape stage shuffle turn list kind is =
-    subst (λ form. Fits form (Shuffled list)) (some-same _ _ (sym is.1 ∙ ap (λ (o : Option StageKind). form_of shape (slots_before shape stage) o 3) kind)) is.2
+    subst (λ form. Fits form (Shuffled list)) (some-same _ _ (sym is.1
+    ∙ ap (λ (o : Option StageKind). form_of shape (slots_before shape stage) o 3) kind)) is.2
 
 -- and is of it where it has
 pub list-body : (shape : Shape) (stage shuffle turn : ℕ) (list : List (List ℕ)) → kind_of_stage shape stage ≡ Some (AtShuffle shuffle turn)
-    → AllByRecursion (λ entry. length entry ≡ level shape.members shuffle turn) list → length list ≡ shape.members → IsBody shape stage (Shuffled list)
+    → AllByRecursion (λ entry. length entry ≡ level shape.members shuffle turn) list → length list ≡ shape.members
+    → IsBody shape stage (Shuffled list)
 unfolding body_form
-list-body shape stage shuffle turn list kind long count = (_, ap (λ (o : Option StageKind). form_of shape (slots_before shape stage) o 3) kind, (long, count))
+list-body shape stage shuffle turn list kind long count = (
+  _,
+  ap (λ (o : Option StageKind). form_of shape (slots_before shape stage) o 3)
+      kind,
+  (long, count),
+)
 
 -- a submission of the grammar has its length
-pub submission-long : (shape : Shape) (stage shuffle : ℕ) (body : Body) → kind_of_stage shape stage ≡ Some (AtSubmit shuffle) → IsBody shape stage body
+pub submission-long : (shape : Shape) (stage shuffle : ℕ) (body : Body) → kind_of_stage shape stage ≡ Some (AtSubmit shuffle)
+    → IsBody shape stage body
     → length (ciphertext_of body) ≡ level shape.members shuffle 0
 unfolding body_form
 submission-long shape stage shuffle (Submit c) kind is =
-    subst (λ form. Fits form (Submit c)) (some-same _ _ (sym is.1 ∙ ap (λ (o : Option StageKind). form_of shape (slots_before shape stage) o 2) kind)) is.2
+    subst (λ form. Fits form (Submit c)) (some-same _ _ (sym is.1
+    ∙ ap (λ (o : Option StageKind). form_of shape (slots_before shape stage) o 2) kind)) is.2
 submission-long shape stage shuffle (Keys keys) kind is =
     absurd (some-none _ is.0 (ap (λ (o : Option StageKind). form_of shape (slots_before shape stage) o 1) kind) is.1)
 submission-long shape stage shuffle (Shuffled list) kind is =

@@ -53,7 +53,11 @@ short-content post n lt =
 past-pieces : (posts : List Post) → ((k : ℕ) (post : Post) → slice_get posts k ≡ Some post → length (post_spelling post) < 2 ^ 32)
     → ArePieces (contents_of posts)
 past-pieces [] short = tt
-past-pieces (post ∷ posts) short = (short-content post (2 ^ 32) (short 0 post refl), past-pieces posts (λ k other at. short (suc k) other at))
+past-pieces (post ∷ posts) short = (
+  short-content post (2 ^ 32) (short 0 post refl),
+  past-pieces posts
+      (λ k other at. short (suc k) other at),
+)
 
 posts-same : (xs ys : List Post) → (let told : List Post → Result (List Post) BadPost = λ z. Ok z in told xs ≡ told ys) → xs ≡ ys
 posts-same xs ys e = cc
@@ -63,18 +67,22 @@ found-pieces : (roster : Roster) (round place : ℕ) (slots : List Slot) (items 
     → ((item : List ℕ) → Contains items item → IsBytes item) → AllByRecursion (λ item. length item < 2 ^ 32) items
     → posts_for roster round place (zip slots items) ≡ Ok posts → ArePieces (contents_of posts)
 unfolding posts_for
-found-pieces roster round place [] items posts bytes short e = subst (λ (xs : List Post). ArePieces (contents_of xs)) (posts-same [] posts e) tt
-found-pieces roster round place (slot ∷ slots) [] posts bytes short e = subst (λ (xs : List Post). ArePieces (contents_of xs)) (posts-same [] posts e) tt
+found-pieces roster round place [] items posts bytes short e = subst (λ (xs : List Post). ArePieces (contents_of xs))
+    (posts-same [] posts e) tt
+found-pieces roster round place (slot ∷ slots) [] posts bytes short e = subst (λ (xs : List Post). ArePieces (contents_of xs))
+    (posts-same [] posts e) tt
 found-pieces roster round place (slot ∷ slots) (item ∷ items) posts bytes short e =
     let bad : WhyNot → BadPost = λ why. record { place = place; why = why } in
     let first =
-    bind_ok (fault_as bad (post_for_slot roster round slot item)) (λ post. posts_for roster round (place + 1) (zip slots items) >>= λ posts. Ok (post ∷ posts)) posts e in
+    bind_ok (fault_as bad (post_for_slot roster round slot item))
+    (λ post. posts_for roster round (place + 1) (zip slots items) >>= λ posts. Ok (post ∷ posts)) posts e in
     let others = bind_ok (posts_for roster round (place + 1) (zip slots items)) (λ posts. Ok (first.0 ∷ posts)) posts first.2 in
     let is = post-for-slot roster round slot item first.0 (fault_as_ok bad (post_for_slot roster round slot item) first.0 first.1) in
     let spelled = (framed-found item first.0 (bytes item (contains-here item items)) is.spelled).1 in
     subst (λ (xs : List Post). ArePieces (contents_of xs)) (posts-same (first.0 ∷ others.0) posts others.2) (
       short-content first.0 (2 ^ 32) (subst (λ (x : List ℕ). length x < 2 ^ 32) spelled short.0),
-      found-pieces roster round (place + 1) slots items others.0 (λ other there. bytes other (contains-later item items other there)) short.1 others.1,
+      found-pieces roster round (place + 1) slots items others.0 (λ other there. bytes other (contains-later item items other there))
+          short.1 others.1,
     )
 
 -- ---- one view
@@ -83,7 +91,8 @@ found-pieces roster round place (slot ∷ slots) (item ∷ items) posts bytes sh
 pub own-pads : (run : Run) (t : Transcript) → OneRun t run → (e : ShowsBadPad run.config.roster t)
     → IsRowOf run (record { header = e.header; body = Pads e.pads })
 own-pads run t one e =
-    file-row run t e.pads_post (record { header = e.header; body = Pads e.pads }) one e.pads_are (got-listed t.posts _ e.pads_post e.last) e.sender
+    file-row run t e.pads_post (record { header = e.header; body = Pads e.pads }) one e.pads_are (got-listed t.posts _ e.pads_post e.last)
+    e.sender
 
 -- what is listed of the log for a bad pad
 pub listed-log : (run : Run) (t : Transcript) → IsTranscript (shape_in run.config) t → (e : ShowsBadPad run.config.roster t)
@@ -101,9 +110,11 @@ pub same-past : (run : Run) (runs : List Run) (t : Transcript) → Contains runs
 same-past run runs t listed one form bytes none e own =
     sym (take_all n (contents_of e.log) (let whole = e.whole in omega (arith, length-map e.log (λ (p : Post). p.content))))
     ∙ views-determine shape (contents_of e.log) (contents_of own.row.past) strings stage
-    (found-pieces run.config.roster t.round 0 (take n (slots_of shape)) t.posts e.log (λ item there. listed-bytes t item bytes there) form.posts e.stands)
+    (found-pieces run.config.roster t.round 0 (take n (slots_of shape)) t.posts e.log (λ item there. listed-bytes t item bytes there)
+    form.posts e.stands)
     (past-pieces own.row.past past.short) of_log of_run none views
-    ∙ take_all n (contents_of own.row.past) (let long = past.long in omega (arith, length-map own.row.past (λ (p : Post). p.content), ap (slots_before shape) at))
+    ∙ take_all n (contents_of own.row.past) (let long = past.long in omega
+    (arith, length-map own.row.past (λ (p : Post). p.content), ap (slots_before shape) at))
   where
     shape : Shape
     shape = shape_in run.config
@@ -141,12 +152,14 @@ same-past run runs t listed one form bytes none e own =
     of_run : (s : List ℕ) → Contains (view_strings shape (contents_of own.row.past) stage) s → Contains strings s
     of_run s there =
         let shape_is : run.log.shape ≡ shape = one.honest.shape in
-        let same : view_strings shape (contents_of own.row.past) stage ≡ view_strings run.log.shape (contents_of own.row.past) own.row.stage =
+        let same : view_strings shape (contents_of own.row.past) stage ≡ view_strings run.log.shape (contents_of own.row.past) own.row.stage
+        =
         ap (view_strings shape (contents_of own.row.past)) (sym at)
         ∙ ap (λ (s : Shape). view_strings s (contents_of own.row.past) own.row.stage) (sym shape_is) in
         Contains-append_left (strings_of_runs runs) (strings_of_evidence run.config.roster (transcript_spelling t)) s
         (contains-flat-from strings_of_run runs run s listed
-        ((run_has_strings run).views own.row.stage own.row.past s (omega (arith, at, here, ap (λ (s : Shape). s.members) shape_is)) own.row.before
+        ((run_has_strings run).views own.row.stage own.row.past s (omega (arith, at, here, ap (λ (s : Shape). s.members) shape_is))
+        own.row.before
         (subst (λ (all : List (List ℕ)). Contains all s) same there)))
 
 pub pad_same_log : PadSameLog

@@ -63,8 +63,10 @@ all-in P (x ∷ xs) y all there = elim (contains-cases x xs y there) [
 ]
 
 -- entries in another order have their lengths
-order-long : (n : ℕ) (xs ys : List (List ℕ)) → IsPermutation xs ys → AllByRecursion (λ x. length x ≡ n) xs → AllByRecursion (λ x. length x ≡ n) ys
-order-long n xs ys order long = all-of (λ x. length x ≡ n) ys (λ y there. all-in (λ x. length x ≡ n) xs y long (((permutation_keeps xs ys order).1 y).1 there))
+order-long : (n : ℕ) (xs ys : List (List ℕ)) → IsPermutation xs ys → AllByRecursion (λ x. length x ≡ n) xs
+    → AllByRecursion (λ x. length x ≡ n) ys
+order-long n xs ys order long = all-of (λ x. length x ≡ n) ys (λ y there. all-in (λ x. length x ≡ n) xs y long
+    (((permutation_keeps xs ys order).1 y).1 there))
 
 -- a layer off takes 2,272 bytes away
 bodies-long : (seed : List ℕ) (n : ℕ) (xs ys : List (List ℕ)) → AllZip (HasBody seed) xs ys → AllByRecursion (λ x. length x ≡ n + 2272) xs
@@ -79,37 +81,52 @@ bodies-long seed n (x ∷ xs) (y ∷ ys) zip long =
     let one = long.0 in
     (omega (arith, adds, is, one), bodies-long seed n xs ys zip.1 long.1)
 
-all-range : (P : List ℕ → Type 0) (f : ℕ → List ℕ) (a n : ℕ) → ((m : ℕ) → a ≤ m → m < a + n → P (f m)) → AllByRecursion P (map f (range_with_len a n))
+all-range : (P : List ℕ → Type 0) (f : ℕ → List ℕ) (a n : ℕ) → ((m : ℕ) → a ≤ m → m < a + n → P (f m))
+    → AllByRecursion P (map f (range_with_len a n))
 all-range P f a zero each = tt
 all-range P f a (suc n) each = (each a (omega arith) (omega arith), all-range P f (a + 1) n (λ m le lt. each m (omega arith) (omega arith)))
 
 zip-range : (R : List ℕ → List ℕ → Type 0) (f g : ℕ → List ℕ) (a n : ℕ) → ((m : ℕ) → a ≤ m → m < a + n → R (f m) (g m))
     → AllZip R (map f (range_with_len a n)) (map g (range_with_len a n))
 zip-range R f g a zero each = tt
-zip-range R f g a (suc n) each = (each a (omega arith) (omega arith), zip-range R f g (a + 1) n (λ m le lt. each m (omega arith) (omega arith)))
+zip-range R f g a (suc n) each = (
+  each a (omega arith) (omega arith),
+  zip-range R f g (a + 1) n
+      (λ m le lt. each m (omega arith) (omega arith)),
+)
 
-map-range : (f g : ℕ → List ℕ) (a n : ℕ) → ((m : ℕ) → a ≤ m → m < a + n → f m ≡ g m) → map f (range_with_len a n) ≡ map g (range_with_len a n)
+map-range : (f g : ℕ → List ℕ) (a n : ℕ) → ((m : ℕ) → a ≤ m → m < a + n → f m ≡ g m)
+    → map f (range_with_len a n) ≡ map g (range_with_len a n)
 map-range f g a zero each = refl
-map-range f g a (suc n) each = rw (each a (omega arith) (omega arith), map-range f g (a + 1) n (λ m le lt. each m (omega arith) (omega arith))) refl
+map-range f g a (suc n) each = rw (
+  each a (omega arith) (omega arith),
+  map-range f g (a + 1) n
+      (λ m le lt. each m (omega arith) (omega arith)),
+) refl
 
 -- ---- what was said, in the words of both
 
 -- what a replay looks at in a slot is what stands in the past
 pub body-in : (run : Run) (q : Inquiry) (is : IsOwnInquiry run q) (stage member : ℕ)
-    → body_in q stage member ≡ body_of (content_read (shape_in run.config) (slice_index_or (contents_of is.posts) (slot_number (shape_in run.config) stage member) []))
+    → body_in q stage member ≡ body_of (content_read (shape_in run.config)
+    (slice_index_or (contents_of is.posts) (slot_number (shape_in run.config) stage member) []))
 body-in run q is stage member =
     ap (λ (s : Shape). body_of (content_read s (slice_index_or q.past (slot_number s stage member) []))) is.shape
-    ∙ ap (λ (past : List (List ℕ)). body_of (content_read (shape_in run.config) (slice_index_or past (slot_number (shape_in run.config) stage member) []))) is.past
+    ∙ ap (λ (past : List (List ℕ)). body_of (content_read (shape_in run.config)
+    (slice_index_or past (slot_number (shape_in run.config) stage member) []))) is.past
 
-said-same : (run : Run) (q : Inquiry) (is : IsOwnInquiry run q) (later stage member : ℕ) → is_slot (shape_in run.config) stage member ≡ true → stage < later
-    → said_in (shape_in run.config) (take (slots_before (shape_in run.config) later) (contents_of is.posts)) stage member ≡ body_in q stage member
+said-same : (run : Run) (q : Inquiry) (is : IsOwnInquiry run q) (later stage member : ℕ) → is_slot (shape_in run.config) stage member ≡ true
+    → stage < later
+    → said_in (shape_in run.config) (take (slots_before (shape_in run.config) later) (contents_of is.posts)) stage member ≡ body_in q stage
+    member
 unfolding said_in
 said-same run q is later stage member speaks lt =
     let shape = shape_in run.config in
     let number : ℕ = slot_number shape stage member in
     let within = (slot_number-within shape stage member speaks).1 in
     ap (λ (bytes : List ℕ). body_of (content_read shape bytes))
-    (get_or-take (slots_before shape later) (contents_of is.posts) number [] (omega (arith, within, slots_before-rises shape (stage + 1) later (omega arith))))
+    (get_or-take (slots_before shape later) (contents_of is.posts) number []
+    (omega (arith, within, slots_before-rises shape (stage + 1) later (omega arith))))
     ∙ sym (body-in run q is stage member)
 
 -- the stage of the submissions
@@ -130,8 +147,10 @@ pub record IsEnded (run : Run) (q : Inquiry) (shuffle : ℕ) : Type 0 where
   pub is : IsOwnInquiry run q
   pub kind : kind_of_stage q.shape q.stage ≡ Some (Final shuffle)
 
-submit-kind : (run : Run) (q : Inquiry) (shuffle : ℕ) → IsEnded run q shuffle → kind_of_stage (shape_in run.config) (submit_stage q) ≡ Some (AtSubmit shuffle)
-submit-kind run q shuffle e = ap (λ (s : Shape). kind_of_stage s (submit_stage q)) (sym e.is.shape) ∙ submit_there q.shape q.stage shuffle e.kind
+submit-kind : (run : Run) (q : Inquiry) (shuffle : ℕ) → IsEnded run q shuffle
+    → kind_of_stage (shape_in run.config) (submit_stage q) ≡ Some (AtSubmit shuffle)
+submit-kind run q shuffle e = ap (λ (s : Shape). kind_of_stage s (submit_stage q)) (sym e.is.shape)
+    ∙ submit_there q.shape q.stage shuffle e.kind
 
 pub turn-kind : (run : Run) (q : Inquiry) (shuffle turn : ℕ) → IsEnded run q shuffle → 1 ≤ turn → turn ≤ q.shape.members
     → kind_of_stage (shape_in run.config) (submit_stage q + turn) ≡ Some (AtShuffle shuffle turn)
@@ -151,7 +170,8 @@ turn-speaks run q shuffle turn e least most =
 
 -- the list after some turns, in the words of both
 list-same : (run : Run) (q : Inquiry) (shuffle place : ℕ) (e : IsEnded run q shuffle) → place < q.shape.members
-    → list_said (shape_in run.config) (take (slots_before (shape_in run.config) (submit_stage q + suc place)) (contents_of e.is.posts)) shuffle place ≡ list_after q place
+    → list_said (shape_in run.config) (take (slots_before (shape_in run.config) (submit_stage q + suc place)) (contents_of e.is.posts))
+    shuffle place ≡ list_after q place
 list-same run q shuffle zero e lt =
     let shape = shape_in run.config in
     let past : List (List ℕ) = take (slots_before shape (submit_stage q + 1)) (contents_of e.is.posts) in
@@ -162,7 +182,8 @@ list-same run q shuffle zero e lt =
     (ap (λ (s : ℕ). map (λ member. ciphertext_of (said_in shape past s member)) (range_with_len 1 shape.members)) stage
     ∙ map-range (λ member. ciphertext_of (said_in shape past (submit_stage q) member)) (submission q) 1 shape.members
     (λ m least most. ap ciphertext_of
-    (said-same run q e.is (submit_stage q + 1) (submit_stage q) m (submit-speaks run q shuffle m e least (omega (arith, most, members))) (omega arith)))
+    (said-same run q e.is (submit_stage q + 1) (submit_stage q) m (submit-speaks run q shuffle m e least (omega (arith, most, members)))
+    (omega arith)))
     ∙ ap (λ (n : ℕ). map (submission q) (range_with_len 1 n)) (sym members))
 list-same run q shuffle (suc turn) e lt =
     let shape = shape_in run.config in
@@ -171,7 +192,8 @@ list-same run q shuffle (suc turn) e lt =
     let stage : submit_stage_of shape shuffle ≡ submit_stage q =
     ap (λ (s : Shape). submit_stage_of s shuffle) (sym e.is.shape) ∙ submit-same q.shape q.stage shuffle e.kind in
     ap (λ (s : ℕ). list_of (said_in shape past (s + suc turn) (suc turn))) stage
-    ∙ ap list_of (said-same run q e.is later (submit_stage q + suc turn) (suc turn) (turn-speaks run q shuffle (suc turn) e (omega arith) (omega (arith, lt))) (omega arith))
+    ∙ ap list_of (said-same run q e.is later (submit_stage q + suc turn) (suc turn)
+    (turn-speaks run q shuffle (suc turn) e (omega arith) (omega (arith, lt))) (omega arith))
 
 -- ---- the lengths of entries
 
@@ -182,15 +204,18 @@ turn-early run q shuffle turn e most = (let late = end-least q.shape q.stage shu
 pub lists-same : (a b : List (List ℕ)) → (let told : List (List ℕ) → Option (List (List ℕ)) = λ x. Some x in told a ≡ told b) → a ≡ b
 lists-same a b e = cc
 
-entries-long : (run : Run) (q : Inquiry) (shuffle place : ℕ) (list : List (List ℕ)) (e : IsEnded run q shuffle) → HonestRun run → place < q.shape.members
+entries-long : (run : Run) (q : Inquiry) (shuffle place : ℕ) (list : List (List ℕ)) (e : IsEnded run q shuffle) → HonestRun run
+    → place < q.shape.members
     → list_after q place ≡ Some list
-    → AllByRecursion (λ entry. length entry ≡ level (shape_in run.config).members shuffle place) list × (length list ≡ (shape_in run.config).members)
+    → AllByRecursion (λ entry. length entry ≡ level (shape_in run.config).members shuffle place) list
+    × (length list ≡ (shape_in run.config).members)
 entries-long run q shuffle zero list e honest lt said =
     let shape = shape_in run.config in
     let members : q.shape.members ≡ shape.members = ap (λ (s : Shape). s.members) e.is.shape in
     let same : submissions q ≡ list = lists-same (submissions q) list said in
     let past = is-past run q.stage e.is.posts honest e.is.kept in
-    subst (λ (xs : List (List ℕ)). AllByRecursion (λ entry. length entry ≡ level shape.members shuffle 0) xs × (length xs ≡ shape.members)) same (
+    subst (λ (xs : List (List ℕ)). AllByRecursion (λ entry. length entry ≡ level shape.members shuffle 0) xs × (length xs ≡ shape.members))
+    same (
       all-range (λ entry. length entry ≡ level shape.members shuffle 0) (submission q) 1 q.shape.members
           (λ m least most. (
           let there =
@@ -207,8 +232,10 @@ entries-long run q shuffle (suc turn) list e honest lt said =
     let there =
     past-said run q.stage stage (suc turn) e.is.posts past (turn-speaks run q shuffle (suc turn) e (omega arith) (omega (arith, lt)))
     (turn-early run q shuffle (suc turn) e (omega (arith, lt))) in
-    let body : there.body ≡ Shuffled list = list-told there.body list (ap list_of (sym there.said ∙ sym (body-in run q e.is stage (suc turn))) ∙ said) in
-    list-long shape stage shuffle (suc turn) list (turn-kind run q shuffle (suc turn) e (omega arith) (omega (arith, lt))) (subst (IsBody shape stage) body there.grammar)
+    let body : there.body ≡ Shuffled list = list-told there.body list
+    (ap list_of (sym there.said ∙ sym (body-in run q e.is stage (suc turn))) ∙ said) in
+    list-long shape stage shuffle (suc turn) list (turn-kind run q shuffle (suc turn) e (omega arith) (omega (arith, lt)))
+    (subst (IsBody shape stage) body there.grammar)
 
 levels : (x n place : ℕ) → place < n → x + 2272 * (2 * n - suc place) + 2272 ≡ x + 2272 * (2 * n - place)
 levels x n place lt = omega arith
@@ -216,7 +243,8 @@ levels x n place lt = omega arith
 -- ---- the own turn
 
 -- each submission is stripped as far as a turn
-all-stripped : (q : Inquiry) (shuffle layers : ℕ) → submission_fault q shuffle ≡ None → layers ≤ q.shape.members → q.shape.members ≤ length q.shown
+all-stripped : (q : Inquiry) (shuffle layers : ℕ) → submission_fault q shuffle ≡ None → layers ≤ q.shape.members
+    → q.shape.members ≤ length q.shown
     → (bodies : List (List ℕ)) × (stripped_through (take layers (outer_seeds q)) (submissions q) ≡ Some bodies)
 all-stripped q shuffle layers none most long =
     let seeds : List (List ℕ) = take layers (outer_seeds q) in (
@@ -231,9 +259,13 @@ all-stripped q shuffle layers none most long =
     opens : (m : ℕ) → 1 ≤ m → m ≤ q.shape.members → OpensTo (take layers (outer_seeds q)) (submission q m) (body m)
     opens m least few =
         let found = no_submission_fault q shuffle m layers none (record { least = least; most = few }) most long in
-        let same : body m ≡ found.0 = ap (λ (o : Option (List (List ℕ) × List ℕ)). unwrap_or (option_map (λ (f : List (List ℕ) × List ℕ). f.1) o) []) found.1 in
-        let ms : List (List ℕ) = own_layer_seeds q shuffle m layers in
-        (ms, found.1 ∙ ap (λ (b : List ℕ). (let told : List (List ℕ) × List ℕ → Option (List (List ℕ) × List ℕ) = λ x. Some x in told (ms, b))) (sym same))
+        let same : body m ≡ found.0 = ap (λ (o : Option (List (List ℕ) × List ℕ)). unwrap_or
+        (option_map (λ (f : List (List ℕ) × List ℕ). f.1) o) []) found.1 in
+        let ms : List (List ℕ) = own_layer_seeds q shuffle m layers in (
+          ms,
+          found.1 ∙ ap (λ (b : List ℕ). (let told : List (List ℕ) × List ℕ
+              → Option (List (List ℕ) × List ℕ) = λ x. Some x in told (ms, b))) (sym same),
+        )
 
 -- the row of a turn over a list that was said
 turn-row : (c : Configuration) (past : List (List ℕ)) (shuffle : ℕ) (entries : List (List ℕ))
@@ -248,7 +280,8 @@ pub own-turn : (run : Run) (q : Inquiry) (shuffle place : ℕ) (strings : List (
 own-turn run q shuffle place strings e honest none shown lt number so_far =
     let back : suc place - 1 ≡ place = omega arith in
     ap (λ (k : ℕ). is_order_of (option_and_then (stripped (outer_seed q (suc place))) (list_after q k)) (list_after q (suc place))) back
-    ∙ ap (λ (o : Option (List (List ℕ))). is_order_of (option_and_then (stripped (outer_seed q (suc place))) o) (list_after q (suc place))) so_far.said
+    ∙ ap (λ (o : Option (List (List ℕ))). is_order_of (option_and_then (stripped (outer_seed q (suc place))) o) (list_after q (suc place)))
+    so_far.said
     ∙ ap (λ (o : Option (List (List ℕ))). is_order_of o (list_after q (suc place))) rest.1
     ∙ ap (is_order_of (Some rest.0)) list
     ∙ (permutations_are_found turn.0 rest.0).1 turn.2
@@ -276,7 +309,8 @@ own-turn run q shuffle place strings e honest none shown lt number so_far =
     rest =
         let next : suc place ≡ place + 1 = omega arith in
         let all = all-stripped q shuffle (place + 1) none (omega (arith, lt)) long in
-        let more = strips_through_more (take place (outer_seeds q)) (outer_seed q (place + 1)) (submissions q) so_far.bodies so_far.stripped in
+        let more = strips_through_more (take place (outer_seeds q)) (outer_seed q (place + 1)) (submissions q) so_far.bodies so_far.stripped
+        in
         let far : place < length q.shown = (let some = long in omega arith) in
         let bodies : stripped (outer_seed q (place + 1)) so_far.bodies ≡ Some all.0 =
         sym more ∙ ap (λ (s : List (List ℕ)). stripped_through s (submissions q)) (sym (seeds-next q place far)) ∙ all.1 in
@@ -289,7 +323,8 @@ own-turn run q shuffle place strings e honest none shown lt number so_far =
 
     distinct : AllPairs (λ body later. body ≡ later → ⊥) so_far.list
     distinct =
-        (permutation_keeps so_far.bodies so_far.list so_far.order).2 (stripped_are_distinct q shuffle place strings so_far.bodies shown none lt long so_far.stripped)
+        (permutation_keeps so_far.bodies so_far.list so_far.order).2
+        (stripped_are_distinct q shuffle place strings so_far.bodies shown none lt long so_far.stripped)
 
     few : length so_far.list < 2 ^ 32
     few = (let most = honest.config.enter.roster.most in let count = entries.1 in omega arith)
@@ -335,12 +370,14 @@ own-turn run q shuffle place strings e honest none shown lt number so_far =
         sym (levels (if shuffle == 1 then 36 + 2272 * shape.members else 34) shape.members place (omega (arith, lt, same_members))) in
         let before = subst (λ (k : ℕ). AllByRecursion (λ entry. length entry ≡ k) so_far.list) one_more entries.0 in
         let after = bodies-long seed n so_far.list rest.0 ((strips_exactly seed so_far.list rest.0).0 rest.1) before in
-        let count : length turn.0 ≡ shape.members = (permutation_keeps rest.0 turn.0 turn.2).0 ∙ strips_all seed so_far.list rest.0 rest.1 ∙ entries.1 in
+        let count : length turn.0 ≡ shape.members = (permutation_keeps rest.0 turn.0 turn.2).0 ∙ strips_all seed so_far.list rest.0 rest.1
+        ∙ entries.1 in
         let grammar = list-body shape own.row.stage shuffle (suc place) turn.0 kind (order-long n rest.0 turn.0 turn.2 after) count in
         ap (λ (x : Content). x.body) (row-is run own.text own.row (subst (IsBody shape own.row.stage) (sym due) grammar)) ∙ due
 
     list : list_after q (suc place) ≡ Some turn.0
-    list = ap (λ (m : ℕ). list_of (body_in q stage m)) number ∙ ap list_of (body-in run q e.is stage c.number ∙ own-body run e.is.posts stage own ∙ body)
+    list = ap (λ (m : ℕ). list_of (body_in q stage m)) number ∙ ap list_of
+        (body-in run q e.is stage c.number ∙ own-body run e.is.posts stage own ∙ body)
 
 pub shuffle_not_own : ShuffleNotOwn
 shuffle_not_own run q shuffle found strings honest is kind none shown e own =
@@ -352,6 +389,8 @@ shuffle_not_own run q shuffle found strings honest is kind none shown e own =
     let many = (is.shows shuffle kind).many in
     let so_far = lists_are_stripped q at.0 (omega (arith, lt, many)) (λ turn least most. (
     let back : turn - 1 + 1 ≡ turn = omega arith in
-    ap (is_turn q) (sym back) ∙ fault_unless-holds (is_turn q (turn - 1 + 1)) (fault Shuffle (turn - 1 + 1)) (at.3 (turn - 1) (omega arith)))) in
+    ap (is_turn q) (sym back) ∙ fault_unless-holds (is_turn q (turn - 1 + 1)) (fault Shuffle (turn - 1 + 1))
+    (at.3 (turn - 1) (omega arith)))) in
     not_both (is_turn q (at.0 + 1))
-    (ap (is_turn q) (sym next) ∙ own-turn run q shuffle at.0 strings (record { is = is; kind = kind }) honest none shown lt number so_far) parts.0
+    (ap (is_turn q) (sym next) ∙ own-turn run q shuffle at.0 strings (record { is = is; kind = kind }) honest none shown lt number so_far)
+    parts.0

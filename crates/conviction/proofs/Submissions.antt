@@ -83,13 +83,16 @@ Found = List (List ℕ) × List ℕ
 
 -- a layer behind the first is one of what is left
 abbrev Again : List (List ℕ) → Type 0
-Again seeds = (entry : List ℕ) (all : Found) (place : ℕ) → opened_through seeds entry ≡ Some all → place < length seeds → IsLayer seeds entry all.0 place
+Again seeds = (entry : List ℕ) (all : Found) (place : ℕ) → opened_through seeds entry ≡ Some all → place < length seeds
+    → IsLayer seeds entry all.0 place
 
-layer-here : (seed : List ℕ) (seeds : List (List ℕ)) (entry m next : List ℕ) (rest : Found) (place : ℕ) → Again seeds → place < length (seed ∷ seeds)
+layer-here : (seed : List ℕ) (seeds : List (List ℕ)) (entry m next : List ℕ) (rest : Found) (place : ℕ) → Again seeds
+    → place < length (seed ∷ seeds)
     → peeled seed entry ≡ Some (m, next)
     → opened_through seeds next ≡ Some rest → IsLayer (seed ∷ seeds) entry (m ∷ rest.0) place
 unfolding opened_through
-layer-here seed seeds entry m next rest zero again lt first others = record { before = []; body = entry; next = next; opens = refl; layer = first }
+layer-here seed seeds entry m next rest zero again lt first others = record
+    { before = []; body = entry; next = next; opens = refl; layer = first }
 layer-here seed seeds entry m next rest (suc place) again lt first others =
     let more = again next rest place others (omega (arith, lt)) in
     record {
@@ -108,7 +111,8 @@ layer-rest seed seeds entry m next (Some rest) all place again lt first others e
     let same : (m ∷ rest.0, rest.1) ≡ all = cc in
     subst (λ (x : Found). IsLayer (seed ∷ seeds) entry x.0 place) same (layer-here seed seeds entry m next rest place again lt first others)
 
-layer-first : (seed : List ℕ) (seeds : List (List ℕ)) (entry : List ℕ) (o : Option (List ℕ × List ℕ)) (all : Found) (place : ℕ) → Again seeds
+layer-first : (seed : List ℕ) (seeds : List (List ℕ)) (entry : List ℕ) (o : Option (List ℕ × List ℕ)) (all : Found) (place : ℕ)
+    → Again seeds
     → place < length (seed ∷ seeds) → peeled seed entry ≡ o
     → option_and_then (λ (p : List ℕ × List ℕ). option_map (λ (q : Found). (p.0 ∷ q.0, q.1)) (opened_through seeds p.1)) o ≡ Some all
     → IsLayer (seed ∷ seeds) entry all.0 place
@@ -116,7 +120,8 @@ layer-first seed seeds entry None all place again lt first e = absurd cc
 layer-first seed seeds entry (Some p) all place again lt first e =
     layer-rest seed seeds entry p.0 p.1 (opened_through seeds p.1) all place again lt first refl e
 
-pub layer-at : (seeds : List (List ℕ)) (entry : List ℕ) (all : Found) (place : ℕ) → opened_through seeds entry ≡ Some all → place < length seeds
+pub layer-at : (seeds : List (List ℕ)) (entry : List ℕ) (all : Found) (place : ℕ) → opened_through seeds entry ≡ Some all
+    → place < length seeds
     → IsLayer seeds entry all.0 place
 unfolding opened_through
 layer-at [] entry all place e lt = absurd (omega (arith, lt))
@@ -134,7 +139,8 @@ key-shown q shuffle n member none is far speaks =
     let keys = no_seed_fault q shuffle member none is in
     let within = (slot_number-within q.shape 0 member speaks).1 in
     let number : ℕ = slot_number q.shape 0 member in
-    let same : slice_index_or (take n q.past) number [] ≡ slice_index_or q.past number [] = get_or-take n q.past number [] (omega (arith, within, far)) in
+    let same : slice_index_or (take n q.past) number [] ≡ slice_index_or q.past number [] = get_or-take n q.past number []
+    (omega (arith, within, far)) in
     ap (λ (bytes : List ℕ). slice_index_or (keys_in (body_of (content_read q.shape bytes))) (outer_place shuffle) []) same
     ∙ ap (λ (b : Body). slice_index_or (keys_in b) (outer_place shuffle) []) keys.1
     ∙ sym keys.2
@@ -148,13 +154,15 @@ keys-shown q shuffle n none many far =
     let seeds : List (List ℕ) = outer_seeds q in
     let long : length seeds ≡ q.shape.members = length-map q.shown _ ∙ many in
     let said : List (List ℕ) = keys_said q.shape (take n q.past) (outer_place shuffle) in
-    let count : length said ≡ q.shape.members = length-map-range_with_len (key_said q.shape (take n q.past) (outer_place shuffle)) 1 q.shape.members in
+    let count : length said ≡ q.shape.members = length-map-range_with_len (key_said q.shape (take n q.past) (outer_place shuffle)) 1
+    q.shape.members in
     ext_get_or [] said (map key_of_seed seeds) (count ∙ sym long ∙ sym (length-map seeds key_of_seed))
     (λ i lt.
     let few : i < q.shape.members = omega (arith, lt, count) in
     let back : i + 1 - 1 ≡ i = omega arith in
     let member : IsMember q (i + 1) = record { least = omega arith; most = omega (arith, few) } in
-    let here = by-member (key_said q.shape (take n q.past) (outer_place shuffle)) q.shape.members (i + 1) (omega arith) (omega (arith, few)) in
+    let here = by-member (key_said q.shape (take n q.past) (outer_place shuffle)) q.shape.members (i + 1) (omega arith) (omega (arith, few))
+    in
     get_or_from_slice_get said i _ [] (ap (slice_get said) (sym back) ∙ here)
     ∙ key-shown q shuffle n (i + 1) none member far (is-there q.shape.members (i + 1) (omega arith) (omega (arith, few)))
     ∙ ap (λ (k : ℕ). key_of_seed (get_or seeds k [])) back
@@ -170,13 +178,15 @@ pub record IsSubmitted (run : Run) (q : Inquiry) (posts : List Post) (shuffle : 
   pub keys : keys_said (shape_in run.config) said (outer_place shuffle) ≡ map key_of_seed (outer_seeds q)
   pub front : said ≡ take (slots_before (shape_in run.config) (submit_stage q)) (contents_of posts)
 
-pub own-submitted : (run : Run) (q : Inquiry) (shuffle : ℕ) → HonestRun run → (is : IsOwnInquiry run q) → kind_of_stage q.shape q.stage ≡ Some (Final shuffle)
+pub own-submitted : (run : Run) (q : Inquiry) (shuffle : ℕ) → HonestRun run → (is : IsOwnInquiry run q)
+    → kind_of_stage q.shape q.stage ≡ Some (Final shuffle)
     → seed_fault q shuffle ≡ None → IsSubmitted run q is.posts shuffle
 own-submitted run q shuffle honest is kind none = record {
   said = contents_of own.row.past;
   is = body;
   keys = keys;
-  front = ap contents_of own.front ∙ sym (take-map (λ (p : Post). p.content) (slots_before (shape_in run.config) (submit_stage q)) is.posts);
+  front = ap contents_of own.front ∙ sym (take-map (λ (p : Post). p.content) (slots_before (shape_in run.config) (submit_stage q))
+      is.posts);
 }
   where
     c : Configuration
@@ -202,7 +212,8 @@ own-submitted run q shuffle honest is kind none = record {
     body : submission q c.number ≡ submitted run (contents_of own.row.past) shuffle
     body =
         ap (λ (s : Shape). ciphertext_of (body_of (content_read s (slice_index_or q.past (slot_number s stage c.number) [])))) is.shape
-        ∙ ap (λ (past : List (List ℕ)). ciphertext_of (body_of (content_read (shape_in c) (slice_index_or past (slot_number (shape_in c) stage c.number) [])))) is.past
+        ∙ ap (λ (past : List (List ℕ)). ciphertext_of (body_of (content_read (shape_in c)
+        (slice_index_or past (slot_number (shape_in c) stage c.number) [])))) is.past
         ∙ ap ciphertext_of (own-body run is.posts stage own ∙ submits run own.text own.row shuffle here)
 
     keys : keys_said (shape_in c) (contents_of own.row.past) (outer_place shuffle) ≡ map key_of_seed (outer_seeds q)
@@ -221,7 +232,11 @@ own-submitted run q shuffle honest is kind none = record {
 pub own-opens : (run : Run) (q : Inquiry) (shuffle : ℕ) → (is : IsOwnInquiry run q) → kind_of_stage q.shape q.stage ≡ Some (Final shuffle)
     → (own : IsSubmitted run q is.posts shuffle)
     → opened_through (outer_seeds q) (submission q run.config.number)
-    ≡ Some (own_layer_seeds run.config shuffle 2, (own_submission run.config (own_descriptor run.config own.said) own.said shuffle).inner_ciphertext)
+    ≡ Some (
+      own_layer_seeds run.config shuffle 2,
+      (own_submission run.config (own_descriptor run.config own.said) own.said
+          shuffle).inner_ciphertext,
+    )
 unfolding own_submission
 own-opens run q shuffle is kind own =
     let c = run.config in
@@ -229,7 +244,8 @@ own-opens run q shuffle is kind own =
     let ms : List (List ℕ) = own_layer_seeds c shuffle 2 in
     let blob : List ℕ = (own_submission c (own_descriptor c own.said) own.said shuffle).inner_ciphertext in
     let good = seeds_are_messages (own_opening c shuffle 2) c.round shuffle 2 c.number (shape_in c).members in
-    let count : length seeds ≡ length ms = length-map q.shown _ ∙ (is.shows shuffle kind).many ∙ ap (λ (s : Shape). s.members) is.shape ∙ sym good.0 in
+    let count : length seeds ≡ length ms = length-map q.shown _ ∙ (is.shows shuffle kind).many ∙ ap (λ (s : Shape). s.members) is.shape
+    ∙ sym good.0 in
     ap (opened_through seeds) (own.is ∙ ap (λ (keys : List (List ℕ)). wrapping_of keys ms blob) own.keys)
     ∙ wrapped_opens seeds ms blob count good.1
 
@@ -243,10 +259,12 @@ pub submission_not_own : SubmissionNotOwn
 submission_not_own run q shuffle found honest is kind none e own =
     let at = first_below-found (λ place. layer_fault q shuffle (place + 1)) q.shape.members found e in
     let layer =
-    first_below-found (λ place. fault_unless (has_layer q shuffle (at.0 + 1) (place + 1)) (fault (Submission (place + 1)) (at.0 + 1))) q.shape.members found at.2 in
+    first_below-found (λ place. fault_unless (has_layer q shuffle (at.0 + 1) (place + 1)) (fault (Submission (place + 1)) (at.0 + 1)))
+    q.shape.members found at.2 in
     let parts = unless-found (has_layer q shuffle (at.0 + 1) (layer.0 + 1)) (fault (Submission (layer.0 + 1)) (at.0 + 1)) found layer.2 in
     let member : at.0 + 1 ≡ run.config.number = ap (λ (f : Fault). f.member) parts.1 ∙ own in
-    not_both (has_layer q shuffle run.config.number (layer.0 + 1)) (has layer.0 layer.1) (ap (λ (m : ℕ). has_layer q shuffle m (layer.0 + 1)) (sym member) ∙ parts.0)
+    not_both (has_layer q shuffle run.config.number (layer.0 + 1)) (has layer.0 layer.1)
+    (ap (λ (m : ℕ). has_layer q shuffle m (layer.0 + 1)) (sym member) ∙ parts.0)
   where
     c : Configuration
     c = run.config
@@ -256,12 +274,15 @@ submission_not_own run q shuffle found honest is kind none e own =
         let shows = is.shows shuffle kind in
         let submitted_is = own-submitted run q shuffle honest is kind none in
         let many = length-map q.shown (λ shown. shown.outer_seed) ∙ shows.many in
-        let found = layer-at (outer_seeds q) (submission q c.number) _ place (own-opens run q shuffle is kind submitted_is) (omega (arith, lt, many)) in
+        let found = layer-at (outer_seeds q) (submission q c.number) _ place (own-opens run q shuffle is kind submitted_is)
+        (omega (arith, lt, many)) in
         let back : place + 1 - 1 ≡ place = omega arith in
         let opened : inside q (submission q c.number) (place + 1 - 1) ≡ Some found.body =
         ap (inside q (submission q c.number)) back ∙ ap (option_map (λ (f : List (List ℕ) × List ℕ). f.1)) found.opens in
-        let peels : option_and_then (peeled (outer_seed q (place + 1))) (inside q (submission q c.number) (place + 1 - 1)) ≡ Some (get_or (own_layer_seeds c shuffle 2) place [], found.next) =
-        ap (option_and_then (peeled (outer_seed q (place + 1)))) opened ∙ ap (λ (k : ℕ). peeled (get_or (outer_seeds q) k []) found.body) back ∙ found.layer in
+        let peels : option_and_then (peeled (outer_seed q (place + 1))) (inside q (submission q c.number) (place + 1 - 1)) ≡ Some
+        (get_or (own_layer_seeds c shuffle 2) place [], found.next) =
+        ap (option_and_then (peeled (outer_seed q (place + 1)))) opened
+        ∙ ap (λ (k : ℕ). peeled (get_or (outer_seeds q) k []) found.body) back ∙ found.layer in
         let few : place < (shape_in c).members = omega (arith, lt, ap (λ (s : Shape). s.members) is.shape) in
         let seed : get_or (own_layer_seeds c shuffle 2) place [] ≡ own_layer_seed q shuffle c.number (place + 1) =
         seeds_are_by_layer (own_opening c shuffle 2) c.round shuffle 2 c.number (shape_in c).members place few

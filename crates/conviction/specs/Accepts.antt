@@ -98,15 +98,16 @@ abbrev pub post_listed : Transcript → ℕ → List ℕ
 post_listed t number = slice_index_or t.posts (number - 1) []
 
 -- a post of a member objects at a closing stage: its content is justified, and what it embeds has these contents
-pub record Objects (roster : Roster) (round stage : ℕ) (past : List (List ℕ)) (member : ℕ) (bytes : List ℕ) (content : Content) : Type 0 where
-  pub file : IsPostFile roster round bytes content
-  pub sender : content.header.sender ≡ member
-  pub at : content.header.stage ≡ stage
-  pub dissents : IsTrue (is_dissent content.body)
-  pub justified : IsTrue (is_content_justified roster round content)
-  pub posts : List Post
-  pub embeds : posts_in_content roster round content ≡ Ok posts
-  pub contents : contents_of posts ≡ past
+pub record Objects (roster : Roster) (round stage : ℕ) (past : List (List ℕ)) (member : ℕ) (bytes : List ℕ) (content : Content) : Type 0
+  where
+    pub file : IsPostFile roster round bytes content
+    pub sender : content.header.sender ≡ member
+    pub at : content.header.stage ≡ stage
+    pub dissents : IsTrue (is_dissent content.body)
+    pub justified : IsTrue (is_content_justified roster round content)
+    pub posts : List Post
+    pub embeds : posts_in_content roster round content ≡ Ok posts
+    pub contents : contents_of posts ≡ past
 
 -- what members show who said these contents at a stage of a kind: at the end of a shuffle each shows its part, and
 -- elsewhere nobody shows anything

@@ -84,5 +84,6 @@ ReplayNotOwn = (run : Run) (q : Inquiry) (strings : List (List ℕ)) (fault : Fa
 -- the posts that are listed of the slots before the pads have the contents that the run of the accused kept there
 abbrev pub PadSameLog : Type 0
 PadSameLog = (run : Run) (runs : List Run) (t : Transcript) → Contains runs run → OneRun t run → IsTranscript (shape_in run.config) t →
-    IsBytes (transcript_spelling t) → NoneCollide run.config.roster runs (transcript_spelling t) → (shown : ShowsBadPad run.config.roster t) →
+    IsBytes (transcript_spelling t) → NoneCollide run.config.roster runs (transcript_spelling t)
+    → (shown : ShowsBadPad run.config.roster t) →
     (posts : List Post) × (before run.log (pad_stage (shape_in run.config)) ≡ Some posts) × (contents_of shown.log ≡ contents_of posts)

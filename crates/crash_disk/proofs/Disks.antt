@@ -14,7 +14,8 @@ use Rattle.crash_disk.specs.Memory.{Contents, DiskState, IsImage, LeftSince, May
 use Rattle.crash_disk.proofs.Overwrites.{overwritten_torn}
 use Rattle.crash_disk.proofs.Moments.{torn_nowhere}
 
-pub after_steps-push : (c : Contents) (steps : List Step) (step : Step) → after_steps c (steps ++ step ∷ []) ≡ after_step (after_steps c steps) step
+pub after_steps-push : (c : Contents) (steps : List Step) (step : Step)
+    → after_steps c (steps ++ step ∷ []) ≡ after_step (after_steps c steps) step
 after_steps-push c [] step = refl
 after_steps-push c (s ∷ steps) step = after_steps-push (after_step c s) steps step
 
@@ -32,7 +33,8 @@ file-push first steps step =
 pub fits_place : (size at n : ℕ) (b : Bool) → b ≡ fits size at n → b ≡ true → at ≤ size
 fits_place size at n b is told = grind (arith, nat_tests)
 
-pub no_step_fails : (disk : DiskState) (ready : Bool) → fails_look disk ready ≡ false → length disk.steps < disk.room → fails_step disk ready ≡ false
+pub no_step_fails : (disk : DiskState) (ready : Bool) → fails_look disk ready ≡ false → length disk.steps < disk.room
+    → fails_step disk ready ≡ false
 no_step_fails disk ready any room = by_case (fails_look disk ready) any
   where
     by_case : (b : Bool) → b ≡ false → (b || nat_le disk.room (length disk.steps)) ≡ false
@@ -41,10 +43,26 @@ no_step_fails disk ready any room = by_case (fails_look disk ready) any
 
 -- a disk that did a step
 pub stepped : (fails : Bool) (old mid new : DiskState) (step : Step) → fails ≡ false → mid ≡ after_look old
-    → new ≡ record { first = mid.first; steps = mid.steps ++ step ∷ []; room = mid.room; plan = mid.plan; passing = mid.passing; naming = mid.naming } → new ≡ after_call fails old step
+    → new ≡ record {
+      first = mid.first;
+      steps = mid.steps ++ step ∷ [];
+      room = mid.room;
+      plan = mid.plan;
+      passing = mid.passing;
+      naming =
+          mid.naming;
+    } → new ≡ after_call fails old step
 stepped fails old mid new step passes counted pushed =
     let done : new ≡ after_doing old step =
-    pushed ∙ ap (λ (d : DiskState). let e : DiskState = record { first = d.first; steps = d.steps ++ step ∷ []; room = d.room; plan = d.plan; passing = d.passing; naming = d.naming } in e) counted in
+    pushed ∙ ap (λ (d : DiskState). let e : DiskState = record {
+      first = d.first;
+      steps = d.steps
+          ++ step ∷ [];
+      room = d.room;
+      plan = d.plan;
+      passing = d.passing;
+      naming = d.naming;
+    } in e) counted in
     subst (λ (b : Bool). new ≡ after_call b old step) (sym passes) done
 
 -- ---- time
@@ -58,11 +76,13 @@ Since first steps start image =
     AfterSteps first steps image ⊎ ((count : ℕ) × (start ≤ count) × (count < length steps) × AfterSteps first (take count steps) image)
 
 elapses_push : (first : List ℕ) (steps : List Step) (step : Step)
-    → Elapses (length steps) (length (steps ++ step ∷ [])) (Since first steps) (Since first (steps ++ step ∷ [])) (AfterSteps first (steps ++ step ∷ []))
+    → Elapses (length steps) (length (steps ++ step ∷ [])) (Since first steps) (Since first (steps ++ step ∷ []))
+    (AfterSteps first (steps ++ step ∷ []))
 elapses_push first steps step = record {
   later = omega (arith, length-append steps (step ∷ []));
   nothing_else = λ start image until left. ⊎_elim (λ now. inr now) (λ had. inl (earlier start image until had.0 had.1 had.2 had.3)) left;
-  keeps = λ start image until left. inr (⊎_elim (λ now. last start image until now) (λ had. before start image had.0 had.1 had.2 had.3) left);
+  keeps = λ start image until left. inr (⊎_elim (λ now. last start image until now) (λ had. before start image had.0 had.1 had.2 had.3)
+      left);
 }
   where
     front : (count : ℕ) → count ≤ length steps → take count (steps ++ step ∷ []) ≡ take count steps
@@ -73,10 +93,12 @@ elapses_push first steps step = record {
     earlier start image until count from below left =
         let size = length-append steps (step ∷ []) in
         let within : count ≤ length steps = omega (arith, size, below) in
-        let was : AfterSteps first (take count steps) image = subst (λ (l : List Step). AfterSteps first l image) (front count within) left in
+        let was : AfterSteps first (take count steps) image = subst (λ (l : List Step). AfterSteps first l image) (front count within) left
+        in
         ⊎_elim (λ lt. inr (count, from, lt, was)) (λ ge. inl (whole count image within ge was)) (cases_lt count (length steps))
       where
-        whole : (count : ℕ) (image : List ℕ) → count ≤ length steps → length steps ≤ count → AfterSteps first (take count steps) image → AfterSteps first steps image
+        whole : (count : ℕ) (image : List ℕ) → count ≤ length steps → length steps ≤ count → AfterSteps first (take count steps) image
+            → AfterSteps first steps image
         whole count image within ge was =
             let e : count ≡ length steps = omega arith in
             subst (λ (l : List Step). AfterSteps first l image) (ap (λ (n : ℕ). take n steps) e ∙ take-length steps) was
@@ -85,14 +107,24 @@ elapses_push first steps step = record {
         → (count : ℕ) × (start ≤ count) × (count < length (steps ++ step ∷ [])) × AfterSteps first (take count (steps ++ step ∷ [])) image
     last start image until now =
         let size = length-append steps (step ∷ []) in
-        let within : length steps ≤ length steps = omega arith in
-        (length steps, until, omega (arith, size), subst (λ (l : List Step). AfterSteps first l image) (sym (front (length steps) within ∙ take-length steps)) now)
+        let within : length steps ≤ length steps = omega arith in (
+          length steps,
+          until,
+          omega (arith, size),
+          subst (λ (l : List Step). AfterSteps first l image)
+              (sym (front (length steps) within ∙ take-length steps)) now,
+        )
 
     before : (start : ℕ) (image : List ℕ) (count : ℕ) → start ≤ count → count < length steps → AfterSteps first (take count steps) image
         → (count : ℕ) × (start ≤ count) × (count < length (steps ++ step ∷ [])) × AfterSteps first (take count (steps ++ step ∷ [])) image
     before start image count from below left =
-        let size = length-append steps (step ∷ []) in
-        (count, from, omega (arith, size, below), subst (λ (l : List Step). AfterSteps first l image) (sym (front count (omega (arith, below)))) left)
+        let size = length-append steps (step ∷ []) in (
+          count,
+          from,
+          omega (arith, size, below),
+          subst (λ (l : List Step). AfterSteps first l image)
+              (sym (front count (omega (arith, below)))) left,
+        )
 
 -- what a call leaves of time
 pub record Passes (old new : DiskState) : Type 0 where
@@ -100,7 +132,11 @@ pub record Passes (old new : DiskState) : Type 0 where
 
 elapses_still : (disk : DiskState) → Elapses (moment_of disk) (moment_of disk) (LeftSince disk) (LeftSince disk) (MayLeave disk)
 unfolding file_of LeftSince MayLeave moment_of
-elapses_still disk = record { later = omega arith; nothing_else = λ start image until left. inl left; keeps = λ start image until left. left }
+elapses_still disk = record {
+  later = omega arith;
+  nothing_else = λ start image until left. inl left;
+  keeps = λ start image until left. left;
+}
 
 pub passes_call : (fails : Bool) (old new : DiskState) (step : Step) → new ≡ after_call fails old step → Passes old new
 unfolding file_of LeftSince MayLeave moment_of
@@ -140,7 +176,8 @@ pub record Syncs (answer : DiskAnswer) (old new : DiskState) : Type 0 where
   pub kept : file_of new ≡ file_of old
   pub images : (image : List ℕ) → MayLeave new image → MayLeave old image
 
-pub syncs : (fails : Bool) (answer : DiskAnswer) (old new : DiskState) → answer ≡ answer_of fails → new ≡ after_call fails old Synced → Syncs answer old new
+pub syncs : (fails : Bool) (answer : DiskAnswer) (old new : DiskState) → answer ≡ answer_of fails → new ≡ after_call fails old Synced
+    → Syncs answer old new
 unfolding file_of LeftSince MayLeave moment_of
 syncs true answer old new told is =
     subst (Syncs answer old) (sym is) record { durable = λ done. absurd (cc); kept = refl; images = λ image left. left }
@@ -162,7 +199,8 @@ pub record Overwrites (answer : DiskAnswer) (old new : DiskState) (at : ℕ) (by
   pub images : ImagesTear (MayLeave old) (MayLeave new) at (length bytes)
 
 pub overwrites : (fails : Bool) (answer : DiskAnswer) (old new : DiskState) (at : ℕ) (bytes : List ℕ)
-    → answer ≡ answer_of fails → new ≡ after_call fails old (write_step at bytes) → (fails ≡ false → at ≤ length (file_of old)) → Overwrites answer old new at bytes
+    → answer ≡ answer_of fails → new ≡ after_call fails old (write_step at bytes) → (fails ≡ false → at ≤ length (file_of old))
+    → Overwrites answer old new at bytes
 unfolding file_of LeftSince MayLeave moment_of
 overwrites true answer old new at bytes told is within =
     subst (λ (d : DiskState). Overwrites answer old d at bytes) (sym is) record {
@@ -174,7 +212,8 @@ overwrites false answer old new at bytes told is within =
     subst (λ (d : DiskState). Overwrites answer old d at bytes) (sym is) record {
       written = λ done. (within refl, ap (λ (l : List ℕ). Some l) file_is);
       torn = λ failed. absurd (cc);
-      images = λ image left. torn image (subst (λ (c : Contents). IsImage c image) (after_steps-push (synced old.first) old.steps (write_step at bytes)) left);
+      images = λ image left. torn image (subst (λ (c : Contents). IsImage c image)
+          (after_steps-push (synced old.first) old.steps (write_step at bytes)) left);
     }
   where
     file_is : file_of (after_doing old (write_step at bytes)) ≡ overwritten (file_of old) at bytes
@@ -185,6 +224,7 @@ overwrites false answer old new at bytes told is within =
     torn image (inl now) = (
       file_of old,
       inl refl,
-      subst (IsTorn (file_of old) at (length bytes)) (sym (now ∙ ap (overwritten (file_of old) at) (step_bytes bytes))) (overwritten_torn (file_of old) at bytes (within refl)),
+      subst (IsTorn (file_of old) at (length bytes)) (sym (now ∙ ap (overwritten (file_of old) at) (step_bytes bytes)))
+          (overwritten_torn (file_of old) at bytes (within refl)),
     )
     torn image (inr had) = (had.0, inr had.1, subst (λ (n : ℕ). IsTorn had.0 at n image) (ap length (step_bytes bytes)) had.2)

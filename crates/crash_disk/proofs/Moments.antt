@@ -6,7 +6,8 @@ pub torn_nowhere : (file : List ℕ) (at n : ℕ) → IsTorn file at n file
 torn_nowhere file at n = record { before = refl; after = refl; no_shorter = omega arith; no_longer = omega arith }
 
 -- a write to a file that is on the disk
-pub torn_only : (old new : List ℕ → Type 0) (file : List ℕ) (at n : ℕ) → Only file old → ImagesTear old new at n → Every new (IsTorn file at n)
+pub torn_only : (old new : List ℕ → Type 0) (file : List ℕ) (at n : ℕ) → Only file old → ImagesTear old new at n
+    → Every new (IsTorn file at n)
 torn_only old new file at n only tears image left =
     let from = tears image left in
     subst (λ (l : List ℕ). IsTorn l at n image) (only from.0 from.1) from.2
@@ -23,12 +24,14 @@ module _ {D : Type 0} (may_leave : D → List ℕ → Type 0) (moment : D → �
 
   -- one call more
   pub goes_on : (old mid new : D) (P : List ℕ → Type 0) → LeavesOnly moment left_since old mid P
-      → Elapses (moment mid) (moment new) (left_since mid) (left_since new) (may_leave new) → Every (may_leave new) P → LeavesOnly moment left_since old new P
+      → Elapses (moment mid) (moment new) (left_since mid) (left_since new) (may_leave new) → Every (may_leave new) P
+      → LeavesOnly moment left_since old new P
   goes_on old mid new P so_far time here = record {
     later = omega (arith, so_far.later, time.later);
     each = λ image left. ⊎_elim (so_far.each image) (here image) (time.nothing_else (moment old) image so_far.later left);
     before = λ start image until left.
-        ⊎_elim (so_far.before start image until) (λ now. inr (here image now)) (time.nothing_else start image (omega (arith, until, so_far.later)) left);
+        ⊎_elim (so_far.before start image until) (λ now. inr (here image now))
+        (time.nothing_else start image (omega (arith, until, so_far.later)) left);
   }
 
   -- a run behind another

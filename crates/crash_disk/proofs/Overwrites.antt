@@ -95,7 +95,8 @@ drop-after file at bytes k after within =
     ∙ ap (λ (m : ℕ). drop m file) back
 
 -- what is written as a whole is written as far as it goes
-pub overwritten_torn : (file : List ℕ) (at : ℕ) (bytes : List ℕ) → at ≤ length file → IsTorn file at (length bytes) (overwritten file at bytes)
+pub overwritten_torn : (file : List ℕ) (at : ℕ) (bytes : List ℕ) → at ≤ length file
+    → IsTorn file at (length bytes) (overwritten file at bytes)
 overwritten_torn file at bytes within =
     let size = length-overwritten file at bytes within in
     record {

@@ -21,7 +21,8 @@ images_synced file images is =
     subst (AreImagesOf (synced file)) (sym is) record { durable = refl; file = refl; ones = refl; torn = refl; alike = refl }
 
 -- one step more
-pub images_step : (c : Contents) (images : Images) (step : Step) → AreImagesOf c images → StepFits images.file step → AreImagesOf (after_step c step) (after_step_of images step)
+pub images_step : (c : Contents) (images : Images) (step : Step) → AreImagesOf c images → StepFits images.file step
+    → AreImagesOf (after_step c step) (after_step_of images step)
 images_step c images (Wrote at size bytes) are fits =
     let n : length (take size bytes) ≡ size = length-take-le size bytes (omega (arith, fits.1, fits.2)) in
     let ones : length (replicate {A = ℕ} size 255) ≡ size = length-replicate size 255 in
@@ -39,13 +40,23 @@ images_step c images (Wrote at size bytes) are fits =
             (overwritten_torn images.ones at (replicate size 255) place),
       );
       alike =
-          omega (arith, n, ones, are.alike, length-overwritten images.ones at (replicate size 255) place, length-overwritten images.file at (take size bytes) fits.0);
+          omega (
+            arith,
+            n,
+            ones,
+            are.alike,
+            length-overwritten images.ones at (replicate size 255) place,
+            length-overwritten images.file at
+                (take size bytes) fits.0,
+          );
     }
 images_step c images Synced are fits = record { durable = are.file; file = are.file; ones = are.file; torn = are.file; alike = refl }
 images_step c images Emptied are fits = record { durable = refl; file = refl; ones = refl; torn = refl; alike = refl }
 
-pub images_push : (first : List ℕ) (steps all : List Step) (step : Step) (images now : Images) → AreImagesOf (after_steps (synced first) steps) images
-    → StepFits images.file step → now ≡ after_step_of images step → all ≡ steps ++ step ∷ [] → AreImagesOf (after_steps (synced first) all) now
+pub images_push : (first : List ℕ) (steps all : List Step) (step : Step) (images now : Images)
+    → AreImagesOf (after_steps (synced first) steps) images
+    → StepFits images.file step → now ≡ after_step_of images step → all ≡ steps ++ step ∷ []
+    → AreImagesOf (after_steps (synced first) all) now
 images_push first steps all step images now are fits is pushed =
     let c : Contents = after_steps (synced first) steps in
     subst (λ (l : List Step). AreImagesOf (after_steps (synced first) l) now) (sym pushed)
@@ -62,7 +73,8 @@ torn_itself file [] = refl
 torn_itself file (range ∷ earlier) = (file, torn_itself file earlier, torn_nowhere file range.at (length range.bytes))
 
 -- what is picked may be left
-pub picked_left : (disk : DiskState) (images : Images) (pick : Pick) → AreImagesOf (contents_of disk) images → MayLeave disk (image_of disk pick)
+pub picked_left : (disk : DiskState) (images : Images) (pick : Pick) → AreImagesOf (contents_of disk) images
+    → MayLeave disk (image_of disk pick)
 unfolding MayLeave image_of
 picked_left disk images Old are = inr (torn_itself (contents_of disk).durable (contents_of disk).pending)
 picked_left disk images New are = inl refl
@@ -72,12 +84,14 @@ pub file_shown : (disk : DiskState) (images : Images) → AreImagesOf (contents_
 unfolding file_of
 file_shown disk images are = are.file
 
-pub image_shown : (disk : DiskState) (images : Images) (pick : Pick) → AreImagesOf (contents_of disk) images → image_in images pick ≡ image_of disk pick
+pub image_shown : (disk : DiskState) (images : Images) (pick : Pick) → AreImagesOf (contents_of disk) images
+    → image_in images pick ≡ image_of disk pick
 unfolding image_of
 image_shown disk images pick are = picked_is (contents_of disk) images pick are
 
 -- a step that fits still does once the call is counted
-pub fits_still : (old mid view : DiskState) (images : Images) (step : Step) → AreImagesOf (contents_of view) images → view ≡ mid → mid ≡ after_look old
+pub fits_still : (old mid view : DiskState) (images : Images) (step : Step) → AreImagesOf (contents_of view) images → view ≡ mid
+    → mid ≡ after_look old
     → StepFits (file_of old) step → StepFits images.file step
 unfolding file_of
 fits_still old mid view images step are seen counted fits =
@@ -89,7 +103,8 @@ pub wrote_is : (images : Images) (file ones : List ℕ) (step : Step) (at size :
     → ◌≡◌ {A = Images} record { durable = images.durable; file = file; ones = ones } (after_step_of images step)
 wrote_is images file ones step at size bytes is small wrote filled = rw (is, wrote, filled, take-replicate {X = ℕ} size 128 255 small) refl
 
-pub write_small : (file : List ℕ) (step : Step) (at size : ℕ) (bytes : List ℕ) → step ≡ Wrote at size bytes → StepFits file step → size ≤ 128
+pub write_small : (file : List ℕ) (step : Step) (at size : ℕ) (bytes : List ℕ) → step ≡ Wrote at size bytes → StepFits file step
+    → size ≤ 128
 write_small file step at size bytes is fits =
     let f : StepFits file (Wrote at size bytes) = subst (StepFits file) is fits in
     omega (arith, f.1)

@@ -60,11 +60,12 @@ pub record Elapses (before now : ℕ) (past since : ℕ → List ℕ → Type 0)
   pub keeps : (moment : ℕ) (image : List ℕ) → moment ≤ before → past moment image → since moment image
 
 -- a crash at any moment since the disk was `old` leaves an image that has P
-pub record LeavesOnly {D : Type 0} (moment : D → ℕ) (left_since : D → ℕ → List ℕ → Type 0) (old new : D) (P : List ℕ → Type 0) : Type 0 where
-  pub later : moment old ≤ moment new
-  pub each : Every (left_since new (moment old)) P
-  -- for what began earlier
-  pub before : (start : ℕ) (image : List ℕ) → start ≤ moment old → left_since new start image → left_since old start image ⊎ P image
+pub record LeavesOnly {D : Type 0} (moment : D → ℕ) (left_since : D → ℕ → List ℕ → Type 0) (old new : D) (P : List ℕ → Type 0) : Type 0
+  where
+    pub later : moment old ≤ moment new
+    pub each : Every (left_since new (moment old)) P
+    -- for what began earlier
+    pub before : (start : ℕ) (image : List ℕ) → start ≤ moment old → left_since new start image → left_since old start image ⊎ P image
 
 -- the same of a disk that told this file
 abbrev pub LeavesOf : {D : Type 0} (moment : D → ℕ) (left_since : D → ℕ → List ℕ → Type 0) (told : Option (List ℕ)) (old new : D)

@@ -107,7 +107,8 @@ moment_of disk = length disk.steps
 
 unfoldable pub LeftSince : DiskState → ℕ → List ℕ → Type 0
 LeftSince disk start image =
-    MayLeave disk image ⊎ ((count : ℕ) × (start ≤ count) × (count < length disk.steps) × IsImage (after_steps (synced disk.first) (take count disk.steps)) image)
+    MayLeave disk image ⊎ ((count : ℕ) × (start ≤ count) × (count < length disk.steps)
+    × IsImage (after_steps (synced disk.first) (take count disk.steps)) image)
 
 pub read_is_image : (disk : DiskState) → MayLeave disk (file_of disk)
 unfolding file_of MayLeave
@@ -172,13 +173,37 @@ fails_choice disk name fresh = not (allows disk.naming name fresh) || fails_chan
 
 -- the disk after a call that did nothing to the file, after one that failed, and after one that was this step
 abbrev pub after_look : DiskState → DiskState
-after_look disk = record { first = disk.first; steps = disk.steps; room = disk.room; plan = call_counted disk.plan; passing = one_less disk.passing; naming = disk.naming }
+after_look disk = record {
+  first = disk.first;
+  steps = disk.steps;
+  room = disk.room;
+  plan = call_counted disk.plan;
+  passing = one_less
+      disk.passing;
+  naming = disk.naming;
+}
 
 abbrev pub after_fault : DiskState → DiskState
-after_fault disk = record { first = disk.first; steps = disk.steps; room = disk.room; plan = fault_counted (call_counted disk.plan); passing = one_less disk.passing; naming = disk.naming }
+after_fault disk = record {
+  first = disk.first;
+  steps = disk.steps;
+  room = disk.room;
+  plan = fault_counted (call_counted disk.plan);
+  passing
+      = one_less disk.passing;
+  naming = disk.naming;
+}
 
 abbrev pub after_doing : DiskState → Step → DiskState
-after_doing disk step = record { first = disk.first; steps = disk.steps ++ step ∷ []; room = disk.room; plan = call_counted disk.plan; passing = one_less disk.passing; naming = disk.naming }
+after_doing disk step = record {
+  first = disk.first;
+  steps = disk.steps
+      ++ step ∷ [];
+  room = disk.room;
+  plan = call_counted disk.plan;
+  passing = one_less disk.passing;
+  naming = disk.naming;
+}
 
 -- a call that does nothing to the file, and one that does this step, where it fails and where it does not
 abbrev pub looks : (fails : Bool) → DiskState → DiskState

@@ -50,4 +50,5 @@ IsOfChosen told file = IfSome told (λ names. IfSome names.chosen (λ name. (nam
 
 -- what stood under any name stands there still
 abbrev pub StoodStays : Option Names → Option Names → Type 0
-StoodStays told now = IfSome told (λ before. IsSomeAnd now (λ now. (name : List ℕ) → IsSome (before.held name) → now.held name ≡ before.held name))
+StoodStays told now = IfSome told (λ before. IsSomeAnd now (λ now. (name : List ℕ) → IsSome (before.held name)
+    → now.held name ≡ before.held name))

@@ -1,8 +1,10 @@
 //! Evidence: votes of member 2 of a group of two in one slot, the transcripts that list them, and posts to be shown.
 
-use super::*;
 use crate::tests::{NOTHING_FAILS, put, run_words};
 use lms_tree::{LmsSecret, MadeHeight, OtsType};
+use offline_commands::{Files, MemoryFiles};
+use std::alloc::{AllocError, Global};
+use std::thread::Threads;
 use wire_core::{Mem, Register, Tag, put_bytes, put_u8, put_u32, put_u64};
 
 // The key of H5 and W4 that is made from a member's number.

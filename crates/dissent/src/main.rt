@@ -2,39 +2,21 @@
 //! key files, and makes the file of a roster from one in TOML.
 #![tactic(auto)]
 
-mod commands;
-mod delivery;
 #[cfg(test)]
 mod evidence;
-mod host;
-mod host_disk;
-mod interfaces;
-mod memory;
-mod offline;
-mod show;
-mod status;
-mod stored;
 #[cfg(test)]
 mod tests;
-mod words;
 
-pub use commands::{POST_FILE_LIMIT, ROSTER_LIMIT, TOML_LIMIT, TRANSCRIPT_LIMIT};
-use delivery::print;
-pub use host::{HostFiles, WriterSink};
-pub use host_disk::{HostDisk, Lock};
-pub use interfaces::{FileRead, FileWrite, Files, Sink, SinkAnswer};
-pub use memory::{MemoryFiles, MemorySink};
-pub use offline::run_offline;
+use host_disk::{HostDisk, Lock};
+use offline_commands::{HostFiles, Sink, Status, WriterSink, is_keygen, print, run_offline};
 use rand::TryRng;
 use rand::rngs::SysRng;
-pub use status::Status;
 use std::alloc::{AllocError, Global};
 use std::process::ExitCode;
 use std::random::RandomSource;
 use std::rt::{Env, Runtime};
 use std::thread::Threads;
 use std::{env, io};
-pub use words::{Command, is_keygen, read_words};
 
 fn main(rt: HostRuntime) -> ExitCode {
     ExitCode::from(run(&rt).number())

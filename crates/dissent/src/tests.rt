@@ -1,10 +1,17 @@
 //! Commands over files and sinks in memory, and the adapters over real files.
 
-use super::*;
+use crate::draw;
 use crate::evidence::first_other_line;
-use crash_disk::{Disk, DiskAnswer, DiskRead, MemoryDisk};
-use std::alloc::Global;
-use std::os::unix::fs::PermissionsExt;
+use crash_disk::{Disk, MemoryDisk};
+use host_disk::{HostDisk, Lock};
+use offline_commands::{
+    FileRead, FileWrite, Files, HostFiles, MemoryFiles, MemorySink, Sink, SinkAnswer, WriterSink,
+    run_offline,
+};
+use std::alloc::{AllocError, Global};
+use std::io;
+use std::random::RandomSource;
+use std::rt::Runtime;
 use std::test::Fail;
 use std::thread::Threads;
 
@@ -445,34 +452,6 @@ where
 }
 
 #[test]
-fn a_real_file_is_a_disk(rt: HostRuntime) -> Result<(), Fail> {
-    let alloc = rt.alloc();
-    let name = String::from_str(alloc, "dissent-disk-test")?;
-    let _ = std::fs::remove_file(&rt, name.as_str());
-    let mut disk = HostDisk::new(&rt);
-    assert_eq!(rt; disk.sync(), DiskAnswer::Failed);
-    assert_eq!(rt; disk.choose(&name, true), DiskAnswer::Done);
-    let mode = std::fs::metadata(&rt, name.as_str())?.permissions().mode();
-    assert_eq!(rt; mode & 0o777, 0o600);
-    // A second opener can't choose the file while it is chosen.
-    let mut other = HostDisk::new(&rt);
-    assert_eq!(rt; other.choose(&name, false), DiskAnswer::Failed);
-    assert_eq!(rt; disk.write_at(0, b"a disk"), DiskAnswer::Done);
-    assert_eq!(rt; disk.write_at(2, b"DISK"), DiskAnswer::Done);
-    assert_eq!(rt; disk.sync(), DiskAnswer::Done);
-    let mut read = [0; 8];
-    assert_eq!(rt; disk.read_at(0, &mut read), DiskRead::Read { taken: 6 });
-    assert_eq!(rt; &read, b"a DISK\0\0");
-    assert_eq!(rt; disk.read_at(6, &mut read), DiskRead::Read { taken: 0 });
-    assert_eq!(rt; disk.choose(&name, true), DiskAnswer::Failed);
-    assert_eq!(rt; disk.read_at(0, &mut read), DiskRead::Failed);
-    assert_eq!(rt; disk.choose(&name, false), DiskAnswer::Done);
-    assert_eq!(rt; disk.read_at(2, &mut read), DiskRead::Read { taken: 4 });
-    std::fs::remove_file(&rt, name.as_str())?;
-    Ok(())
-}
-
-#[test]
 fn the_standard_output_is_written(rt: HostRuntime) -> Result<(), Fail> {
     let piece = vec![in rt.alloc(); b'.'; 1]?;
     assert_eq!(rt;
@@ -482,13 +461,16 @@ fn the_standard_output_is_written(rt: HostRuntime) -> Result<(), Fail> {
     Ok(())
 }
 
-// A source of ones.
-struct Ones;
+// A source of one byte, again and again.
+#[derive(Drop)]
+struct Always {
+    byte: u8,
+}
 
-impl RandomSource for Ones {
+impl RandomSource for Always {
     fn fill_bytes(&self, bytes: &mut [u8]) -> io::Result<()> {
         for byte in bytes {
-            *byte = 1;
+            *byte = self.byte;
         }
         Ok(())
     }
@@ -496,7 +478,18 @@ impl RandomSource for Ones {
 
 #[test]
 fn all_fresh_bytes_are_drawn(rt: HostRuntime) {
-    let mut fresh = [0; 32];
-    assert!(rt; draw(&Ones, &mut fresh).is_ok());
-    assert!(rt; fresh == [1; 32]);
+    for byte in [1, 7, 255] {
+        let mut fresh = [0; 32];
+        assert!(rt; draw(&Always { byte }, &mut fresh).is_ok());
+        assert!(rt; fresh == [byte; 32]);
+    }
+}
+
+#[test]
+fn two_draws_of_the_system_differ(rt: HostRuntime) {
+    let mut first = [0; 32];
+    let mut second = [0; 32];
+    assert!(rt; draw(&rt, &mut first).is_ok());
+    assert!(rt; draw(&rt, &mut second).is_ok());
+    assert!(rt; first != second);
 }

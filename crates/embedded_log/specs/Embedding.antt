@@ -56,7 +56,11 @@ pub record KeepsEmbedded (roster : Roster) (round : ℕ) (content : Content) (lo
   pub posts : List Post
   pub found : posts_in_content roster round content ≡ Ok posts
   pub long : length posts ≡ length (posts_embedded content.body)
-  pub keeps : log ≡ record { shape = shape_of_roster roster; posts = places_of (first_embedded (shape_of_roster roster) content) (slot_count (shape_of_roster roster)) posts }
+  pub keeps : log ≡ record {
+    shape = shape_of_roster roster;
+    posts = places_of (first_embedded (shape_of_roster roster) content)
+        (slot_count (shape_of_roster roster)) posts;
+  }
 
 -- a log is that of what its content embeds, and all that it keeps is of the grammar and stands in its slots
 pub record IsKnown (roster : Roster) (round : ℕ) (known : KnownLog) : Type 0 where

@@ -36,14 +36,16 @@ take-get (y ∷ ys) (suc n) (suc k) x e = let more = take-get ys n k x e in (ome
 
 -- the slots of a part are those with a number in it
 part-slots : (shape : Shape) (a b : ℕ) (slot : Slot) → Contains (slice_range (slots_of shape) a b) slot
-    → IsTrue (is_slot shape slot.stage slot.sender) × (a ≤ slot_number shape slot.stage slot.sender) × (slot_number shape slot.stage slot.sender < b)
+    → IsTrue (is_slot shape slot.stage slot.sender) × (a ≤ slot_number shape slot.stage slot.sender)
+    × (slot_number shape slot.stage slot.sender < b)
 part-slots shape a b slot there =
     let at = contains-get (slice_range (slots_of shape) a b) slot there in
     let front = take-get (drop a (slots_of shape)) (b - a) at.0 slot at.1 in
     let found = slot_at-is shape (a + at.0) slot (sym (get_drop (slots_of shape) a at.0) ∙ front.1) in
     (found.0, omega (arith, found.1), omega (arith, found.1, front.0))
 
-slots-part : (shape : Shape) (a b : ℕ) (slot : Slot) → is_slot shape slot.stage slot.sender ≡ true → a ≤ slot_number shape slot.stage slot.sender → slot_number shape slot.stage slot.sender < b
+slots-part : (shape : Shape) (a b : ℕ) (slot : Slot) → is_slot shape slot.stage slot.sender ≡ true
+    → a ≤ slot_number shape slot.stage slot.sender → slot_number shape slot.stage slot.sender < b
     → Contains (slice_range (slots_of shape) a b) slot
 slots-part shape a b slot speaks least below =
     let number : ℕ = slot_number shape slot.stage slot.sender in
@@ -57,7 +59,8 @@ slots-part shape a b slot speaks least below =
 -- ---- by the stage
 
 -- a slot that comes before a stage's slots is of an earlier stage
-earlier-number : (shape : Shape) (slot : Slot) (stage : ℕ) → is_slot shape slot.stage slot.sender ≡ true → slot_number shape slot.stage slot.sender < slots_before shape stage → slot.stage < stage
+earlier-number : (shape : Shape) (slot : Slot) (stage : ℕ) → is_slot shape slot.stage slot.sender ≡ true
+    → slot_number shape slot.stage slot.sender < slots_before shape stage → slot.stage < stage
 earlier-number shape slot stage speaks below =
     let within = slot_number-within shape slot.stage slot.sender speaks in
     elim (cases_lt slot.stage stage) [
@@ -65,7 +68,8 @@ earlier-number shape slot stage speaks below =
       | inr le ↦ absurd (omega (arith, within.0, within.1, slots_before-rises shape stage slot.stage le))
     ]
 
-later-number : (shape : Shape) (slot : Slot) (stage : ℕ) → is_slot shape slot.stage slot.sender ≡ true → slots_before shape stage ≤ slot_number shape slot.stage slot.sender → stage ≤ slot.stage
+later-number : (shape : Shape) (slot : Slot) (stage : ℕ) → is_slot shape slot.stage slot.sender ≡ true
+    → slots_before shape stage ≤ slot_number shape slot.stage slot.sender → stage ≤ slot.stage
 later-number shape slot stage speaks least =
     let within = slot_number-within shape slot.stage slot.sender speaks in
     elim (cases_lt slot.stage stage) [
@@ -74,14 +78,16 @@ later-number shape slot stage speaks least =
     ]
 
 pub assent-slots : (shape : Shape) (content : Content) (slot : Slot) → IsClosing shape content → IsTrue (is_assent content.body)
-    → Contains (slots_embedded shape content) slot ↔ (IsTrue (is_slot shape slot.stage slot.sender) × (slot.stage + 1 ≡ content.header.stage))
+    → Contains (slots_embedded shape content) slot ↔ (IsTrue (is_slot shape slot.stage slot.sender)
+    × (slot.stage + 1 ≡ content.header.stage))
 assent-slots shape content slot closing assents =
     let least = (votes-before shape content closing).0 in
     let stage : ℕ = content.header.stage - 1 in
     let part : List Slot = slice_range (slots_of shape) (slots_before shape stage) (slots_before shape (stage + 1)) in
     let own : slots_embedded shape content ≡ part = cond-true (is_assent content.body) _ _ assents in (
       λ there.
-          let within = part-slots shape (slots_before shape stage) (slots_before shape (stage + 1)) slot (subst (λ (xs : List Slot). Contains xs slot) own there) in
+          let within = part-slots shape (slots_before shape stage) (slots_before shape (stage + 1)) slot
+          (subst (λ (xs : List Slot). Contains xs slot) own there) in
           let low = later-number shape slot stage within.0 within.1 in
           let high = earlier-number shape slot (stage + 1) within.0 within.2 in
           (within.0, omega (arith, low, high, least)),
@@ -91,7 +97,8 @@ assent-slots shape content slot closing assents =
           let first = ap (slots_before shape) same in
           let next = ap (λ (t : ℕ). slots_before shape (t + 1)) same in
           subst (λ (xs : List Slot). Contains xs slot) (sym own)
-          (slots-part shape (slots_before shape stage) (slots_before shape (stage + 1)) slot is.0 (omega (arith, within.0, first)) (omega (arith, within.1, next))),
+          (slots-part shape (slots_before shape stage) (slots_before shape (stage + 1)) slot is.0 (omega (arith, within.0, first))
+          (omega (arith, within.1, next))),
     )
 
 pub objection-slots : (shape : Shape) (content : Content) (slot : Slot) → is_assent content.body ≡ false
@@ -100,7 +107,8 @@ objection-slots shape content slot objects =
     let stage : ℕ = content.header.stage in
     let part : List Slot = slice_range (slots_of shape) 0 (slots_before shape stage) in
     let all : slots_before shape stage ≡ slots_before shape stage - 0 = omega arith in
-    let own : slots_embedded shape content ≡ take (slots_before shape stage) (slots_of shape) = cond-false (is_assent content.body) _ _ objects in
+    let own : slots_embedded shape content ≡ take (slots_before shape stage) (slots_of shape) = cond-false (is_assent content.body) _ _
+    objects in
     let front : slots_embedded shape content ≡ part = own ∙ ap (λ (k : ℕ). take k (slots_of shape)) all in (
       λ there.
           let within = part-slots shape 0 (slots_before shape stage) slot (subst (λ (xs : List Slot). Contains xs slot) front there) in
@@ -108,5 +116,6 @@ objection-slots shape content slot objects =
       λ is.
           let within = slot_number-within shape slot.stage slot.sender is.0 in
           subst (λ (xs : List Slot). Contains xs slot) (sym front)
-          (slots-part shape 0 (slots_before shape stage) slot is.0 (omega arith) (omega (arith, within.0, within.1, slots_before-rises shape (slot.stage + 1) stage (omega (arith, is.1))))),
+          (slots-part shape 0 (slots_before shape stage) slot is.0 (omega arith)
+          (omega (arith, within.0, within.1, slots_before-rises shape (slot.stage + 1) stage (omega (arith, is.1))))),
     )

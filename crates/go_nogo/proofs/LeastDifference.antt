@@ -24,7 +24,8 @@ kept-slot log slot post e =
     elim (cases_Bool (is_slot log.shape slot.stage slot.sender)) [
       | inl speaks_there ↦ speaks_there
       | inr silent ↦
-          let none : kept_in log slot ≡ None = cond-false (is_slot log.shape slot.stage slot.sender) (option_flatten (slice_get log.posts (slot_number log.shape slot.stage slot.sender))) None silent in
+          let none : kept_in log slot ≡ None = cond-false (is_slot log.shape slot.stage slot.sender)
+          (option_flatten (slice_get log.posts (slot_number log.shape slot.stage slot.sender))) None silent in
           absurd (nothing (kept_in log slot) post none e)
     ]
   where
@@ -36,19 +37,22 @@ kept-slot log slot post e =
 
 differ-found : (log other : Log) (slot : Slot) → Differ log other slot → differing log other slot ≡ Some slot
 differ-found log other slot differ =
-    let unlike : bytes_eq differ.post.content differ.other_post.content ≡ false = false_from_ne_true _ (λ same. differ.contents ((bytes_eq-Decides _ _).0 same)) in
+    let unlike : bytes_eq differ.post.content differ.other_post.content ≡ false = false_from_ne_true _
+    (λ same. differ.contents ((bytes_eq-Decides _ _).0 same)) in
     cond-true (are_different (kept_in log slot) (kept_in other slot)) (Some slot) None
     (ap (λ (o : Option Post). are_different o (kept_in other slot)) differ.kept
     ∙ ap (λ (o : Option Post). are_different (Some differ.post) o) differ.other_kept
     ∙ ap not unlike)
 
-posts-differ : (log other : Log) (slot : Slot) (o p : Option Post) → kept_in log slot ≡ o → kept_in other slot ≡ p → are_different o p ≡ true → Differ log other slot
+posts-differ : (log other : Log) (slot : Slot) (o p : Option Post) → kept_in log slot ≡ o → kept_in other slot ≡ p
+    → are_different o p ≡ true → Differ log other slot
 posts-differ log other slot (Some post) (Some other_post) e e' is = record {
   post = post;
   other_post = other_post;
   kept = e;
   other_kept = e';
-  contents = λ same. both_ways (bytes_eq post.content other_post.content) (not-true (bytes_eq post.content other_post.content) is) ((bytes_eq-Decides post.content other_post.content).1 same);
+  contents = λ same. both_ways (bytes_eq post.content other_post.content) (not-true (bytes_eq post.content other_post.content) is)
+      ((bytes_eq-Decides post.content other_post.content).1 same);
 }
 posts-differ log other slot (Some post) None e e' is = absurd cc
 posts-differ log other slot None p e e' is = absurd cc
@@ -73,7 +77,8 @@ apart (Some y) x none some = absurd cc
 not-before : (log other : Log) (slot : Slot) → Differ log other slot → difference_at log other slot.stage ≡ None → ⊥
 not-before log other slot differ none =
     let bounds = slot-bounds log.shape slot.stage slot.sender (kept-slot log slot differ.post differ.kept) in
-    let each = first_below-each (λ place. differing log other (record { stage = slot.stage; sender = place + 1 })) log.shape.members none (slot.sender - 1) (omega (arith, bounds.1, bounds.2)) in
+    let each = first_below-each (λ place. differing log other (record { stage = slot.stage; sender = place + 1 })) log.shape.members none
+    (slot.sender - 1) (omega (arith, bounds.1, bounds.2)) in
     let same : slot.sender - 1 + 1 ≡ slot.sender = omega (arith, bounds.1) in
     let never = ap (λ (s : ℕ). differing log other (record { stage = slot.stage; sender = s })) same in
     let some = differ-found log other slot differ in
@@ -83,12 +88,14 @@ first-difference : (log other : Log) (found : Slot) → difference_of log other 
 first-difference log other found e =
     let at = first_below-found (difference_at log other) (stage_count log.shape) found e in
     let stage : ℕ = at.0 in
-    let place = first_below-found (λ place. differing log other (record { stage = stage; sender = place + 1 })) log.shape.members found at.2 in
+    let place = first_below-found (λ place. differing log other (record { stage = stage; sender = place + 1 })) log.shape.members found at.2
+    in
     let here : Slot = record { stage = stage; sender = place.0 + 1 } in
     let differ = found-differ log other here found place.2 in
     record {
       differ = subst (λ (s : Slot). Differ log other s) differ.0 differ.1;
-      first = subst (λ (s : Slot). (slot : Slot) → Differ log other slot → (s.stage < slot.stage) ⊎ ((s.stage ≡ slot.stage) × (s.sender ≤ slot.sender))) differ.0 (before stage place.0 at.3 place.3);
+      first = subst (λ (s : Slot). (slot : Slot) → Differ log other slot → (s.stage < slot.stage)
+          ⊎ ((s.stage ≡ slot.stage) × (s.sender ≤ slot.sender))) differ.0 (before stage place.0 at.3 place.3);
     }
   where
     before : (stage place : ℕ) → ((j : ℕ) → j < stage → difference_at log other j ≡ None)
@@ -115,11 +122,13 @@ first-difference log other found e =
             let bounds = slot-bounds log.shape slot.stage slot.sender (kept-slot log slot differ.post differ.kept) in
             let sender : slot.sender - 1 + 1 ≡ slot.sender = omega (arith, bounds.1) in
             let some = differ-found log other slot differ in
-            let there = ap (λ (s : ℕ). differing log other (record { stage = stage; sender = s })) sender ∙ ap (λ (t : ℕ). differing log other (record { stage = t; sender = slot.sender })) same in
+            let there = ap (λ (s : ℕ). differing log other (record { stage = stage; sender = s })) sender
+            ∙ ap (λ (t : ℕ). differing log other (record { stage = t; sender = slot.sender })) same in
             apart _ slot (sym there ∙ none (omega (arith, bounds.1, bounds.2))) some
 
 -- what the definition gives is the first of all, or there is none
-pub difference-is : (log other : Log) (o : Option Slot) → o ≡ difference_of log other → MatchOption o (HaveNoDifference log other) (λ slot. IsFirstDifference log other slot)
+pub difference-is : (log other : Log) (o : Option Slot) → o ≡ difference_of log other
+    → MatchOption o (HaveNoDifference log other) (λ slot. IsFirstDifference log other slot)
 difference-is log other None e = λ slot differ.
     let bounds = slot-bounds log.shape slot.stage slot.sender (kept-slot log slot differ.post differ.kept) in
     not-before log other slot differ (first_below-each (difference_at log other) (stage_count log.shape) (sym e) slot.stage bounds.0)

@@ -20,9 +20,11 @@ use Rattle.go_nogo.specs.Votes.{are_unanimous, votes_agree}
 use Rattle.go_nogo.proofs.Justification.{votes-before}
 
 -- the votes of a front that reaches to the closing stage
-votes_agree-front : (shape : Shape) (past : List (List ℕ)) (stage : ℕ) → 1 ≤ stage → votes_agree shape (take (slots_before shape stage) past) stage ≡ votes_agree shape past stage
+votes_agree-front : (shape : Shape) (past : List (List ℕ)) (stage : ℕ) → 1 ≤ stage
+    → votes_agree shape (take (slots_before shape stage) past) stage ≡ votes_agree shape past stage
 votes_agree-front shape past stage least =
-    ap (are_unanimous shape) (slice_range-take past (slots_before shape (stage - 1)) (slots_before shape (stage - 1 + 1)) (slots_before shape stage)
+    ap (are_unanimous shape) (slice_range-take past (slots_before shape (stage - 1)) (slots_before shape (stage - 1 + 1))
+    (slots_before shape stage)
     (slots_before-rises shape (stage - 1) (stage - 1 + 1) (omega arith)) (slots_before-rises shape (stage - 1 + 1) stage (omega arith)))
 
 -- what one that assents is asked for, and what another is asked for, over a past
@@ -42,13 +44,17 @@ objection_is shape past content objects least =
     let stage : ℕ = content.header.stage in
     let embedded : List (List ℕ) = embedded_of shape content past in
     let own : embedded ≡ take (slots_before shape stage) past = cond-false (is_assent content.body) _ _ objects in
-    cond-false (is_assent content.body) (are_unanimous shape embedded) (not (votes_agree shape embedded stage) && bytes_eq content.header.view (view_of shape embedded stage)) objects
+    cond-false (is_assent content.body) (are_unanimous shape embedded)
+    (not (votes_agree shape embedded stage) && bytes_eq content.header.view (view_of shape embedded stage)) objects
     ∙ ap (λ (p : List (List ℕ)). not (votes_agree shape p stage) && bytes_eq content.header.view (view_of shape p stage)) own
-    ∙ ap (λ (b : Bool). not b && bytes_eq content.header.view (view_of shape (take (slots_before shape stage) past) stage)) (votes_agree-front shape past stage least)
-    ∙ ap (λ (v : List ℕ). not (votes_agree shape past stage) && bytes_eq content.header.view v) (view_of-take shape past stage stage (omega arith))
+    ∙ ap (λ (b : Bool). not b && bytes_eq content.header.view (view_of shape (take (slots_before shape stage) past) stage))
+    (votes_agree-front shape past stage least)
+    ∙ ap (λ (v : List ℕ). not (votes_agree shape past stage) && bytes_eq content.header.view v)
+    (view_of-take shape past stage stage (omega arith))
 
 -- where it is justified, the votes of the past decide its kind
-pub one-kind : (shape : Shape) (past : List (List ℕ)) (content : Content) → IsClosing shape content → IsTrue (is_justified shape content (embedded_of shape content past))
+pub one-kind : (shape : Shape) (past : List (List ℕ)) (content : Content) → IsClosing shape content
+    → IsTrue (is_justified shape content (embedded_of shape content past))
     → is_assent content.body ≡ votes_agree shape past content.header.stage
 one-kind shape past content closing justified =
     let least = (votes-before shape content closing).0 in
@@ -60,8 +66,10 @@ one-kind shape past content closing justified =
     ]
 
 -- one of this kind that carries the view of the past is justified
-justified-own : (shape : Shape) (past : List (List ℕ)) (content : Content) → IsClosing shape content → content.header.view ≡ view_of shape past content.header.stage
-    → is_assent content.body ≡ votes_agree shape past content.header.stage → is_justified shape content (embedded_of shape content past) ≡ true
+justified-own : (shape : Shape) (past : List (List ℕ)) (content : Content) → IsClosing shape content
+    → content.header.view ≡ view_of shape past content.header.stage
+    → is_assent content.body ≡ votes_agree shape past content.header.stage
+    → is_justified shape content (embedded_of shape content past) ≡ true
 justified-own shape past content closing view kind =
     let least = (votes-before shape content closing).0 in
     elim (cases_Bool (is_assent content.body)) [
@@ -78,33 +86,45 @@ final-kind : (shape : Shape) (posts : List Post) (stage : ℕ) (inner_seed outer
 unfolding final_row
 final-kind shape posts stage inner_seed outer_seed outer_opening =
     elim (cases_Bool (votes_agree shape (contents_of posts) stage)) [
-      | inl agree ↦ ap is_assent (cond-true (votes_agree shape (contents_of posts) stage) (Reveal (written (posts_at shape posts (stage - 1))) inner_seed) (Dispute (written posts) outer_seed outer_opening) agree) ∙ sym agree
-      | inr differ ↦ ap is_assent (cond-false (votes_agree shape (contents_of posts) stage) (Reveal (written (posts_at shape posts (stage - 1))) inner_seed) (Dispute (written posts) outer_seed outer_opening) differ) ∙ sym differ
+      | inl agree ↦ ap is_assent (cond-true (votes_agree shape (contents_of posts) stage)
+          (Reveal (written (posts_at shape posts (stage - 1))) inner_seed) (Dispute (written posts) outer_seed outer_opening) agree)
+          ∙ sym agree
+      | inr differ ↦ ap is_assent (cond-false (votes_agree shape (contents_of posts) stage)
+          (Reveal (written (posts_at shape posts (stage - 1))) inner_seed) (Dispute (written posts) outer_seed outer_opening) differ)
+          ∙ sym differ
     ]
 
-confirm-kind : (shape : Shape) (posts : List Post) (stage : ℕ) → is_assent (confirm_row shape posts stage) ≡ votes_agree shape (contents_of posts) stage
+confirm-kind : (shape : Shape) (posts : List Post) (stage : ℕ) → is_assent (confirm_row shape posts stage) ≡ votes_agree shape
+    (contents_of posts) stage
 unfolding confirm_row
 confirm-kind shape posts stage =
     elim (cases_Bool (votes_agree shape (contents_of posts) stage)) [
-      | inl agree ↦ ap is_assent (cond-true (votes_agree shape (contents_of posts) stage) (Confirm (written (posts_at shape posts (stage - 1)))) (Differ (written posts)) agree) ∙ sym agree
-      | inr differ ↦ ap is_assent (cond-false (votes_agree shape (contents_of posts) stage) (Confirm (written (posts_at shape posts (stage - 1)))) (Differ (written posts)) differ) ∙ sym differ
+      | inl agree ↦ ap is_assent (cond-true (votes_agree shape (contents_of posts) stage)
+          (Confirm (written (posts_at shape posts (stage - 1)))) (Differ (written posts)) agree) ∙ sym agree
+      | inr differ ↦ ap is_assent (cond-false (votes_agree shape (contents_of posts) stage)
+          (Confirm (written (posts_at shape posts (stage - 1)))) (Differ (written posts)) differ) ∙ sym differ
     ]
 
 pub final-justified : (shape : Shape) (posts : List Post) (header : Header) (inner_seed outer_seed outer_opening : List ℕ)
-    → IsClosing shape (final_content shape posts header inner_seed outer_seed outer_opening) → header.view ≡ view_of shape (contents_of posts) header.stage
-    → IsTrue (is_justified shape (final_content shape posts header inner_seed outer_seed outer_opening) (embedded_of shape (final_content shape posts header inner_seed outer_seed outer_opening) (contents_of posts)))
+    → IsClosing shape (final_content shape posts header inner_seed outer_seed outer_opening)
+    → header.view ≡ view_of shape (contents_of posts) header.stage
+    → IsTrue (is_justified shape (final_content shape posts header inner_seed outer_seed outer_opening)
+    (embedded_of shape (final_content shape posts header inner_seed outer_seed outer_opening) (contents_of posts)))
 final-justified shape posts header inner_seed outer_seed outer_opening closing view =
-    justified-own shape (contents_of posts) (final_content shape posts header inner_seed outer_seed outer_opening) closing view (final-kind shape posts header.stage inner_seed outer_seed outer_opening)
+    justified-own shape (contents_of posts) (final_content shape posts header inner_seed outer_seed outer_opening) closing view
+    (final-kind shape posts header.stage inner_seed outer_seed outer_opening)
 
 pub confirm-justified : (shape : Shape) (posts : List Post) (header : Header)
     → IsClosing shape (confirm_content shape posts header) → header.view ≡ view_of shape (contents_of posts) header.stage
-    → IsTrue (is_justified shape (confirm_content shape posts header) (embedded_of shape (confirm_content shape posts header) (contents_of posts)))
+    → IsTrue (is_justified shape (confirm_content shape posts header)
+    (embedded_of shape (confirm_content shape posts header) (contents_of posts)))
 confirm-justified shape posts header closing view =
     justified-own shape (contents_of posts) (confirm_content shape posts header) closing view (confirm-kind shape posts header.stage)
 
 -- ---- what the rows embed
 
-pub final-embeds : (shape : Shape) (posts : List Post) (header : Header) (inner_seed outer_seed outer_opening : List ℕ) → length posts ≡ slots_before shape header.stage
+pub final-embeds : (shape : Shape) (posts : List Post) (header : Header) (inner_seed outer_seed outer_opening : List ℕ)
+    → length posts ≡ slots_before shape header.stage
     → posts_embedded (final_row shape posts header.stage inner_seed outer_seed outer_opening)
     ≡ written (embedded_of shape (final_content shape posts header inner_seed outer_seed outer_opening) posts)
 unfolding final_row
@@ -115,11 +135,15 @@ final-embeds shape posts header inner_seed outer_seed outer_opening whole =
     let agrees : Bool = votes_agree shape (contents_of posts) stage in
     elim (cases_Bool (votes_agree shape (contents_of posts) stage)) [
       | inl agree ↦
-          ap posts_embedded (cond-true agrees (Reveal (written (posts_at shape posts (stage - 1))) inner_seed) (Dispute (written posts) outer_seed outer_opening) agree)
-          ∙ sym (ap written (cond-true (is_assent content.body) (posts_at shape posts (stage - 1)) (take (slots_before shape stage) posts) (kind ∙ agree)))
+          ap posts_embedded (cond-true agrees (Reveal (written (posts_at shape posts (stage - 1))) inner_seed)
+          (Dispute (written posts) outer_seed outer_opening) agree)
+          ∙ sym (ap written (cond-true (is_assent content.body) (posts_at shape posts (stage - 1)) (take (slots_before shape stage) posts)
+          (kind ∙ agree)))
       | inr differ ↦
-          ap posts_embedded (cond-false agrees (Reveal (written (posts_at shape posts (stage - 1))) inner_seed) (Dispute (written posts) outer_seed outer_opening) differ)
-          ∙ sym (ap written (cond-false (is_assent content.body) (posts_at shape posts (stage - 1)) (take (slots_before shape stage) posts) (kind ∙ differ) ∙ take_all (slots_before shape stage) posts (omega (arith, whole))))
+          ap posts_embedded (cond-false agrees (Reveal (written (posts_at shape posts (stage - 1))) inner_seed)
+          (Dispute (written posts) outer_seed outer_opening) differ)
+          ∙ sym (ap written (cond-false (is_assent content.body) (posts_at shape posts (stage - 1)) (take (slots_before shape stage) posts)
+          (kind ∙ differ) ∙ take_all (slots_before shape stage) posts (omega (arith, whole))))
     ]
 
 pub confirm-embeds : (shape : Shape) (posts : List Post) (header : Header) → length posts ≡ slots_before shape header.stage
@@ -133,8 +157,10 @@ confirm-embeds shape posts header whole =
     elim (cases_Bool (votes_agree shape (contents_of posts) stage)) [
       | inl agree ↦
           ap posts_embedded (cond-true agrees (Confirm (written (posts_at shape posts (stage - 1)))) (Differ (written posts)) agree)
-          ∙ sym (ap written (cond-true (is_assent content.body) (posts_at shape posts (stage - 1)) (take (slots_before shape stage) posts) (kind ∙ agree)))
+          ∙ sym (ap written (cond-true (is_assent content.body) (posts_at shape posts (stage - 1)) (take (slots_before shape stage) posts)
+          (kind ∙ agree)))
       | inr differ ↦
           ap posts_embedded (cond-false agrees (Confirm (written (posts_at shape posts (stage - 1)))) (Differ (written posts)) differ)
-          ∙ sym (ap written (cond-false (is_assent content.body) (posts_at shape posts (stage - 1)) (take (slots_before shape stage) posts) (kind ∙ differ) ∙ take_all (slots_before shape stage) posts (omega (arith, whole))))
+          ∙ sym (ap written (cond-false (is_assent content.body) (posts_at shape posts (stage - 1)) (take (slots_before shape stage) posts)
+          (kind ∙ differ) ∙ take_all (slots_before shape stage) posts (omega (arith, whole))))
     ]

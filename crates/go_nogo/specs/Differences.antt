@@ -21,7 +21,8 @@ HaveNoDifference log other = (slot : Slot) → Differ log other slot → ⊥
 -- they differ in a slot, and in no slot of an earlier stage, nor of an earlier sender of its stage
 pub record IsFirstDifference (log other : Log) (slot : Slot) : Type 0 where
   pub differ : Differ log other slot
-  pub first : (later : Slot) → Differ log other later → (slot.stage < later.stage) ⊎ ((slot.stage ≡ later.stage) × (slot.sender ≤ later.sender))
+  pub first : (later : Slot) → Differ log other later → (slot.stage < later.stage)
+      ⊎ ((slot.stage ≡ later.stage) × (slot.sender ≤ later.sender))
 
 -- whether there are two posts, and their contents differ
 abbrev pub are_different : Option Post → Option Post → Bool

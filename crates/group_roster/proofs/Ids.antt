@@ -15,7 +15,8 @@ roster version keys = record { version = version; keys = keys }
 pub spelled-same : (r s : Roster) → IsRosterForm r → IsRosterForm s → roster_spelling r ≡ roster_spelling s → r ≡ s
 spelled-same r s form form' e =
     let versions : r.version ≡ s.version = form.version ∙ sym form'.version in
-    let keys : r.keys ≡ s.keys = sym (spelled_keys r form) ∙ ap (λ (bytes : List ℕ). keys_at bytes (size_of bytes)) e ∙ spelled_keys s form' in
+    let keys : r.keys ≡ s.keys = sym (spelled_keys r form) ∙ ap (λ (bytes : List ℕ). keys_at bytes (size_of bytes)) e
+    ∙ spelled_keys s form' in
     ap (λ (v : ℕ). roster v r.keys) versions ∙ ap (λ (ks : List (List ℕ)). roster s.version ks) keys
 
 one_piece : (a b : List ℕ) → a ∷ [] ≡ b ∷ [] → a ≡ b

@@ -39,7 +39,8 @@ abbrev pub checked : Option Offence → Result (Unit {0}) Offence
 checked found = value_unless found tt
 
 -- the first offence of key k is that of the keys
-pub keys-stop : (bytes : List ℕ) (k n : ℕ) (broken : Offence) → k < n → AreRight bytes k → checked (key_offence bytes k) ≡ Err broken → checked (keys_offence bytes n) ≡ Err broken
+pub keys-stop : (bytes : List ℕ) (k n : ℕ) (broken : Offence) → k < n → AreRight bytes k → checked (key_offence bytes k) ≡ Err broken
+    → checked (keys_offence bytes n) ≡ Err broken
 keys-stop bytes k n broken lt right fault =
     ap checked (first_below-some (key_offence bytes) n k broken lt right (value_unless-err (key_offence bytes k) tt broken fault))
 
@@ -52,15 +53,18 @@ keys-done bytes k n ended right =
 
 -- ---- the key of a number
 
-pub key_of-is : (r : Roster) (sender : ℕ) (bytes : List ℕ) (key : LmsPublic) → 1 ≤ sender → sender ≤ length r.keys → bytes ≡ get_or r.keys (sender - 1) bytes → key_read bytes ≡ Ok key → key_of r sender ≡ Some key
+pub key_of-is : (r : Roster) (sender : ℕ) (bytes : List ℕ) (key : LmsPublic) → 1 ≤ sender → sender ≤ length r.keys
+    → bytes ≡ get_or r.keys (sender - 1) bytes → key_read bytes ≡ Ok key → key_of r sender ≡ Some key
 key_of-is r zero bytes key least most is reads = absurd (omega arith)
 key_of-is r (suc k) bytes key least most is reads =
     let place : suc k - 1 ≡ k = omega arith in
     let here : bytes ≡ get_or r.keys k bytes = subst (λ (i : ℕ). bytes ≡ get_or r.keys i bytes) place is in
-    ap (λ (o : Option (List ℕ)). option_and_then (λ key. result_ok (key_read key)) o) (slice_get_read r.keys (length r.keys) k bytes refl (omega arith) here)
+    ap (λ (o : Option (List ℕ)). option_and_then (λ key. result_ok (key_read key)) o)
+    (slice_get_read r.keys (length r.keys) k bytes refl (omega arith) here)
     ∙ ap result_ok reads
 
 -- a key whose reading is no error reads
-pub key_reads : {read : Result LmsPublic KeyRefusal} (result : Result LmsPublic KeyRefusal) → result ≡ read → (err : Bool) → err ≡ is_err result → err ≡ false → IsOk read
+pub key_reads : {read : Result LmsPublic KeyRefusal} (result : Result LmsPublic KeyRefusal) → result ≡ read → (err : Bool)
+    → err ≡ is_err result → err ≡ false → IsOk read
 key_reads (Ok key) same err told fine = rw (← same) refl
 key_reads (Err e) same err told fine = absurd (let wrong : true ≡ false = cc in cc)

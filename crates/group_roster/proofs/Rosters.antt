@@ -28,7 +28,8 @@ use Rattle.wire_core.proofs.AnswerLemmas.{first_some-none, first_some-none_parts
 
 -- ---- six bytes in front
 
-six_front : (bytes : List ℕ) → 6 ≤ length bytes → bytes ≡ get_or bytes 0 0 ∷ get_or bytes 1 0 ∷ get_or bytes 2 0 ∷ get_or bytes 3 0 ∷ get_or bytes 4 0 ∷ get_or bytes 5 0 ∷ drop 6 bytes
+six_front : (bytes : List ℕ) → 6 ≤ length bytes → bytes ≡ get_or bytes 0 0 ∷ get_or bytes 1 0 ∷ get_or bytes 2 0 ∷ get_or bytes 3 0 ∷ get_or
+    bytes 4 0 ∷ get_or bytes 5 0 ∷ drop 6 bytes
 six_front (a ∷ b ∷ c ∷ d ∷ e ∷ f ∷ rest) le = refl
 six_front [] le = absurd (omega arith)
 six_front (a ∷ []) le = absurd (omega arith)
@@ -106,7 +107,8 @@ key_right bytes k r =
     let o1 = fault_unless (nat_le (key_place (k + 1)) (length bytes)) (offence (key_place k) Short) in
     let o2 = type_offence (key_place k) (key_read (key_at bytes k)) in
     let o3 = fault_unless (not (repeats bytes k)) (offence (key_place k) Duplicate) in
-    first_some-none o1 (o2 ∷ o3 ∷ []) (fault_unless-true (nat_le (key_place (k + 1)) (length bytes)) (offence (key_place k) Short) (le-leb _ _ r.whole))
+    first_some-none o1 (o2 ∷ o3 ∷ []) (fault_unless-true (nat_le (key_place (k + 1)) (length bytes)) (offence (key_place k) Short)
+    (le-leb _ _ r.whole))
     ∙ first_some-none o2 (o3 ∷ []) (untyped (key_place k) (key_read (key_at bytes k)) r.reads)
     ∙ first_some-none o3 [] (fault_unless-true (not (repeats bytes k)) (offence (key_place k) Duplicate) (ap not r.once))
 
@@ -137,7 +139,8 @@ unoffending bytes e =
       version = fault_unless-holds (has_byte bytes 4 1) (offence 4 Version) q2.0;
       size = fault_unless-holds (has_size bytes) (offence 5 Size) q3.0;
       keys = first_below-each (key_offence bytes) (size_of bytes) p2.0;
-      ends = leb-true _ _ (fault_unless-holds (nat_le (length bytes) (key_place (size_of bytes))) (offence (key_place (size_of bytes)) Trailing) p3.0);
+      ends = leb-true _ _ (fault_unless-holds (nat_le (length bytes) (key_place (size_of bytes)))
+          (offence (key_place (size_of bytes)) Trailing) p3.0);
     }
 
 offends_not : (bytes : List ℕ) → IsUnoffending bytes → roster_offence bytes ≡ None
@@ -153,7 +156,8 @@ offends_not bytes u =
     ∙ first_some-none s [] (fault_unless-true (has_size bytes) (offence 5 Size) u.size) in
     first_some-none (head_offence bytes) (keys_offence bytes (size_of bytes) ∷ t ∷ []) head
     ∙ first_some-none (keys_offence bytes (size_of bytes)) (t ∷ []) (first_below-none (key_offence bytes) (size_of bytes) u.keys)
-    ∙ first_some-none t [] (fault_unless-true (nat_le (length bytes) (key_place (size_of bytes))) (offence (key_place (size_of bytes)) Trailing) (le-leb _ _ u.ends))
+    ∙ first_some-none t [] (fault_unless-true (nat_le (length bytes) (key_place (size_of bytes)))
+    (offence (key_place (size_of bytes)) Trailing) (le-leb _ _ u.ends))
 
 record HasSize (bytes : List ℕ) : Type 0 where
   there : 5 < length bytes
@@ -180,12 +184,19 @@ distinct_keys : (bytes : List ℕ) (n : ℕ) → AreRight bytes n → AllPairs �
 distinct_keys bytes n right i j d lt within =
     let short : j < n = omega (arith, length-map-range_with_len (key_at bytes) 0 n) in
     let r = right_key bytes j (right j short) in
-    let differ : bytes_eq (key_at bytes i) (key_at bytes j) ≡ false = none_passes (λ m. bytes_eq (key_at bytes m) (key_at bytes j)) 0 j i r.once (omega arith) (omega arith) in
-    rw (get_or-map-range_with_len (key_at bytes) 0 n i i d (omega arith) (omega arith), get_or-map-range_with_len (key_at bytes) 0 n j j d short (omega arith))
-    (λ same. absurd (let equal : bytes_eq (key_at bytes i) (key_at bytes j) ≡ true = (bytes_eq-Decides (key_at bytes i) (key_at bytes j)).1 same in cc))
+    let differ : bytes_eq (key_at bytes i) (key_at bytes j) ≡ false = none_passes (λ m. bytes_eq (key_at bytes m) (key_at bytes j)) 0 j i
+    r.once (omega arith) (omega arith) in
+    rw (
+      get_or-map-range_with_len (key_at bytes) 0 n i i d (omega arith) (omega arith),
+      get_or-map-range_with_len (key_at bytes) 0 n j j d
+          short (omega arith),
+    )
+    (λ same. absurd (let equal : bytes_eq (key_at bytes i) (key_at bytes j) ≡ true = (bytes_eq-Decides (key_at bytes i) (key_at bytes j)).1
+    same in cc))
 
 -- what has no offence is spelled so
-pub roster_found : (bytes : List ℕ) → roster_offence bytes ≡ None → IsRosterFile (spelled_roster bytes) × (bytes ≡ roster_spelling (spelled_roster bytes))
+pub roster_found : (bytes : List ℕ) → roster_offence bytes ≡ None → IsRosterFile (spelled_roster bytes)
+    × (bytes ≡ roster_spelling (spelled_roster bytes))
 roster_found bytes e =
     let u = unoffending bytes e in
     let s = sized bytes u.size in
@@ -197,8 +208,15 @@ roster_found bytes e =
     let m2 = byte_there bytes 2 82 (first_unlike-each roster_magic bytes u.magic 2 (omega arith)) in
     let m3 = byte_there bytes 3 79 (first_unlike-each roster_magic bytes u.magic 3 (omega arith)) in
     let last = right_key bytes (n - 1) (u.keys (n - 1) (omega (arith, s.least))) in
-    let rest : concat (keys_at bytes n) ≡ drop 6 bytes = concat-keys_at bytes n ∙ take_all (56 * n) (drop 6 bytes) (omega (arith, length-drop 6 bytes, u.ends)) in
-    let form : IsRosterForm (spelled_roster bytes) = record { version = version.1; least = omega (arith, count, s.least); most = omega (arith, count, s.most); keys = right_keys bytes n u.keys } in (
+    let rest : concat (keys_at bytes n) ≡ drop 6 bytes = concat-keys_at bytes n
+    ∙ take_all (56 * n) (drop 6 bytes) (omega (arith, length-drop 6 bytes, u.ends)) in
+    let form : IsRosterForm (spelled_roster bytes) = record {
+      version = version.1;
+      least = omega (arith, count, s.least);
+      most = omega
+          (arith, count, s.most);
+      keys = right_keys bytes n u.keys;
+    } in (
       record { form = form; distinct = distinct_keys bytes n u.keys },
       six_front bytes (omega (arith, s.there)) ∙ rw (m0.1, m1.1, m2.1, m3.1, count, rest) refl,
     )
@@ -232,7 +250,8 @@ spelled_key r form k lt =
 pub spelled_length : (r : Roster) → IsRosterForm r → length (roster_spelling r) ≡ 6 + 56 * length r.keys
 spelled_length r form = omega (arith, length-concat r.keys (keys_are_56 r form))
 
-spelled_magic : (r : Roster) (p : ℕ) → 6 ≤ length (roster_spelling r) → p < 4 → has_byte (roster_spelling r) p (get_or roster_magic p 0) ≡ true
+spelled_magic : (r : Roster) (p : ℕ) → 6 ≤ length (roster_spelling r) → p < 4
+    → has_byte (roster_spelling r) p (get_or roster_magic p 0) ≡ true
 spelled_magic r zero long lt = there_byte (roster_spelling r) 0 68 (omega arith) refl
 spelled_magic r (suc zero) long lt = there_byte (roster_spelling r) 1 83 (omega arith) refl
 spelled_magic r (suc (suc zero)) long lt = there_byte (roster_spelling r) 2 82 (omega arith) refl
@@ -273,7 +292,8 @@ roster_again r file =
       keys = right;
       ends = omega (arith, long);
     }) in
-    ap (λ (o : Option Offence). fault_as numbered (value_unless o (spelled_roster bytes))) none ∙ ap (λ (keys : List (List ℕ)). ok (record { version = r.version; keys = keys })) (spelled_keys r form)
+    ap (λ (o : Option Offence). fault_as numbered (value_unless o (spelled_roster bytes))) none
+    ∙ ap (λ (keys : List (List ℕ)). ok (record { version = r.version; keys = keys })) (spelled_keys r form)
   where
     ok : Roster → Result Roster (ℕ × ℕ)
     ok r = Ok r
@@ -281,20 +301,25 @@ roster_again r file =
 -- what is read is a roster file, and is spelled so
 pub roster_read-found : (bytes : List ℕ) (r : Roster) → roster_read bytes ≡ Ok r → IsRosterFile r × (bytes ≡ roster_spelling r)
 roster_read-found bytes r e =
-    let parts = value_unless-ok (roster_offence bytes) (spelled_roster bytes) r (fault_as_ok numbered (value_unless (roster_offence bytes) (spelled_roster bytes)) r e) in
+    let parts = value_unless-ok (roster_offence bytes) (spelled_roster bytes) r
+    (fault_as_ok numbered (value_unless (roster_offence bytes) (spelled_roster bytes)) r e) in
     subst (λ (r : Roster). IsRosterFile r × (bytes ≡ roster_spelling r)) parts.1 (roster_found bytes parts.0)
 
 -- the same of what a decoder returned, seen by a view
-pub decoded_found : {X : Type 0} (view : X → Roster) (bytes : List ℕ) (result : Result X RosterRefusal) → Gives offence_told view result (roster_read bytes) → IfOk result (λ r. IsRosterFile (view r) × (bytes ≡ roster_spelling (view r)))
+pub decoded_found : {X : Type 0} (view : X → Roster) (bytes : List ℕ) (result : Result X RosterRefusal)
+    → Gives offence_told view result (roster_read bytes) → IfOk result (λ r. IsRosterFile (view r) × (bytes ≡ roster_spelling (view r)))
 decoded_found view bytes (Ok r) given = roster_read-found bytes (view r) given
 decoded_found view bytes (Err e) given = tt
 
-pub decoded_again : {X : Type 0} (view : X → Roster) (bytes : List ℕ) (result : Result X RosterRefusal) (r : Roster) → Gives offence_told view result (roster_read bytes) → IsRosterFile r → bytes ≡ roster_spelling r → Gives offence_told view result (Ok r)
+pub decoded_again : {X : Type 0} (view : X → Roster) (bytes : List ℕ) (result : Result X RosterRefusal) (r : Roster)
+    → Gives offence_told view result (roster_read bytes) → IsRosterFile r → bytes ≡ roster_spelling r
+    → Gives offence_told view result (Ok r)
 decoded_again view bytes result r given file e =
     subst (λ (read : Result Roster (ℕ × ℕ)). Gives offence_told view result read) (ap roster_read e ∙ roster_again r file) given
 
 -- bytes that announce n keys and have no offence hold them
-pub whole-holds : (bytes : List ℕ) (n : ℕ) → value_unless (roster_offence bytes) (size_of bytes) ≡ Ok n → (n ≤ 8) × (key_place n ≤ length bytes)
+pub whole-holds : (bytes : List ℕ) (n : ℕ) → value_unless (roster_offence bytes) (size_of bytes) ≡ Ok n → (n ≤ 8)
+    × (key_place n ≤ length bytes)
 whole-holds bytes n e =
     let parts = value_unless-ok (roster_offence bytes) (size_of bytes) n e in
     let u = unoffending bytes parts.0 in
@@ -303,7 +328,8 @@ whole-holds bytes n e =
     (omega (arith, s.most, parts.1), omega (arith, s.least, parts.1, last.whole))
 
 -- and are read as the roster of these keys
-pub whole-reads : (bytes : List ℕ) (n : ℕ) → value_unless (roster_offence bytes) (size_of bytes) ≡ Ok n → roster_read bytes ≡ Ok (record { version = 1; keys = keys_at bytes n })
+pub whole-reads : (bytes : List ℕ) (n : ℕ) → value_unless (roster_offence bytes) (size_of bytes) ≡ Ok n
+    → roster_read bytes ≡ Ok (record { version = 1; keys = keys_at bytes n })
 whole-reads bytes n e =
     let parts = value_unless-ok (roster_offence bytes) (size_of bytes) n e in
     let version = byte_there bytes 4 1 (unoffending bytes parts.0).version in
@@ -315,17 +341,22 @@ whole-reads bytes n e =
     ok version keys = Ok (record { version = version; keys = keys })
 
 -- the keys of such bytes are those of a roster
-pub whole-form : (bytes : List ℕ) (n : ℕ) → value_unless (roster_offence bytes) (size_of bytes) ≡ Ok n → IsRosterForm (record { version = 1; keys = keys_at bytes n })
+pub whole-form : (bytes : List ℕ) (n : ℕ) → value_unless (roster_offence bytes) (size_of bytes) ≡ Ok n
+    → IsRosterForm (record { version = 1; keys = keys_at bytes n })
 whole-form bytes n e = (roster_read-found bytes (record { version = 1; keys = keys_at bytes n }) (whole-reads bytes n e)).0.form
 
 -- bytes with an offence are refused with it
-pub offence-read : (bytes : List ℕ) (broken : Offence) → value_unless (roster_offence bytes) (size_of bytes) ≡ Err broken → roster_read bytes ≡ Err (numbered broken)
+pub offence-read : (bytes : List ℕ) (broken : Offence) → value_unless (roster_offence bytes) (size_of bytes) ≡ Err broken
+    → roster_read bytes ≡ Err (numbered broken)
 offence-read bytes broken e =
-    ap (λ (o : Option Offence). fault_as numbered (value_unless o (spelled_roster bytes))) (value_unless-err (roster_offence bytes) (size_of bytes) broken e)
+    ap (λ (o : Option Offence). fault_as numbered (value_unless o (spelled_roster bytes)))
+    (value_unless-err (roster_offence bytes) (size_of bytes) broken e)
 
 -- the same of keys that are these
-pub form-keys : (bytes : List ℕ) (n : ℕ) (keys : List (List ℕ)) → keys ≡ keys_at bytes n → value_unless (roster_offence bytes) (size_of bytes) ≡ Ok n → IsRosterForm (record { version = 1; keys = keys })
+pub form-keys : (bytes : List ℕ) (n : ℕ) (keys : List (List ℕ)) → keys ≡ keys_at bytes n
+    → value_unless (roster_offence bytes) (size_of bytes) ≡ Ok n → IsRosterForm (record { version = 1; keys = keys })
 form-keys bytes n keys same e = rw same (whole-form bytes n e)
 
-pub read-keys : (bytes : List ℕ) (n : ℕ) (keys : List (List ℕ)) → keys ≡ keys_at bytes n → value_unless (roster_offence bytes) (size_of bytes) ≡ Ok n → roster_read bytes ≡ Ok (record { version = 1; keys = keys })
+pub read-keys : (bytes : List ℕ) (n : ℕ) (keys : List (List ℕ)) → keys ≡ keys_at bytes n
+    → value_unless (roster_offence bytes) (size_of bytes) ≡ Ok n → roster_read bytes ≡ Ok (record { version = 1; keys = keys })
 read-keys bytes n keys same e = rw same (whole-reads bytes n e)

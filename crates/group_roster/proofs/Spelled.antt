@@ -13,7 +13,9 @@ concat-more keys k lt =
     ∙ concat-append (take k keys) (get_or keys k [] ∷ [])
     ∙ ap (λ (x : List ℕ). concat (take k keys) ++ x) (append-nil (get_or keys k []))
 
-pub spelled-more : (head : List ℕ) (keys : List (List ℕ)) (k : ℕ) (bytes part : List ℕ) (a m n : ℕ) → a ≤ length bytes → part ≡ get_or keys k [] → n ≡ a + length part → k < length keys → take a bytes ≡ head ++ concat (take k keys) → take n (put_mid a m bytes part) ≡ head ++ concat (take (k + 1) keys)
+pub spelled-more : (head : List ℕ) (keys : List (List ℕ)) (k : ℕ) (bytes part : List ℕ) (a m n : ℕ) → a ≤ length bytes
+    → part ≡ get_or keys k [] → n ≡ a + length part → k < length keys → take a bytes ≡ head ++ concat (take k keys)
+    → take n (put_mid a m bytes part) ≡ head ++ concat (take (k + 1) keys)
 spelled-more head keys k bytes part a m n room part-is n-is lt so_far =
     take-put_mid a m bytes part n n-is room
     ∙ ap (λ (x : List ℕ). x ++ part) so_far

@@ -17,11 +17,13 @@ use Rattle.group_roster.specs.Toml.{document_in, has_key_beside, list_of, if_a_g
 abbrev pub any_beside : List (List ℕ) → List (String Global) → Bool
 any_beside names keys = list_any (λ key. not (list_any (λ name. bytes_eq (string_bytes key) name) names)) keys
 
-pub beside_keys : (names : List (List ℕ)) (es : List (String Global × Value)) → has_key_beside names (members_view es) ≡ any_beside names (keys_of es)
+pub beside_keys : (names : List (List ℕ)) (es : List (String Global × Value))
+    → has_key_beside names (members_view es) ≡ any_beside names (keys_of es)
 beside_keys names [] = refl
 beside_keys names (e ∷ es) = ap (λ (b : Bool). not (list_any (λ name. bytes_eq (string_bytes e.0) name) names) || b) (beside_keys names es)
 
-pub any_named : (key : List ℕ) (names : List (Bor (List ℕ))) → list_any (λ name. bytes_eq key name.now) names ≡ list_any (λ name. bytes_eq key name) (map (λ name. name.now) names)
+pub any_named : (key : List ℕ) (names : List (Bor (List ℕ))) → list_any (λ name. bytes_eq key name.now) names ≡ list_any
+    (λ name. bytes_eq key name) (map (λ name. name.now) names)
 any_named key [] = refl
 any_named key (name ∷ names) = ap (λ (b : Bool). bytes_eq key name.now || b) (any_named key names)
 
@@ -30,7 +32,8 @@ pub list_of-items : (vs : List Data) → list_of (items_of vs) ≡ vs
 list_of-items [] = refl
 list_of-items (v ∷ vs) = ap (λ (xs : List Data). v ∷ xs) (list_of-items vs)
 
-pub beside-found : (names : List (Bor (List ℕ))) (table : BTreeMap (String Global) Value) (keys rest : List (String Global)) (key : String Global) (text : List ℕ)
+pub beside-found : (names : List (Bor (List ℕ))) (table : BTreeMap (String Global) Value) (keys rest : List (String Global))
+    (key : String Global) (text : List ℕ)
     → any_beside (map (λ name. name.now) names) keys ≡ any_beside (map (λ name. name.now) names) (keys_of table.entries)
     → keys ≡ key ∷ rest → text ≡ string_bytes key → list_any (λ name. bytes_eq text name.now) names ≡ false
     → true ≡ has_key_beside (map (λ name. name.now) names) (members_view table.entries)
@@ -59,7 +62,8 @@ pub length-list_of : (vs : List Value) → length (list_of (items_view vs)) ≡ 
 length-list_of vs = ap length (list_of-items (map view vs)) ∙ length-map vs view
 
 in_a_group : (vs : List Value)
-    → (nat_le 2 (length vs) && nat_le (length vs) 8) ≡ (nat_le 2 (length (list_of (items_view vs))) && nat_le (length (list_of (items_view vs))) 8)
+    → (nat_le 2 (length vs) && nat_le (length vs) 8) ≡ (nat_le 2 (length (list_of (items_view vs))) && nat_le
+    (length (list_of (items_view vs))) 8)
 in_a_group vs = ap (λ (k : ℕ). nat_le 2 k && nat_le k 8) (sym (length-list_of vs))
 
 pub group-some : (vs : List Value) (found : Option Items) → Some (items_view vs) ≡ found
@@ -76,7 +80,8 @@ group-none vs found found-is holds =
 
 -- ---- documents
 
-pub document-ok : (bytes : List ℕ) (top : Members) → IsUtf8 bytes → parse_document bytes ≡ Some top → value_or {F = ℕ × ℕ} (0, 9) (document_in bytes) ≡ Ok top
+pub document-ok : (bytes : List ℕ) (top : Members) → IsUtf8 bytes → parse_document bytes ≡ Some top
+    → value_or {F = ℕ × ℕ} (0, 9) (document_in bytes) ≡ Ok top
 unfolding document_in
 document-ok bytes top text parsed = rw (is_utf8-from_IsUtf8 bytes text, parsed) refl
 
@@ -84,7 +89,8 @@ refused-if : (is_text : Bool) (parsed : Option Members) → (is_text ≡ true �
 refused-if true parsed h = h refl
 refused-if false parsed h = refl
 
-pub document-err : (bytes : List ℕ) → (IsUtf8 bytes → parse_document bytes ≡ None) → value_or {F = ℕ × ℕ} (0, 9) (document_in bytes) ≡ Err (0, 9)
+pub document-err : (bytes : List ℕ) → (IsUtf8 bytes → parse_document bytes ≡ None)
+    → value_or {F = ℕ × ℕ} (0, 9) (document_in bytes) ≡ Err (0, 9)
 unfolding document_in
 document-err bytes h =
     ap (value_or {F = ℕ × ℕ} (0, 9)) (refused-if (is_utf8 bytes) (parse_document bytes) (λ e. h (IsUtf8-from_is_utf8 bytes e)))
@@ -107,7 +113,8 @@ unfolding keys_from
 keys-none front number entry rest all none so_far = sym so_far ∙ rw none refl
 
 pub keys-some : (front : List (List ℕ)) (number : ℕ) (entry : Data) (rest : List Data) (key : List ℕ) (all : Result (List (List ℕ)) (ℕ × ℕ))
-    → key_of_entry entry ≡ Some key → with_keys front (keys_from number (entry ∷ rest)) ≡ all → with_keys (front ++ key ∷ []) (keys_from (number + 1) rest) ≡ all
+    → key_of_entry entry ≡ Some key → with_keys front (keys_from number (entry ∷ rest)) ≡ all
+    → with_keys (front ++ key ∷ []) (keys_from (number + 1) rest) ≡ all
 unfolding keys_from
 keys-some front number entry rest key all some so_far = joined front key (keys_from (number + 1) rest) ∙ rw some at so_far
 
@@ -117,7 +124,8 @@ unfolding keys_from
 keys-done front number all so_far = sym so_far ∙ ap {B = Result (List (List ℕ)) (ℕ × ℕ)} (λ (xs : List (List ℕ)). Ok xs) (append-nil front)
 
 -- the entries as the code holds them, which are those of the array
-pub entry-next : (vs held : List Value) (k : ℕ) (v : Value) → held ≡ vs → k < length held → v ≡ get_or held k v → map view (drop k vs) ≡ view v ∷ map view (drop (k + 1) vs)
+pub entry-next : (vs held : List Value) (k : ℕ) (v : Value) → held ≡ vs → k < length held → v ≡ get_or held k v
+    → map view (drop k vs) ≡ view v ∷ map view (drop (k + 1) vs)
 entry-next vs held k v same below is =
     ap (λ (xs : List Value). map view (drop k xs)) (sym same)
     ∙ ap (map view) (drop_more held k v below ∙ ap (λ (x : Value). x ∷ drop (k + 1) held) (sym is))

@@ -1,3 +1,4 @@
+mod Deliveries
 mod Plainness
 pub mod Made
 pub mod Posts

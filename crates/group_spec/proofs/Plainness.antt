@@ -32,14 +32,16 @@ votes-says : (member : ℕ) (own : Option Description) (stage : ℕ) (bytes : Li
 unfolding faulty_speech
 votes-says member own stage bytes log = votes-read member own bytes log (content_read log.shape bytes)
 
-pub honest-plain : (member : ℕ) (own : Option Description) → IsPlain (faulty_replies (record { fault = Honest; member = member; own = own }))
+pub honest-plain : (member : ℕ) (own : Option Description) → IsPlain
+    (faulty_replies (record { fault = Honest; member = member; own = own }))
 honest-plain member own = record {
   descriptor = λ d. refl;
   speech = λ stage bytes log. honest-says member own stage bytes log;
   speech_after = λ d stage bytes log. honest-says member (Some d) stage bytes log;
 }
 
-pub votes-plain : (member : ℕ) (own : Option Description) → IsPlain (faulty_replies (record { fault = TwoVotes; member = member; own = own }))
+pub votes-plain : (member : ℕ) (own : Option Description) → IsPlain
+    (faulty_replies (record { fault = TwoVotes; member = member; own = own }))
 votes-plain member own = record {
   descriptor = λ d. refl;
   speech = λ stage bytes log. votes-says member own stage bytes log;

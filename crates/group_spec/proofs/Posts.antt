@@ -65,7 +65,8 @@ answer-within c a (Wait bytes) before = record { posts = omega (arith, before.po
 answer-within c a Silent before = record { posts = omega (arith, before.posts); stages = before.stages }
 
 -- a stage with posts is one of the round
-posts-in_round : (c : Configuration) (a : Actor) (posts : List Post) (b : Bool) (o : Option (List Post)) → (if b then o else None) ≡ Some posts → b ≡ true
+posts-in_round : (c : Configuration) (a : Actor) (posts : List Post) (b : Bool) (o : Option (List Post))
+    → (if b then o else None) ≡ Some posts → b ≡ true
 posts-in_round c a posts true o e = refl
 posts-in_round c a posts false o e = absurd cc
 
@@ -73,14 +74,16 @@ posts-in_round c a posts false o e = absurd cc
 slot-in_round : (c : Configuration) (stage : ℕ) → is_slot (shape_in c) stage c.number ≡ true → stage < stage_count (shape_in c)
 slot-in_round c stage is = elim (cases_lt stage (stage_count (shape_in c))) [
   | inl within ↦ within
-  | inr past ↦ absurd (false≢true (ap (λ (kind : Option StageKind). speaks (shape_in c) kind c.number) (sym (stage-past (shape_in c) stage past)) ∙ is))
+  | inr past ↦ absurd (false≢true (ap (λ (kind : Option StageKind). speaks (shape_in c) kind c.number)
+      (sym (stage-past (shape_in c) stage past)) ∙ is))
 ]
 
 due-before : (c : Configuration) (a : Actor) (mood : Mood) → a.mood ≡ mood → Within c a → is_due c a.stand mood ≡ true → IsBefore c a
 unfolding was-asked has-put_off
 due-before c a Unasked e w due =
     let lt = slot-in_round c a.stand.at due in
-    let posts : length a.made + 0 ≤ a.stand.at + 0 = subst (λ (m : Mood). length a.made + has-put_off m ≤ a.stand.at + was-asked m) e w.posts in
+    let posts : length a.made + 0 ≤ a.stand.at + 0 = subst (λ (m : Mood). length a.made + has-put_off m ≤ a.stand.at + was-asked m) e
+    w.posts in
     record { posts = omega (arith, posts); stages = omega (arith, lt) }
 due-before c a (PutOff bytes) e w due = absurd (false≢true due)
 due-before c a Spoken e w due = absurd (false≢true due)
@@ -111,21 +114,26 @@ unfolding actor_behind_step
 step-within replies c a w = choose (λ (x : Actor). Within c x) (is_open a.ending) (actor_behind_step_with replies c a (stage_posts c a)) a
     (λ _. with-within replies c a (stage_posts c a) refl w) (λ _. w)
 
-steps-within : (replies : Replies) (c : Configuration) (n : ℕ) (a : Actor) → Within c a → Within c (iterate (actor_behind_step replies c) n a)
+steps-within : (replies : Replies) (c : Configuration) (n : ℕ) (a : Actor) → Within c a
+    → Within c (iterate (actor_behind_step replies c) n a)
 steps-within replies c zero a w = w
 steps-within replies c (suc n) a w = steps-within replies c n (actor_behind_step replies c a) (step-within replies c a w)
 
-repeat-within : (replies : Replies) (c : Configuration) (a : Actor) (mood : Mood) → a.mood ≡ mood → Within c a → Within c (actor_behind_repeat replies c a mood)
+repeat-within : (replies : Replies) (c : Configuration) (a : Actor) (mood : Mood) → a.mood ≡ mood → Within c a
+    → Within c (actor_behind_repeat replies c a mood)
 unfolding was-asked has-put_off
 repeat-within replies c a (PutOff bytes) e w =
-    let posts : length a.made + 1 ≤ a.stand.at + 1 = subst (λ (m : Mood). length a.made + has-put_off m ≤ a.stand.at + was-asked m) e w.posts in
-    let stages : a.stand.at + 1 ≤ stage_count (shape_in c) = subst (λ (m : Mood). a.stand.at + was-asked m ≤ stage_count (shape_in c)) e w.stages in
+    let posts : length a.made + 1 ≤ a.stand.at + 1 = subst (λ (m : Mood). length a.made + has-put_off m ≤ a.stand.at + was-asked m) e
+    w.posts in
+    let stages : a.stand.at + 1 ≤ stage_count (shape_in c) = subst (λ (m : Mood). a.stand.at + was-asked m ≤ stage_count (shape_in c)) e
+    w.stages in
     answer-within c a (speech_about replies c a bytes) (record { posts = omega (arith, posts); stages = stages })
 repeat-within replies c a Unasked e w = w
 repeat-within replies c a Spoken e w = w
 repeat-within replies c a Mute e w = w
 
-heard-within : (replies : Replies) (c : Configuration) (a : Actor) (o : Option Heard) → Within c a → Within c (actor_behind_heard replies c a o)
+heard-within : (replies : Replies) (c : Configuration) (a : Actor) (o : Option Heard) → Within c a
+    → Within c (actor_behind_heard replies c a o)
 heard-within replies c a None w = w
 heard-within replies c a (Some heard) w =
     let kept : Actor = actor_with_heard a heard in
@@ -139,7 +147,8 @@ fault-within : (replies : Replies) (c : Configuration) (a : Actor) (bytes : List
 fault-within replies c a bytes (Some verdict) w = record { posts = w.posts; stages = w.stages }
 fault-within replies c a bytes None w = heard-within replies c a (heard_of c bytes) w
 
-delivery-within : (replies : Replies) (c : Configuration) (a : Actor) (bytes : List ℕ) → Within c a → Within c (actor_behind_delivery replies c a bytes)
+delivery-within : (replies : Replies) (c : Configuration) (a : Actor) (bytes : List ℕ) → Within c a
+    → Within c (actor_behind_delivery replies c a bytes)
 unfolding actor_behind_delivery
 delivery-within replies c a bytes w =
     choose (λ (x : Actor). Within c x) (is_open a.ending) (actor_behind_fault replies c a bytes (fault_shown c (kept_in a.log) bytes)) a
@@ -153,7 +162,8 @@ deliveries-within replies c a (bytes ∷ delivered) w =
 
 start-within : (replies : Replies) (c : Configuration) → Within c (actor_at_start replies c)
 unfolding was-asked has-put_off
-start-within replies c = steps-within replies c (2 * stage_count (shape_in c)) (first_actor c) (record { posts = omega arith; stages = omega arith })
+start-within replies c = steps-within replies c (2 * stage_count (shape_in c)) (first_actor c)
+    (record { posts = omega arith; stages = omega arith })
 
 -- so it makes no more posts than there are stages
 pub posts-most : (replies : Replies) (c : Configuration) (delivered : List (List ℕ)) →

@@ -31,7 +31,8 @@ posts-more replies c delivered (bytes ∷ more) =
     let first : length (actor_after replies c (delivered ++ bytes ∷ [])).made ≡ length (actor_after replies c delivered).made + length one.0
     = ap (λ (p : List Post). length p) one.1 ∙ length-append (actor_after replies c delivered).made one.0 in
     let others = posts-more replies c (delivered ++ bytes ∷ []) more in
-    let same : length (actor_after replies c ((delivered ++ bytes ∷ []) ++ more)).made ≡ length (actor_after replies c (delivered ++ bytes ∷ more)).made
+    let same : length (actor_after replies c ((delivered ++ bytes ∷ []) ++ more)).made ≡ length
+    (actor_after replies c (delivered ++ bytes ∷ more)).made
     = ap (λ (d : List (List ℕ)). length (actor_after replies c d).made) (append_assoc delivered (bytes ∷ []) more) in
     omega (arith, first, others, same)
 
@@ -83,7 +84,11 @@ unfolding seat_behind made-by can-make
 behind-goes_on carriage entry seat =
     let bytes : List (List ℕ) = replicate carriage.repeat (post_spelling entry.post) in
     choose (λ (s : Seat). GoesOn seat s) (is_for seat.config.number entry) (record seat { delivered = seat.delivered ++ bytes }) seat
-    (λ _. record { most = refl; more = posts-more (faulty_replies (faulty_member seat.fault seat.config.number)) seat.config seat.delivered bytes })
+    (λ _. record {
+      most = refl;
+      more = posts-more (faulty_replies (faulty_member seat.fault seat.config.number)) seat.config seat.delivered
+          bytes;
+    })
     (λ _. record { most = refl; more = omega arith })
 
 behind-counted : (carriage : Carriage) (entry : Entry) (seat : Seat) →
@@ -103,11 +108,13 @@ seat-less carriage entry seat =
     let on = behind-goes_on carriage entry seat in
     let most = made-most after in
     let few : length (entries_beyond (made-by seat) after) ≤ 2 * (made-by after - made-by seat) = beyond-most (made-by seat) after in
-    let same : length (entries_behind carriage entry seat) ≡ length (entries_beyond (made-by seat) after) = behind-counted carriage entry seat in
+    let same : length (entries_behind carriage entry seat) ≡ length (entries_beyond (made-by seat) after) = behind-counted carriage entry
+    seat in
     omega (arith, on.most, on.more, most, few, same)
 
 all-less : (carriage : Carriage) (entry : Entry) (seats : List Seat) →
-    length (flat_map (entries_behind carriage entry) seats) + sum_by still-left (map (seat_behind carriage entry) seats) ≤ sum_by still-left seats
+    length (flat_map (entries_behind carriage entry) seats) + sum_by still-left (map (seat_behind carriage entry) seats) ≤ sum_by still-left
+    seats
 all-less carriage entry [] = omega arith
 all-less carriage entry (seat ∷ seats) =
     let first = seat-less carriage entry seat in
@@ -129,7 +136,8 @@ unfolding to-come
 entry-less carriage seats entry others =
     let less = all-less carriage entry seats in
     let entries = length-append others (flat_map (entries_behind carriage entry) seats) in
-    choose (λ (w : World). to-come w ≤ length others + sum_by still-left seats) (is_dropped carriage entry) (record { seats = seats; queue = others })
+    choose (λ (w : World). to-come w ≤ length others + sum_by still-left seats) (is_dropped carriage entry)
+    (record { seats = seats; queue = others })
     (record { seats = map (seat_behind carriage entry) seats; queue = others ++ flat_map (entries_behind carriage entry) seats })
     (λ _. omega arith) (λ _. omega (arith, less, entries))
 

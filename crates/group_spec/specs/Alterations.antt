@@ -100,7 +100,8 @@ is_reveal _ = false
 
 -- what all members said at the end of shuffle A, as far as a log keeps it
 abbrev pub ends_in : Log → List Body
-ends_in log = map (λ member. body_kept log (record { stage = final_stage log.shape 1; sender = member })) (range_with_len 1 log.shape.members)
+ends_in log = map (λ member. body_kept log (record { stage = final_stage log.shape 1; sender = member }))
+    (range_with_len 1 log.shape.members)
 
 -- the last list of shuffle A that a log keeps
 abbrev pub last_list_in : Log → Option (List (List ℕ))

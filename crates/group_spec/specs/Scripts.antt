@@ -30,7 +30,11 @@ script_members script = range_with_len 1 (length script.messages)
 
 -- the roster of the group
 abbrev pub script_roster : Script → Roster
-script_roster script = record { version = 1; keys = map (λ member. key_bytes (own_public (script_key script member))) (script_members script) }
+script_roster script = record {
+  version = 1;
+  keys = map (λ member. key_bytes (own_public (script_key script member)))
+      (script_members script);
+}
 
 -- what a member enters the round with
 abbrev pub script_configuration : Script → ℕ → Configuration

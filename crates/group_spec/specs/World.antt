@@ -96,7 +96,13 @@ entries_with seat post None =
     record { sender = seat.config.number; post = post; first = 1; last = (shape_in seat.config).members } ∷ []
 entries_with seat post (Some content) =
     record { sender = seat.config.number; post = post; first = 1; last = seat.config.number - 1 }
-    ∷ record { sender = seat.config.number; post = signed_with seat.spare content; first = seat.config.number + 1; last = (shape_in seat.config).members }
+    ∷ record {
+      sender = seat.config.number;
+      post = signed_with seat.spare content;
+      first = seat.config.number + 1;
+      last =
+          (shape_in seat.config).members;
+    }
     ∷ []
 
 abbrev pub entries_of : Seat → Post → List Entry

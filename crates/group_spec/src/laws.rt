@@ -1,5 +1,6 @@
 //! Laws of groups. Nobody calls these functions: the contract of each states a law.
 
+ghost use Rattle.group_spec.specs.Delivered.{DeliveriesWerePosted};
 ghost use Rattle.group_spec.specs.Driver.{QueuesEmpty, RunsEndAlike};
 ghost use Rattle.group_spec.specs.Faulty.{HonestConductsArePlain};
 
@@ -13,4 +14,10 @@ pub fn honest_conducts()
 pub fn queue_empties()
     ensures empty { QueuesEmpty }
     ensures alike { RunsEndAlike }
+{}
+
+/// All that is delivered to a member is the post of a member, or the second one that its fault makes of a post, and goes to
+/// this member, where nothing was delivered at the start.
+pub fn deliveries_posted()
+    ensures { DeliveriesWerePosted }
 {}

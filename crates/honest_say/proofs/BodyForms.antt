@@ -20,7 +20,8 @@ keys-in : (shape : Shape) (before : ℕ) (body : Body) → IsBodyAt shape before
 keys-in shape before (Keys keys) is = (keys, refl, is.0, is.1)
 keys-in shape before _ is = absurd is
 
-pub keys-form : (shape : Shape) (stage : ℕ) (body : Body) → kind_of_stage shape stage ≡ Some AtKeys → IsBody shape stage body → AreFiveKeys body
+pub keys-form : (shape : Shape) (stage : ℕ) (body : Body) → kind_of_stage shape stage ≡ Some AtKeys → IsBody shape stage body
+    → AreFiveKeys body
 keys-form shape stage body at is = keys-in shape (slots_before shape stage) body ((bodies_are_of_kinds shape stage AtKeys body at).0 is)
 
 abbrev pub IsTurnBody : Shape → Body → Type 0
@@ -31,8 +32,10 @@ turn-in shape before shuffle k (Shuffled list) is = inr (list, refl, is.1)
 turn-in shape before shuffle k Abort is = inl refl
 turn-in shape before shuffle k _ is = absurd is
 
-pub turn-form : (shape : Shape) (stage shuffle k : ℕ) (body : Body) → kind_of_stage shape stage ≡ Some (AtShuffle shuffle k) → IsBody shape stage body → IsTurnBody shape body
-turn-form shape stage shuffle k body at is = turn-in shape (slots_before shape stage) shuffle k body ((bodies_are_of_kinds shape stage (AtShuffle shuffle k) body at).0 is)
+pub turn-form : (shape : Shape) (stage shuffle k : ℕ) (body : Body) → kind_of_stage shape stage ≡ Some (AtShuffle shuffle k)
+    → IsBody shape stage body → IsTurnBody shape body
+turn-form shape stage shuffle k body at is = turn-in shape (slots_before shape stage) shuffle k body
+    ((bodies_are_of_kinds shape stage (AtShuffle shuffle k) body at).0 is)
 
 abbrev pub ArePads : Shape → Body → Type 0
 ArePads shape body = (pads : List (List ℕ)) × (body ≡ Pads pads) × (length pads ≡ shape.members)
@@ -41,5 +44,6 @@ pads-in : (shape : Shape) (before : ℕ) (body : Body) → IsBodyAt shape before
 pads-in shape before (Pads pads) is = (pads, refl, is.1)
 pads-in shape before _ is = absurd is
 
-pub pads-form : (shape : Shape) (stage : ℕ) (body : Body) → kind_of_stage shape stage ≡ Some AtPad → IsBody shape stage body → ArePads shape body
+pub pads-form : (shape : Shape) (stage : ℕ) (body : Body) → kind_of_stage shape stage ≡ Some AtPad → IsBody shape stage body
+    → ArePads shape body
 pads-form shape stage body at is = pads-in shape (slots_before shape stage) body ((bodies_are_of_kinds shape stage AtPad body at).0 is)

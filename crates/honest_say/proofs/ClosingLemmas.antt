@@ -35,17 +35,38 @@ pub record IsVoteRow (shape : Shape) (stage : ℕ) : Type 0 where
   pub count : senders_of shape kind ≡ shape.members
 
 -- such a stage stands before a closing one
-pub vote-row : (shape : Shape) (stage : ℕ) → IsSome (option_and_then vote_of (kind_of_stage shape stage)) → (1 ≤ stage) × IsVoteRow shape (stage - 1)
+pub vote-row : (shape : Shape) (stage : ℕ) → IsSome (option_and_then vote_of (kind_of_stage shape stage)) → (1 ≤ stage)
+    × IsVoteRow shape (stage - 1)
 vote-row shape stage closing = by_kind (kind_of_stage shape stage) refl closing
   where
-    by_kind : (o : Option StageKind) → kind_of_stage shape stage ≡ o → IsSome (option_and_then vote_of o) → (1 ≤ stage) × IsVoteRow shape (stage - 1)
+    by_kind : (o : Option StageKind) → kind_of_stage shape stage ≡ o → IsSome (option_and_then vote_of o) → (1 ≤ stage)
+        × IsVoteRow shape (stage - 1)
     by_kind None e is = absurd cc
     by_kind (Some (Final shuffle)) e is =
-        let follows = closing-follows shape stage (Final shuffle) (Go shuffle) e refl in
-        (follows.0, record { kind = Go shuffle; at = follows.1; votes = refl; place = λ member. refl; all_speak = λ member there. there; count = refl })
+        let follows = closing-follows shape stage (Final shuffle) (Go shuffle) e refl in (
+          follows.0,
+          record {
+            kind = Go shuffle;
+            at = follows.1;
+            votes = refl;
+            place = λ member. refl;
+            all_speak = λ member there. there;
+            count = refl;
+          },
+        )
     by_kind (Some Confirm) e is =
-        let follows = closing-follows shape stage Confirm Check e refl in
-        (follows.0, record { kind = Check; at = follows.1; votes = refl; place = λ member. refl; all_speak = λ member there. there; count = refl })
+        let follows = closing-follows shape stage Confirm Check e refl in (
+          follows.0,
+          record {
+            kind = Check;
+            at = follows.1;
+            votes = refl;
+            place = λ member. refl;
+            all_speak = λ member there. there;
+            count =
+                refl;
+          },
+        )
     by_kind (Some Keys) e is = absurd cc
     by_kind (Some (Submit shuffle)) e is = absurd cc
     by_kind (Some (Shuffle shuffle k)) e is = absurd cc
@@ -56,20 +77,24 @@ vote-row shape stage closing = by_kind (kind_of_stage shape stage) refl closing
 pub vote-stage : (shape : Shape) (stage : ℕ) → IsVoteRow shape stage → is_vote (kind_of_stage shape stage) ≡ true
 vote-stage shape stage row = ap is_vote row.at ∙ row.votes
 
-pub row-slot : (shape : Shape) (stage member : ℕ) → IsVoteRow shape stage → 1 ≤ member → member ≤ shape.members → is_slot shape stage member ≡ true
+pub row-slot : (shape : Shape) (stage member : ℕ) → IsVoteRow shape stage → 1 ≤ member → member ≤ shape.members
+    → is_slot shape stage member ≡ true
 row-slot shape stage member row least most =
     ap (λ (o : Option StageKind). speaks shape o member) row.at ∙ row.all_speak member (member-there shape.members member least most)
 
 -- whether the votes of a log are unanimous is what the past says
-pub agree-log : (log : Log) (stage : ℕ) (posts : List Post) (votes : List Vote) → 1 ≤ stage → before log stage ≡ Some posts → log_votes log (stage - 1) ≡ Some votes
+pub agree-log : (log : Log) (stage : ℕ) (posts : List Post) (votes : List Vote) → 1 ≤ stage → before log stage ≡ Some posts
+    → log_votes log (stage - 1) ≡ Some votes
     → votes_agree log.shape (contents_of posts) stage ≡ is_unanimous votes
 unfolding are_unanimous
 agree-log log stage posts votes least e e' =
-    ap (λ (contents : List (List ℕ)). has_unanimous (votes_of log.shape contents)) (sym (contents_in-past log (stage - 1) stage posts (omega arith) e))
+    ap (λ (contents : List (List ℕ)). has_unanimous (votes_of log.shape contents))
+    (sym (contents_in-past log (stage - 1) stage posts (omega arith) e))
     ∙ ap has_unanimous e'
 
 -- the post of the member at a place is that of the past
-pub vote-kept : (log : Log) (stage place : ℕ) (posts : List Post) → 1 ≤ stage → before log stage ≡ Some posts → IsVoteRow log.shape (stage - 1) → place < log.shape.members
+pub vote-kept : (log : Log) (stage place : ℕ) (posts : List Post) → 1 ≤ stage → before log stage ≡ Some posts
+    → IsVoteRow log.shape (stage - 1) → place < log.shape.members
     → kept_in log (record { stage = stage - 1; sender = place + 1 }) ≡ slice_get (posts_at log.shape posts (stage - 1)) place
 vote-kept log stage place posts least e row lt =
     let a : ℕ = slots_before log.shape (stage - 1) in
@@ -77,22 +102,28 @@ vote-kept log stage place posts least e row lt =
     let count = slots_next log.shape (stage - 1) row.kind row.at in
     let behind : place < b - a = omega (arith, count, row.count) in
     let at : slot_number log.shape (stage - 1) (place + 1) ≡ a + place
-    = ap (λ (o : Option StageKind). a + place_in o (place + 1)) row.at ∙ ap (λ (k : ℕ). a + k) (row.place (place + 1)) ∙ ap (λ (k : ℕ). a + k) (let same : place + 1 - 1 ≡ place = omega arith in same) in
-    kept-at log stage (record { stage = stage - 1; sender = place + 1 }) posts e (row-slot log.shape (stage - 1) (place + 1) row (omega arith) (omega arith)) (omega arith)
+    = ap (λ (o : Option StageKind). a + place_in o (place + 1)) row.at ∙ ap (λ (k : ℕ). a + k) (row.place (place + 1))
+    ∙ ap (λ (k : ℕ). a + k) (let same : place + 1 - 1 ≡ place = omega arith in same) in
+    kept-at log stage (record { stage = stage - 1; sender = place + 1 }) posts e
+    (row-slot log.shape (stage - 1) (place + 1) row (omega arith) (omega arith)) (omega arith)
     ∙ ap (slice_get posts) at
     ∙ sym (slice_get-take (drop a posts) (b - a) place behind ∙ get_drop posts a place)
 
 -- a post more is written
-pub written-next : (posts : List Post) (place : ℕ) (post : Post) → slice_get posts place ≡ Some post → written (take (place + 1) posts) ≡ written (take place posts) ++ post_spelling post ∷ []
-written-next posts place post e = ap (λ (k : ℕ). written (take k posts)) (add-one place) ∙ ap written (front posts place post e) ∙ map-append post_spelling (take place posts) (post ∷ [])
+pub written-next : (posts : List Post) (place : ℕ) (post : Post) → slice_get posts place ≡ Some post
+    → written (take (place + 1) posts) ≡ written (take place posts) ++ post_spelling post ∷ []
+written-next posts place post e = ap (λ (k : ℕ). written (take k posts)) (add-one place) ∙ ap written (front posts place post e)
+    ∙ map-append post_spelling (take place posts) (post ∷ [])
   where
-    front : (posts : List Post) (place : ℕ) (post : Post) → slice_get posts place ≡ Some post → take (suc place) posts ≡ take place posts ++ post ∷ []
+    front : (posts : List Post) (place : ℕ) (post : Post) → slice_get posts place ≡ Some post → take (suc place) posts ≡ take place posts
+        ++ post ∷ []
     front [] place post e = absurd cc
     front (p ∷ posts) zero post e = let same : p ≡ post = cc in ap (λ (x : Post). x ∷ []) same
     front (p ∷ posts) (suc place) post e = ap (λ (t : List Post). p ∷ t) (front posts place post e)
 
 -- there is one for each member
-pub row-length : (log : Log) (stage : ℕ) (posts : List Post) → length posts ≡ slots_before log.shape stage → 1 ≤ stage → IsVoteRow log.shape (stage - 1)
+pub row-length : (log : Log) (stage : ℕ) (posts : List Post) → length posts ≡ slots_before log.shape stage → 1 ≤ stage
+    → IsVoteRow log.shape (stage - 1)
     → length (posts_at log.shape posts (stage - 1)) ≡ log.shape.members
 row-length log stage posts long least row =
     let a : ℕ = slots_before log.shape (stage - 1) in
@@ -104,6 +135,8 @@ row-length log stage posts long least row =
     omega (arith, count, row.count, same, dropped, taken, long)
 
 -- what a log of votes agrees on
-pub agree-before : (log : Log) (stage : ℕ) (votes : List Vote) → 1 ≤ stage → IsSome (before log stage) → log_votes log (stage - 1) ≡ Some votes
+pub agree-before : (log : Log) (stage : ℕ) (votes : List Vote) → 1 ≤ stage → IsSome (before log stage)
+    → log_votes log (stage - 1) ≡ Some votes
     → votes_agree log.shape (contents_of (posts_before log stage)) stage ≡ is_unanimous votes
-agree-before log stage votes least complete e = agree-log log stage (posts_before log stage) votes least (complete-posts log stage complete) e
+agree-before log stage votes least complete e = agree-log log stage (posts_before log stage) votes least (complete-posts log stage complete)
+    e

@@ -18,7 +18,8 @@ keys_by shape past member = keys_in (said_in shape past 0 member)
 abbrev pub pads_by : Shape → List (List ℕ) → ℕ → ℕ → List (List ℕ)
 pads_by shape past stage member = pads_in (said_in shape past stage member)
 
-pub member-next : {A : Type 0} (f : ℕ → A) (sender : ℕ) (list : List A) (x : A) → 1 ≤ sender → list ≡ map f (range_with_len 1 (sender - 1)) → x ≡ f sender
+pub member-next : {A : Type 0} (f : ℕ → A) (sender : ℕ) (list : List A) (x : A) → 1 ≤ sender → list ≡ map f (range_with_len 1 (sender - 1))
+    → x ≡ f sender
     → list ++ x ∷ [] ≡ map f (range_with_len 1 (sender + 1 - 1))
 member-next {A} f sender list x least so_far is =
     let place : sender + 1 - 1 ≡ (sender - 1) + 1 = omega arith in
@@ -28,7 +29,8 @@ member-next {A} f sender list x least so_far is =
     ∙ ap (λ (k : ℕ). map f (range_with_len 1 k)) (sym place)
 
 -- a column of the rows of keys
-pub column-of : (shape : Shape) (past : List (List ℕ)) (rows : List (List (List ℕ))) (place : ℕ) → rows ≡ map (keys_by shape past) (range_with_len 1 shape.members)
+pub column-of : (shape : Shape) (past : List (List ℕ)) (rows : List (List (List ℕ))) (place : ℕ)
+    → rows ≡ map (keys_by shape past) (range_with_len 1 shape.members)
     → map (λ (row : List (List ℕ)). slice_index_or row place []) rows ≡ keys_said shape past place
 column-of shape past rows place e =
     ap (λ (r : List (List (List ℕ))). map (λ (row : List (List ℕ)). slice_index_or row place []) r) e
@@ -39,10 +41,13 @@ keys-count shape past place = length-map-range_with_len (key_said shape past pla
 
 -- as a call has it
 pub column-said : (shape : Shape) (past : List (List ℕ)) (given rows : List (List (List ℕ))) (place : ℕ) (keys : List (List ℕ))
-    → keys ≡ map (λ (row : List (List ℕ)). slice_index_or row place []) given → given ≡ rows → rows ≡ map (keys_by shape past) (range_with_len 1 shape.members)
+    → keys ≡ map (λ (row : List (List ℕ)). slice_index_or row place []) given → given ≡ rows
+    → rows ≡ map (keys_by shape past) (range_with_len 1 shape.members)
     → keys ≡ keys_said shape past place
 column-said shape past given rows place keys is same are =
-    is ∙ ap (λ (r : List (List (List ℕ))). map (λ (row : List (List ℕ)). slice_index_or row place []) r) same ∙ column-of shape past rows place are
+    is ∙ ap (λ (r : List (List (List ℕ))). map (λ (row : List (List ℕ)). slice_index_or row place []) r) same
+    ∙ column-of shape past rows place are
 
-pub column-count : (shape : Shape) (past : List (List ℕ)) (place : ℕ) (keys : List (List ℕ)) → keys ≡ keys_said shape past place → length keys ≡ shape.members
+pub column-count : (shape : Shape) (past : List (List ℕ)) (place : ℕ) (keys : List (List ℕ)) → keys ≡ keys_said shape past place
+    → length keys ≡ shape.members
 column-count shape past place keys is = ap (λ (t : List (List ℕ)). length t) is ∙ keys-count shape past place

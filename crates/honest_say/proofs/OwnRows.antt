@@ -37,15 +37,18 @@ members-of c seat is = ap (λ (s : Shape). s.members) is.shape
 list-of : (c : Configuration) (seat : Seat) (past : List (List ℕ)) (shuffle : ℕ) → IsSeatOf c seat
     → list_said (shape_of seat.shape) past shuffle (seat.number - 1) ≡ list_said (shape_in c) past shuffle (c.number - 1)
 list-of c seat past shuffle is =
-    ap (λ (s : Shape). list_said s past shuffle (seat.number - 1)) is.shape ∙ ap (λ (n : ℕ). list_said (shape_in c) past shuffle (n - 1)) is.number
+    ap (λ (s : Shape). list_said s past shuffle (seat.number - 1)) is.shape
+    ∙ ap (λ (n : ℕ). list_said (shape_in c) past shuffle (n - 1)) is.number
 
 pub turn-aborts : (c : Configuration) (seat : Seat) (past : List (List ℕ)) (shuffle : ℕ) → IsSeatOf c seat
     → list_said (shape_of seat.shape) past shuffle (seat.number - 1) ≡ None → Abort ≡ turn_row c past shuffle
 unfolding turn_row
 turn-aborts c seat past shuffle is none = ap (turn_over c shuffle) (sym none ∙ list-of c seat past shuffle is)
 
-pub turn-says : (c : Configuration) (seat : Seat) (secrets : ShuffleSecrets) (past entries : List (List ℕ)) (shuffle : ℕ) → IsSeatOf c seat → AreShuffleSecrets c shuffle secrets
-    → list_said (shape_of seat.shape) past shuffle (seat.number - 1) ≡ Some entries → turn_of secrets.outer secrets.order_seed entries ≡ turn_row c past shuffle
+pub turn-says : (c : Configuration) (seat : Seat) (secrets : ShuffleSecrets) (past entries : List (List ℕ)) (shuffle : ℕ) → IsSeatOf c seat
+    → AreShuffleSecrets c shuffle secrets
+    → list_said (shape_of seat.shape) past shuffle (seat.number - 1) ≡ Some entries
+    → turn_of secrets.outer secrets.order_seed entries ≡ turn_row c past shuffle
 unfolding turn_row
 turn-says c seat secrets past entries shuffle is own some =
     ap (λ (seed : List ℕ). turn_of seed secrets.order_seed entries) own.outer
@@ -54,8 +57,10 @@ turn-says c seat secrets past entries shuffle is own some =
 
 -- ---- pads
 
-pub pad-own : (c : Configuration) (seat : Seat) (secrets : BulkSecrets) (own kept : List ℕ) (entry : Option (List ℕ)) → IsSeatOf c seat → AreBulkSecrets c secrets
-    → kept ≡ own_pad (own_pad_seeds c) c.number c.message → pad_sent_for seat.shape.members own kept seat.number secrets.key entry ≡ pad_for c own entry
+pub pad-own : (c : Configuration) (seat : Seat) (secrets : BulkSecrets) (own kept : List ℕ) (entry : Option (List ℕ)) → IsSeatOf c seat
+    → AreBulkSecrets c secrets
+    → kept ≡ own_pad (own_pad_seeds c) c.number c.message → pad_sent_for seat.shape.members own kept seat.number secrets.key entry ≡ pad_for
+    c own entry
 pad-own c seat secrets own kept None is bulk pad = refl
 pad-own c seat secrets own kept (Some entry) is bulk pad =
     ap (λ (n : ℕ). pad_row n own kept seat.number secrets.key entry) (members-of c seat is)
@@ -67,8 +72,10 @@ map-same : {A B : Type 0} (f g : A → B) (xs : List A) → ((x : A) → f x ≡
 map-same {A} {B} f g [] each = refl
 map-same {A} {B} f g (x ∷ xs) each = ap (λ (y : B). y ∷ map f xs) (each x) ∙ ap (λ (ys : List B). g x ∷ ys) (map-same f g xs each)
 
-pub pads-own : (c : Configuration) (seat : Seat) (secrets : BulkSecrets) (own kept : List ℕ) (opened : List (Option (List ℕ))) → IsSeatOf c seat → AreBulkSecrets c secrets
+pub pads-own : (c : Configuration) (seat : Seat) (secrets : BulkSecrets) (own kept : List ℕ) (opened : List (Option (List ℕ)))
+    → IsSeatOf c seat → AreBulkSecrets c secrets
     → kept ≡ own_pad (own_pad_seeds c) c.number c.message
     → map (pad_sent_for seat.shape.members own kept seat.number secrets.key) opened ≡ map (pad_for c own) opened
 pads-own c seat secrets own kept opened is bulk pad =
-    map-same (pad_sent_for seat.shape.members own kept seat.number secrets.key) (pad_for c own) opened (λ entry. pad-own c seat secrets own kept entry is bulk pad)
+    map-same (pad_sent_for seat.shape.members own kept seat.number secrets.key) (pad_for c own) opened
+    (λ entry. pad-own c seat secrets own kept entry is bulk pad)

@@ -29,7 +29,8 @@ use Rattle.shuffle_blame.proofs.Kept.{body_kept-past}
 use Rattle.round_spec.specs.Slots.{said_in}
 use Rattle.honest_say.specs.Pasts.{posts_before}
 
-pub kept-said : (log : Log) (stage : ℕ) (slot : Slot) → IsSome (before log stage) → is_slot log.shape slot.stage slot.sender ≡ true → slot.stage < stage
+pub kept-said : (log : Log) (stage : ℕ) (slot : Slot) → IsSome (before log stage) → is_slot log.shape slot.stage slot.sender ≡ true
+    → slot.stage < stage
     → body_kept log slot ≡ said_in log.shape (past_of log stage) slot.stage slot.sender
 unfolding said_in
 kept-said log stage slot complete speaks lt =
@@ -40,7 +41,8 @@ pub posts-are : (log : Log) (stage : ℕ) (posts : List Post) → before log sta
 posts-are log stage posts e = ap (λ (o : Option (List Post)). unwrap_or o []) e
 
 -- there is one for each slot
-pub past-length : (log : Log) (stage : ℕ) (posts : List Post) → IsLog log → before log stage ≡ Some posts → length posts ≡ slots_before log.shape stage
+pub past-length : (log : Log) (stage : ℕ) (posts : List Post) → IsLog log → before log stage ≡ Some posts
+    → length posts ≡ slots_before log.shape stage
 past-length log stage posts is e =
     let n : ℕ = slots_before log.shape stage in
     let within = before-within log stage is in
@@ -50,7 +52,8 @@ past-length log stage posts is e =
     omega (arith, row, mapped, taken, within)
 
 -- each of them can be kept
-pub past-kept : (log : Log) (stage : ℕ) (posts : List Post) → IsLog log → before log stage ≡ Some posts → All (λ post. IsKept post.content) posts
+pub past-kept : (log : Log) (stage : ℕ) (posts : List Post) → IsLog log → before log stage ≡ Some posts
+    → All (λ post. IsKept post.content) posts
 past-kept log stage posts is e = λ k d lt.
     let n : ℕ = slots_before log.shape stage in
     let within = before-within log stage is in
@@ -59,14 +62,16 @@ past-kept log stage posts is e = λ k d lt.
     = sym (get_or-take n log.posts k (Some d) (omega (arith, long, lt)))
     ∙ ap (λ (t : List (Option Post)). get_or t k (Some d)) (all_some-is (take n log.posts) posts e)
     ∙ get_or-map Some posts k d (Some d) lt in
-    subst (λ (o : Option Post). IfSome o (λ (post : Post). IsKept post.content)) there (is.contents k (Some d) (omega (arith, within, long, lt)))
+    subst (λ (o : Option Post). IfSome o (λ (post : Post). IsKept post.content)) there
+    (is.contents k (Some d) (omega (arith, within, long, lt)))
 
 flattened : {A : Type 0} (o : Option A) → option_flatten (option_map Some o) ≡ o
 flattened {A} None = refl
 flattened {A} (Some x) = refl
 
 -- what is kept in a slot of an earlier stage
-pub kept-at : (log : Log) (stage : ℕ) (slot : Slot) (posts : List Post) → before log stage ≡ Some posts → is_slot log.shape slot.stage slot.sender ≡ true → slot.stage < stage
+pub kept-at : (log : Log) (stage : ℕ) (slot : Slot) (posts : List Post) → before log stage ≡ Some posts
+    → is_slot log.shape slot.stage slot.sender ≡ true → slot.stage < stage
     → kept_in log slot ≡ slice_get posts (slot_number log.shape slot.stage slot.sender)
 kept-at log stage slot posts e speaks lt =
     let number : ℕ = slot_number log.shape slot.stage slot.sender in
@@ -75,7 +80,8 @@ kept-at log stage slot posts e speaks lt =
     let rises = slots_before-rises log.shape (slot.stage + 1) stage (omega arith) in
     cond-true (is_slot log.shape slot.stage slot.sender) (option_flatten (slice_get log.posts number)) None speaks
     ∙ ap (λ (o : Option (Option Post)). option_flatten o)
-    (sym (slice_get-take log.posts n number (omega (arith, within.1))) ∙ ap (λ (t : List (Option Post)). slice_get t number) (all_some-is (take n log.posts) posts e) ∙ slice_get-map Some posts number)
+    (sym (slice_get-take log.posts n number (omega (arith, within.1)))
+    ∙ ap (λ (t : List (Option Post)). slice_get t number) (all_some-is (take n log.posts) posts e) ∙ slice_get-map Some posts number)
     ∙ flattened (slice_get posts number)
 
 get-there : {A : Type 0} (xs : List A) (k : ℕ) → k < length xs → (x : A) × (slice_get xs k ≡ Some x)
@@ -83,7 +89,8 @@ get-there [] k lt = absurd (omega arith)
 get-there (x ∷ xs) zero lt = (x, refl)
 get-there (x ∷ xs) (suc k) lt = get-there xs k (omega arith)
 
-pub kept-post : (log : Log) (stage : ℕ) (slot : Slot) → IsLog log → IsSome (before log stage) → is_slot log.shape slot.stage slot.sender ≡ true → slot.stage < stage
+pub kept-post : (log : Log) (stage : ℕ) (slot : Slot) → IsLog log → IsSome (before log stage)
+    → is_slot log.shape slot.stage slot.sender ≡ true → slot.stage < stage
     → (post : Post) × (kept_in log slot ≡ Some post)
 kept-post log stage slot is complete speaks lt =
     let posts = some_of (before log stage) complete in
@@ -99,7 +106,8 @@ pub record IsSaid (shape : Shape) (past : List (List ℕ)) (stage sender : ℕ) 
   pub said : said_in shape past stage sender ≡ content.body
   pub body : IsBody shape stage content.body
 
-pub said-stands : (log : Log) (stage : ℕ) (slot : Slot) → IsLog log → IsSome (before log stage) → is_slot log.shape slot.stage slot.sender ≡ true → slot.stage < stage
+pub said-stands : (log : Log) (stage : ℕ) (slot : Slot) → IsLog log → IsSome (before log stage)
+    → is_slot log.shape slot.stage slot.sender ≡ true → slot.stage < stage
     → StandAt log slot.stage → IsSaid log.shape (past_of log stage) slot.stage slot.sender
 said-stands log stage slot is complete speaks lt stand =
     let post = kept-post log stage slot is complete speaks lt in

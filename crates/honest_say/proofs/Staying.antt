@@ -23,13 +23,15 @@ said-stays log stage later at sender reached speaks lt =
     let order = reached.order in
     sym (kept-said log stage slot reached.at speaks lt) ∙ kept-said log later slot reached.at_later speaks (omega (arith, order))
 
-same-range : {A : Type 0} (f g : ℕ → A) (a n : ℕ) → ((k : ℕ) → a ≤ k → k < a + n → f k ≡ g k) → map f (range_with_len a n) ≡ map g (range_with_len a n)
+same-range : {A : Type 0} (f g : ℕ → A) (a n : ℕ) → ((k : ℕ) → a ≤ k → k < a + n → f k ≡ g k)
+    → map f (range_with_len a n) ≡ map g (range_with_len a n)
 same-range {A} f g a zero each = refl
 same-range {A} f g a (suc n) each =
     ap (λ (x : A). x ∷ map f (range_with_len (a + 1) n)) (each a (omega arith) (omega arith))
     ∙ ap (λ (xs : List A). g a ∷ xs) (same-range f g (a + 1) n (λ k least lt. each k (omega arith) (omega arith)))
 
-same-members : {A : Type 0} (shape : Shape) (f g : ℕ → A) → ((member : ℕ) → 1 ≤ member → member ≤ shape.members → f member ≡ g member) → by_member shape f ≡ by_member shape g
+same-members : {A : Type 0} (shape : Shape) (f g : ℕ → A) → ((member : ℕ) → 1 ≤ member → member ≤ shape.members → f member ≡ g member)
+    → by_member shape f ≡ by_member shape g
 same-members {A} shape f g each = same-range f g 1 shape.members (λ member least lt. each member least (omega arith))
 
 pub keys_stay : KeysStay
@@ -38,16 +40,19 @@ keys_stay log stage later place reached behind =
     (λ member least most. ap (λ (body : Body). slice_index_or (keys_in body) place [])
     (said-stays log stage later 0 member reached (keys-slot log.shape member least most) (omega arith)))
 
-seeds-stay : (log : Log) (stage later shuffle : ℕ) → AreReached log stage later → 1 ≤ shuffle → shuffle ≤ 2 → final_stage log.shape shuffle < stage
+seeds-stay : (log : Log) (stage later shuffle : ℕ) → AreReached log stage later → 1 ≤ shuffle → shuffle ≤ 2
+    → final_stage log.shape shuffle < stage
     → seeds_revealed log.shape (past_of log stage) shuffle ≡ seeds_revealed log.shape (past_of log later) shuffle
 seeds-stay log stage later shuffle reached first last behind =
     same-members log.shape (λ member. seed_in (said_in log.shape (past_of log stage) (final_stage log.shape shuffle) member))
     (λ member. seed_in (said_in log.shape (past_of log later) (final_stage log.shape shuffle) member))
     (λ member least most. ap seed_in
-    (said-stays log stage later (final_stage log.shape shuffle) member reached (final-slot log.shape shuffle member first last least most) behind))
+    (said-stays log stage later (final_stage log.shape shuffle) member reached (final-slot log.shape shuffle member first last least most)
+    behind))
 
 list-stays : (log : Log) (stage later shuffle turn : ℕ) → AreReached log stage later → 1 ≤ shuffle → shuffle ≤ 2 → turn ≤ log.shape.members
-    → submit_stage log.shape shuffle + turn < stage → list_said log.shape (past_of log stage) shuffle turn ≡ list_said log.shape (past_of log later) shuffle turn
+    → submit_stage log.shape shuffle + turn < stage → list_said log.shape (past_of log stage) shuffle turn ≡ list_said log.shape
+    (past_of log later) shuffle turn
 list-stays log stage later shuffle zero reached first last within behind =
     let at : ℕ = submit_stage log.shape shuffle in
     ap (λ (list : List (List ℕ)). Some list)
@@ -56,7 +61,8 @@ list-stays log stage later shuffle zero reached first last within behind =
     (λ member least most. ap ciphertext_of
     (said-stays log stage later at member reached (submit-slot log.shape shuffle member first last least most) (omega (arith, behind)))))
 list-stays log stage later shuffle (suc turn) reached first last within behind =
-    ap list_of (said-stays log stage later (submit_stage log.shape shuffle + suc turn) (suc turn) reached (turn-slot log.shape shuffle (suc turn) first last (omega arith) within) behind)
+    ap list_of (said-stays log stage later (submit_stage log.shape shuffle + suc turn) (suc turn) reached
+    (turn-slot log.shape shuffle (suc turn) first last (omega arith) within) behind)
 
 pub items_stay : ItemsStay
 unfolding items_opened
@@ -64,24 +70,29 @@ items_stay log stage later shuffle reached first last behind =
     let n : ℕ = log.shape.members in
     let earlier : submit_stage log.shape shuffle + n < stage = omega (arith, behind) in
     let list = list-stays log stage later shuffle n reached first last (omega arith) earlier in
-    ap (λ (seeds : List (List ℕ)). entries_opened log.shape seeds (list_said log.shape (past_of log stage) shuffle n)) (seeds-stay log stage later shuffle reached first last behind)
+    ap (λ (seeds : List (List ℕ)). entries_opened log.shape seeds (list_said log.shape (past_of log stage) shuffle n))
+    (seeds-stay log stage later shuffle reached first last behind)
     ∙ ap (entries_opened log.shape (seeds_revealed log.shape (past_of log later) shuffle)) list
 
-pads-stay : (log : Log) (stage later : ℕ) → AreReached log stage later → pad_stage log.shape < stage → pads_sent log.shape (past_of log stage) ≡ pads_sent log.shape (past_of log later)
+pads-stay : (log : Log) (stage later : ℕ) → AreReached log stage later → pad_stage log.shape < stage
+    → pads_sent log.shape (past_of log stage) ≡ pads_sent log.shape (past_of log later)
 unfolding pads_sent
 pads-stay log stage later reached behind =
     same-members log.shape (λ member. pads_in (said_in log.shape (past_of log stage) (pad_stage log.shape) member))
     (λ member. pads_in (said_in log.shape (past_of log later) (pad_stage log.shape) member))
-    (λ member least most. ap pads_in (said-stays log stage later (pad_stage log.shape) member reached (pad-slot log.shape member least most) behind))
+    (λ member least most. ap pads_in (said-stays log stage later (pad_stage log.shape) member reached (pad-slot log.shape member least most)
+    behind))
 
 descriptors-stay : (log : Log) (stage later : ℕ) → AreReached log stage later → pad_stage log.shape < stage
     → descriptors_opened log.shape (past_of log stage) ≡ descriptors_opened log.shape (past_of log later)
 unfolding descriptors_opened
 descriptors-stay log stage later reached behind =
-    ap (λ (items : List (Option (List ℕ))). map (option_and_then (descriptor_read log.shape.members)) items) (items_stay log stage later 1 reached (omega arith) (omega arith) (omega (arith, behind)))
+    ap (λ (items : List (Option (List ℕ))). map (option_and_then (descriptor_read log.shape.members)) items)
+    (items_stay log stage later 1 reached (omega arith) (omega arith) (omega (arith, behind)))
 
 pub slots_stay : SlotsStay
 unfolding slots_of_past
 slots_stay log stage later reached behind =
-    ap (λ (d : List (Option Description)). slot_states d (pads_sent log.shape (past_of log stage))) (descriptors-stay log stage later reached behind)
+    ap (λ (d : List (Option Description)). slot_states d (pads_sent log.shape (past_of log stage)))
+    (descriptors-stay log stage later reached behind)
     ∙ ap (slot_states (descriptors_opened log.shape (past_of log later))) (pads-stay log stage later reached behind)

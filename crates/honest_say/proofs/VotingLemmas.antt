@@ -45,7 +45,8 @@ there-or [] i d lt = absurd (omega arith)
 there-or (x ∷ xs) zero d lt = refl
 there-or (x ∷ xs) (suc i) d lt = there-or xs i d (omega arith)
 
-pub all-there : {A : Type 0} (xs : List (Option A)) → ((i : ℕ) → i < length xs → (x : A) × (slice_get xs i ≡ Some (Some x))) → is_none (all_some xs) ≡ false
+pub all-there : {A : Type 0} (xs : List (Option A)) → ((i : ℕ) → i < length xs → (x : A) × (slice_get xs i ≡ Some (Some x)))
+    → is_none (all_some xs) ≡ false
 all-there {A} [] each = refl
 all-there {A} (None ∷ xs) each = let first = each 0 (omega arith) in absurd (let e = first.1 in cc)
 all-there {A} (Some x ∷ xs) each = still (all_some xs) (all-there xs (λ i lt. each (suc i) (omega arith)))
@@ -94,8 +95,10 @@ turns-count shape shuffle zero first last le =
 turns-count shape shuffle (suc j) first last le =
     let s : ℕ = submit_stage shape shuffle in
     let next = slots_next shape (s + suc j) (Shuffle shuffle (suc j)) (turn-kind shape shuffle (suc j) first last (omega arith) le) in
-    let before : slots_before shape (s + suc j) ≡ slots_before shape (s + 1 + j) = ap (slots_before shape) (let e : s + suc j ≡ s + 1 + j = omega arith in e) in
-    let behind : slots_before shape (s + 1 + suc j) ≡ slots_before shape (s + suc j + 1) = ap (slots_before shape) (let e : s + 1 + suc j ≡ s + suc j + 1 = omega arith in e) in
+    let before : slots_before shape (s + suc j) ≡ slots_before shape (s + 1 + j) = ap (slots_before shape)
+    (let e : s + suc j ≡ s + 1 + j = omega arith in e) in
+    let behind : slots_before shape (s + 1 + suc j) ≡ slots_before shape (s + suc j + 1) = ap (slots_before shape)
+    (let e : s + 1 + suc j ≡ s + suc j + 1 = omega arith in e) in
     let so_far = turns-count shape shuffle j first last (omega arith) in
     omega (arith, next, before, behind, so_far)
 
@@ -104,22 +107,27 @@ turn-number : (shape : Shape) (shuffle turn : ℕ) → 1 ≤ shuffle → shuffle
 turn-number shape shuffle turn first last least most =
     let s : ℕ = submit_stage shape shuffle in
     let count = turns-count shape shuffle (turn - 1) first last (omega arith) in
-    let at : slots_before shape (s + turn) ≡ slots_before shape (s + 1 + (turn - 1)) = ap (slots_before shape) (let e : s + turn ≡ s + 1 + (turn - 1) = omega arith in e) in
-    let place : place_in (kind_of_stage shape (s + turn)) turn ≡ 0 = ap (λ (o : Option StageKind). place_in o turn) (turn-kind shape shuffle turn first last least most) in
+    let at : slots_before shape (s + turn) ≡ slots_before shape (s + 1 + (turn - 1)) = ap (slots_before shape)
+    (let e : s + turn ≡ s + 1 + (turn - 1) = omega arith in e) in
+    let place : place_in (kind_of_stage shape (s + turn)) turn ≡ 0 = ap (λ (o : Option StageKind). place_in o turn)
+    (turn-kind shape shuffle turn first last least most) in
     omega (arith, count, at, place)
 
-go-count : (shape : Shape) (shuffle : ℕ) → 1 ≤ shuffle → shuffle ≤ 2 → slots_before shape (final_stage shape shuffle - 1) ≡ slots_before shape (submit_stage shape shuffle + 1) + shape.members
+go-count : (shape : Shape) (shuffle : ℕ) → 1 ≤ shuffle → shuffle ≤ 2
+    → slots_before shape (final_stage shape shuffle - 1) ≡ slots_before shape (submit_stage shape shuffle + 1) + shape.members
 go-count shape shuffle first last =
     let s : ℕ = submit_stage shape shuffle in
     let count = turns-count shape shuffle shape.members first last (omega arith) in
-    let at : slots_before shape (final_stage shape shuffle - 1) ≡ slots_before shape (s + 1 + shape.members) = ap (slots_before shape) (let e : final_stage shape shuffle - 1 ≡ s + 1 + shape.members = omega arith in e) in
+    let at : slots_before shape (final_stage shape shuffle - 1) ≡ slots_before shape (s + 1 + shape.members) = ap (slots_before shape)
+    (let e : final_stage shape shuffle - 1 ≡ s + 1 + shape.members = omega arith in e) in
     at ∙ count
 
 -- the lists that are read of them
 abbrev pub turns_read : Shape → List (List ℕ) → ℕ → List (Option (List (List ℕ)))
 turns_read shape past shuffle = map (λ turn. list_read (content_read shape turn)) (turns_before shape past (final_stage shape shuffle - 1))
 
-pub turns-length : (shape : Shape) (past : List (List ℕ)) (shuffle : ℕ) → 1 ≤ shuffle → shuffle ≤ 2 → slots_before shape (final_stage shape shuffle - 1) ≤ length past
+pub turns-length : (shape : Shape) (past : List (List ℕ)) (shuffle : ℕ) → 1 ≤ shuffle → shuffle ≤ 2
+    → slots_before shape (final_stage shape shuffle - 1) ≤ length past
     → length (turns_read shape past shuffle) ≡ shape.members
 turns-length shape past shuffle first last long =
     let b : ℕ = slots_before shape (final_stage shape shuffle - 1) in
@@ -130,7 +138,8 @@ turns-length shape past shuffle first last long =
     let taken = length-take (b - a) (drop a past) in
     omega (arith, count, mapped, dropped, taken)
 
-pub turn-read : (shape : Shape) (past : List (List ℕ)) (shuffle turn : ℕ) → 1 ≤ shuffle → shuffle ≤ 2 → slots_before shape (final_stage shape shuffle - 1) ≤ length past → 1 ≤ turn → turn ≤ shape.members
+pub turn-read : (shape : Shape) (past : List (List ℕ)) (shuffle turn : ℕ) → 1 ≤ shuffle → shuffle ≤ 2
+    → slots_before shape (final_stage shape shuffle - 1) ≤ length past → 1 ≤ turn → turn ≤ shape.members
     → slice_get (turns_read shape past shuffle) (turn - 1) ≡ Some (list_of (said_in shape past (submit_stage shape shuffle + turn) turn))
 unfolding said_in
 turn-read shape past shuffle turn first last long least most =
@@ -138,20 +147,25 @@ turn-read shape past shuffle turn first last long least most =
     let a : ℕ = b - shape.members in
     let f : List ℕ → Option (List (List ℕ)) = λ bytes. list_read (content_read shape bytes) in
     let count = go-count shape shuffle first last in
-    let number : a + (turn - 1) ≡ slot_number shape (submit_stage shape shuffle + turn) turn = omega (arith, count, turn-number shape shuffle turn first last least most) in
+    let number : a + (turn - 1) ≡ slot_number shape (submit_stage shape shuffle + turn) turn = omega
+    (arith, count, turn-number shape shuffle turn first last least most) in
     let within : turn - 1 < b - a = omega (arith, count) in
     slice_get-map f (turns_before shape past (final_stage shape shuffle - 1)) (turn - 1)
-    ∙ ap (option_map f) (slice_get-take (drop a past) (b - a) (turn - 1) within ∙ get_drop past a (turn - 1) ∙ there-or past (a + (turn - 1)) [] (omega (arith, count)))
+    ∙ ap (option_map f) (slice_get-take (drop a past) (b - a) (turn - 1) within ∙ get_drop past a (turn - 1)
+    ∙ there-or past (a + (turn - 1)) [] (omega (arith, count)))
     ∙ ap (λ (k : ℕ). Some (f (get_or past k []))) number
-    ∙ ap (λ (o : Option (List (List ℕ))). Some o) (read_list (content_read shape (get_or past (slot_number shape (submit_stage shape shuffle + turn) turn) [])))
+    ∙ ap (λ (o : Option (List (List ℕ))). Some o) (read_list (content_read shape
+    (get_or past (slot_number shape (submit_stage shape shuffle + turn) turn) [])))
 
 -- ---- the last list
 
-pub last-stands : (shape : Shape) (inner : List ℕ) (xs : List (Option (List (List ℕ)))) (last : Option (List (List ℕ))) → is_none (all_some xs) ≡ false
+pub last-stands : (shape : Shape) (inner : List ℕ) (xs : List (Option (List (List ℕ)))) (last : Option (List (List ℕ)))
+    → is_none (all_some xs) ≡ false
     → slice_get xs (shape.members - 1) ≡ Some last → stands_last shape inner (all_some xs) ≡ stands_in inner last
 last-stands shape inner xs last full e = by_all (all_some xs) refl full
   where
-    flat : (o : Option (List (List ℕ))) → option_map (λ (l : List (List ℕ)). Some l) o ≡ Some last → stands_in inner o ≡ stands_in inner last
+    flat : (o : Option (List (List ℕ))) → option_map (λ (l : List (List ℕ)). Some l) o ≡ Some last
+        → stands_in inner o ≡ stands_in inner last
     flat None e = absurd cc
     flat (Some l) e = let same : Some l ≡ last = cc in ap (stands_in inner) same
 
@@ -159,7 +173,8 @@ last-stands shape inner xs last full e = by_all (all_some xs) refl full
     by_all None all full = absurd cc
     by_all (Some lists) all full =
         flat (slice_get lists (shape.members - 1))
-        (sym (slice_get-map (λ (l : List (List ℕ)). Some l) lists (shape.members - 1)) ∙ ap (λ (t : List (Option (List (List ℕ)))). slice_get t (shape.members - 1)) (sym (all_some-is xs lists all)) ∙ e)
+        (sym (slice_get-map (λ (l : List (List ℕ)). Some l) lists (shape.members - 1))
+        ∙ ap (λ (t : List (Option (List (List ℕ)))). slice_get t (shape.members - 1)) (sym (all_some-is xs lists all)) ∙ e)
 
 -- ---- a turn by the byte of its kind
 
@@ -190,7 +205,8 @@ turn-at (Some AtCheck) is = absurd is
 turn-at (Some AtConfirm) is = absurd is
 
 -- whether the content that a log keeps of a turn is Abort
-pub abort-kept : (log : Log) (slot : Slot) (post : Post) → kept_in log slot ≡ Some post → StandAll log → IsTurn (kind_of_stage log.shape slot.stage)
+pub abort-kept : (log : Log) (slot : Slot) (post : Post) → kept_in log slot ≡ Some post → StandAll log
+    → IsTurn (kind_of_stage log.shape slot.stage)
     → (get_or post.content 75 0 == 4) ≡ is_none (list_of (body_kept log slot))
 abort-kept log slot post kept stand is =
     let stands : StandsIn log.shape slot post.content = stand slot.stage slot.sender post kept in
@@ -231,13 +247,15 @@ past-long log stage is complete =
     omega (arith, mapped, long)
 
 turn-kept : (log : Log) (shuffle turn : ℕ) → IsVotedOn log shuffle → 1 ≤ turn → turn ≤ log.shape.members
-    → slice_get (turns_read log.shape (voted_on log shuffle) shuffle) (turn - 1) ≡ Some (list_of (body_kept log (turn_slot log.shape shuffle turn)))
+    → slice_get (turns_read log.shape (voted_on log shuffle) shuffle) (turn - 1) ≡ Some
+    (list_of (body_kept log (turn_slot log.shape shuffle turn)))
 turn-kept log shuffle turn voted least most =
     let stage : ℕ = final_stage log.shape shuffle - 1 in
     let earlier : submit_stage log.shape shuffle + turn < stage = omega (arith, least, most) in
     turn-read log.shape (past_of log stage) shuffle turn voted.first voted.last (past-long log stage voted.is voted.complete) least most
     ∙ ap (λ (body : Body). Some (list_of body))
-    (sym (kept-said log stage (turn_slot log.shape shuffle turn) voted.complete (turn-slot log.shape shuffle turn voted.first voted.last least most) earlier))
+    (sym (kept-said log stage (turn_slot log.shape shuffle turn) voted.complete
+    (turn-slot log.shape shuffle turn voted.first voted.last least most) earlier))
 
 none-is : {A : Type 0} (o : Option A) → is_none o ≡ true → o ≡ None
 none-is None e = refl
@@ -248,7 +266,8 @@ some-is None e = absurd cc
 some-is (Some x) e = (x, refl)
 
 -- where a turn is Abort, there are not all lists
-pub missing-turn : (log : Log) (shuffle turn : ℕ) → IsVotedOn log shuffle → 1 ≤ turn → turn ≤ log.shape.members → is_aborted log shuffle turn ≡ true
+pub missing-turn : (log : Log) (shuffle turn : ℕ) → IsVotedOn log shuffle → 1 ≤ turn → turn ≤ log.shape.members
+    → is_aborted log shuffle turn ≡ true
     → is_none (lists_before log.shape (voted_on log shuffle) (final_stage log.shape shuffle - 1)) ≡ true
 missing-turn log shuffle turn voted least most aborted =
     let none = none-is (list_of (body_kept log (turn_slot log.shape shuffle turn))) aborted in
@@ -256,7 +275,8 @@ missing-turn log shuffle turn voted least most aborted =
     (turn-kept log shuffle turn voted least most ∙ ap (λ (o : Option (List (List ℕ))). Some o) none)
 
 -- where none is, there are
-pub no-missing-turn : (log : Log) (shuffle : ℕ) → IsVotedOn log shuffle → ((turn : ℕ) → 1 ≤ turn → turn ≤ log.shape.members → is_aborted log shuffle turn ≡ false)
+pub no-missing-turn : (log : Log) (shuffle : ℕ) → IsVotedOn log shuffle
+    → ((turn : ℕ) → 1 ≤ turn → turn ≤ log.shape.members → is_aborted log shuffle turn ≡ false)
     → is_none (lists_before log.shape (voted_on log shuffle) (final_stage log.shape shuffle - 1)) ≡ false
 no-missing-turn log shuffle voted each =
     let stage : ℕ = final_stage log.shape shuffle - 1 in
@@ -264,8 +284,11 @@ no-missing-turn log shuffle voted each =
     all-there (turns_read log.shape (past_of log stage) shuffle) (λ i lt.
     let most : i + 1 ≤ log.shape.members = omega (arith, count, lt) in
     let there = some-is (list_of (body_kept log (turn_slot log.shape shuffle (i + 1)))) (each (i + 1) (omega arith) most) in
-    let at : i + 1 - 1 ≡ i = omega arith in
-    (there.0, ap (slice_get (turns_read log.shape (past_of log stage) shuffle)) (sym at) ∙ turn-kept log shuffle (i + 1) voted (omega arith) most ∙ ap (λ (o : Option (List (List ℕ))). Some o) there.1))
+    let at : i + 1 - 1 ≡ i = omega arith in (
+      there.0,
+      ap (slice_get (turns_read log.shape (past_of log stage) shuffle)) (sym at)
+          ∙ turn-kept log shuffle (i + 1) voted (omega arith) most ∙ ap (λ (o : Option (List (List ℕ))). Some o) there.1,
+    ))
 
 -- and the last of them is that of the last turn
 pub last-list : (log : Log) (shuffle : ℕ) (inner : List ℕ) → IsVotedOn log shuffle
@@ -276,11 +299,14 @@ last-list log shuffle inner voted full =
     let n : ℕ = log.shape.members in
     let stage : ℕ = final_stage log.shape shuffle - 1 in
     let least : 1 ≤ n = omega (arith, voted.is.shape.least) in
-    let read = turn-read log.shape (past_of log stage) shuffle n voted.first voted.last (past-long log stage voted.is voted.complete) least (omega arith) in
-    last-stands log.shape inner (turns_read log.shape (past_of log stage) shuffle) (list_of (said_in log.shape (past_of log stage) (submit_stage log.shape shuffle + n) n)) full read
+    let read = turn-read log.shape (past_of log stage) shuffle n voted.first voted.last (past-long log stage voted.is voted.complete) least
+    (omega arith) in
+    last-stands log.shape inner (turns_read log.shape (past_of log stage) shuffle)
+    (list_of (said_in log.shape (past_of log stage) (submit_stage log.shape shuffle + n) n)) full read
     ∙ ap (stands_in inner) (list-said log.shape (past_of log stage) shuffle n least)
 
 -- where there are not all lists, nothing stands in the last
-pub none-stands : (shape : Shape) (inner : List ℕ) (lists : Option (List (List (List ℕ)))) → is_none lists ≡ true → false ≡ stands_last shape inner lists
+pub none-stands : (shape : Shape) (inner : List ℕ) (lists : Option (List (List (List ℕ)))) → is_none lists ≡ true
+    → false ≡ stands_last shape inner lists
 none-stands shape inner None e = refl
 none-stands shape inner (Some lists) e = absurd cc

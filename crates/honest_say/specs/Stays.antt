@@ -18,7 +18,8 @@ KeysStay = (log : Log) (stage later place : ℕ) → AreReached log stage later 
 
 -- what the last list of a shuffle opens to, behind the shuffle's end
 abbrev pub ItemsStay : Type 0
-ItemsStay = (log : Log) (stage later shuffle : ℕ) → AreReached log stage later → 1 ≤ shuffle → shuffle ≤ 2 → final_stage log.shape shuffle < stage →
+ItemsStay = (log : Log) (stage later shuffle : ℕ) → AreReached log stage later → 1 ≤ shuffle → shuffle ≤ 2
+    → final_stage log.shape shuffle < stage →
     items_opened log.shape (past_of log stage) shuffle ≡ items_opened log.shape (past_of log later) shuffle
 
 -- the states of the slots, behind the stage of the pads

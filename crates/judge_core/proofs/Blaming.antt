@@ -37,10 +37,12 @@ three-parts : (case : Case) (first : Said) (others : List Said) (u v : Option Fa
     → unlike_from case (past_in case first) 2 others ≡ v
     → replay_answer case (first ∷ others) ≡ answer_of (first_some (u ∷ v ∷ culprit_in case first others ∷ []))
 three-parts case first others u v e f =
-    ap (λ (x : Option FailedCheck). answer_of (first_some (x ∷ unlike_from case (past_in case first) 2 others ∷ culprit_in case first others ∷ []))) e
+    ap (λ (x : Option FailedCheck). answer_of (first_some (x ∷ unlike_from case (past_in case first) 2 others ∷ culprit_in case first others
+    ∷ []))) e
     ∙ ap (λ (x : Option FailedCheck). answer_of (first_some (u ∷ x ∷ culprit_in case first others ∷ []))) f
 
-behind-first : (case : Case) (first : Said) (others : List Said) → is_justified_in case first ≡ true → unjustified_from case 1 (first ∷ others) ≡ unjustified_from case 2 others
+behind-first : (case : Case) (first : Said) (others : List Said) → is_justified_in case first ≡ true
+    → unjustified_from case 1 (first ∷ others) ≡ unjustified_from case 2 others
 behind-first case first others good = cond-true (is_justified_in case first) (unjustified_from case 2 others) (Some (NotJustified 1)) good
 
 -- where the first is not justified
@@ -60,16 +62,19 @@ pub other-unjustified : (case : Case) (first : Said) (others : List Said) (faile
     → IsUnjustified case others failed → IsFault failed (replay_answer case (first ∷ others))
 other-unjustified case first others None good unjustified = tt
 other-unjustified case first others (Some failed) good unjustified =
-    three-parts case first others (Some failed) (unlike_from case (past_in case first) 2 others) (behind-first case first others good ∙ unjustified) refl
+    three-parts case first others (Some failed) (unlike_from case (past_in case first) 2 others)
+    (behind-first case first others good ∙ unjustified) refl
 
 -- where all are justified, and two logs differ
 pub logs-differ : (case : Case) (first : Said) (others : List Said) (failed : FailedCheck) → is_justified_in case first ≡ true
     → unjustified_from case 2 others ≡ None → Some failed ≡ unlike_from case (past_in case first) 2 others
     → replay_answer case (first ∷ others) ≡ Err failed
-logs-differ case first others failed good none unlike = three-parts case first others None (Some failed) (behind-first case first others good ∙ none) (sym unlike)
+logs-differ case first others failed good none unlike = three-parts case first others None (Some failed)
+    (behind-first case first others good ∙ none) (sym unlike)
 
 -- where none do, the replay decides
-pub replay-decides : (case : Case) (first : Said) (others : List Said) (fault : Option Fault) (failure : Option FailedCheck) → is_justified_in case first ≡ true
+pub replay-decides : (case : Case) (first : Said) (others : List Said) (fault : Option Fault) (failure : Option FailedCheck)
+    → is_justified_in case first ≡ true
     → unjustified_from case 2 others ≡ None → None ≡ unlike_from case (past_in case first) 2 others
     → fault ≡ culprit_of (inquiry_in case first (first ∷ others)) → failure ≡ culprit_failure case.accused fault
     → replay_answer case (first ∷ others) ≡ value_unless failure (tt {0})
@@ -91,15 +96,19 @@ pub inquiry-is : (case : Case) (first : Said) (others : List Said) (shows : Show
     → inquiry_of shows.log shows.stage case.round told ≡ inquiry_in case first (first ∷ others)
 inquiry-is case first others shows told s e =
     let shape : shows.log.shape ≡ shape_in case = ap (λ (l : Log). l.shape) s.keeps.keeps in
-    let posts : before shows.log first.header.stage ≡ Some s.keeps.posts = before-past (shape_in case) first.header.stage (past_in case first) shows.log s.keeps in
-    let past : contents_of (unwrap_or (before shows.log first.header.stage) []) ≡ past_in case first = ap (λ (o : Option (List Post)). contents_of (unwrap_or o [])) posts ∙ s.keeps.contents in
+    let posts : before shows.log first.header.stage ≡ Some s.keeps.posts = before-past (shape_in case) first.header.stage
+    (past_in case first) shows.log s.keeps in
+    let past : contents_of (unwrap_or (before shows.log first.header.stage) []) ≡ past_in case first = ap
+    (λ (o : Option (List Post)). contents_of (unwrap_or o [])) posts ∙ s.keeps.contents in
     ap (λ (stage : ℕ). inquiry_of shows.log stage case.round told) s.stage
-    ∙ ap (λ (x : Shape). asked x (contents_of (unwrap_or (before shows.log first.header.stage) [])) first.header.stage case.round told) shape
+    ∙ ap (λ (x : Shape). asked x (contents_of (unwrap_or (before shows.log first.header.stage) [])) first.header.stage case.round told)
+    shape
     ∙ ap (λ (x : List (List ℕ)). asked (shape_in case) x first.header.stage case.round told) past
     ∙ ap (λ (x : List Shown). asked (shape_in case) (past_in case first) first.header.stage case.round x) e
 
 -- at the end of a shuffle each shows its part
-parts-long : (case : Case) (kind : Option StageKind) (said : List Said) → length said ≡ (shape_in case).members → AreShown (shape_in case) kind (parts_shown case kind said)
+parts-long : (case : Case) (kind : Option StageKind) (said : List Said) → length said ≡ (shape_in case).members
+    → AreShown (shape_in case) kind (parts_shown case kind said)
 parts-long case None said long = tt
 parts-long case (Some (AtFinal shuffle)) said long = length-map said (shown_of case) ∙ long
 parts-long case (Some AtConfirm) said long = tt
@@ -130,7 +139,8 @@ shown-closing case first shows post s =
 pub shown-complete : (case : Case) (first : Said) (shows : Shows) (s : IsShown case first shows) → IsSome (before shows.log shows.stage)
 shown-complete case first shows s =
     subst (λ (o : Option (List Post)). IsSome o)
-    (sym (ap (λ (stage : ℕ). before shows.log stage) s.stage ∙ before-past (shape_in case) first.header.stage (past_in case first) shows.log s.keeps))
+    (sym (ap (λ (stage : ℕ). before shows.log stage) s.stage ∙ before-past (shape_in case) first.header.stage (past_in case first) shows.log
+    s.keeps))
     (some_there s.keeps.posts)
   where
     some_there : (posts : List Post) → IsSome (Some posts)

@@ -20,13 +20,17 @@ use Rattle.judge_core.specs.Case.{Case}
 use Rattle.judge_core.specs.Pad.{is_reveal}
 
 -- the byte of the kind stands behind the header
-pub kind-byte : (shape : Shape) (bytes : List ℕ) (c : Content) → IsBytes bytes → content_read shape bytes ≡ Ok c → (75 < length bytes) × (get_or bytes 75 0 ≡ kind_number c.body)
+pub kind-byte : (shape : Shape) (bytes : List ℕ) (c : Content) → IsBytes bytes → content_read shape bytes ≡ Ok c → (75 < length bytes)
+    × (get_or bytes 75 0 ≡ kind_number c.body)
 kind-byte shape bytes c fits e =
     let found = content-is_spelled shape bytes c fits e in
     let head : List ℕ = header_text c.header in
     let rest : List ℕ = kind_number c.body ∷ body_text c.body in
-    let long : length head ≡ 75 = length-header_text shape c.header found.1.0 in
-    (omega (arith, long, ap length found.0, length-append head rest), ap (λ (b : List ℕ). get_or b 75 0) found.0 ∙ get_or-append_right head rest 75 75 0 long (omega arith))
+    let long : length head ≡ 75 = length-header_text shape c.header found.1.0 in (
+      omega (arith, long, ap length found.0, length-append head rest),
+      ap (λ (b : List ℕ). get_or b 75 0) found.0
+          ∙ get_or-append_right head rest 75 75 0 long (omega arith),
+    )
 
 -- bytes without an offence are read
 pub no_offence : (read : Result Content Offence) → None ≡ result_err read → (c : Content) × (read ≡ Ok c)
@@ -48,12 +52,14 @@ reveal-number (Confirm votes) = refl
 reveal-number (Differ posts) = refl
 
 -- what a look at a content comes to, by its body
-pub look-kind : (case : Case) (first : Option Header) (number : ℕ) (bytes : List ℕ) (c : Content) → content_read (shape_of_roster case.roster) bytes ≡ Ok c → is_kind_asked case.claim first c.body ≡ false
+pub look-kind : (case : Case) (first : Option Header) (number : ℕ) (bytes : List ℕ) (c : Content)
+    → content_read (shape_of_roster case.roster) bytes ≡ Ok c → is_kind_asked case.claim first c.body ≡ false
     → content_of case first number bytes ≡ Err (Kind number (kind_number c.body))
 unfolding content_of
 look-kind case first number bytes c read other = rw (read, other) refl
 
-pub look-passes : (case : Case) (first : Option Header) (number : ℕ) (bytes : List ℕ) (c : Content) → content_read (shape_of_roster case.roster) bytes ≡ Ok c → is_kind_asked case.claim first c.body ≡ true
+pub look-passes : (case : Case) (first : Option Header) (number : ℕ) (bytes : List ℕ) (c : Content)
+    → content_read (shape_of_roster case.roster) bytes ≡ Ok c → is_kind_asked case.claim first c.body ≡ true
     → IsOk (content_of case first number bytes)
 unfolding content_of
 look-passes case first number bytes c read asked = rw (read, asked) refl

@@ -34,13 +34,19 @@ use Rattle.judge_core.proofs.Hearings.{taken-heard, taken-read, taken-again}
 abbrev admitted_ok : Header × List ℕ → Result (Header × List ℕ) PostRefusal
 admitted_ok x = Ok x
 
-says-found : (roster : Roster) (round : ℕ) (bytes : List ℕ) (x : Header × List ℕ) → IsBytes bytes → admission_of_bytes roster round bytes ≡ Ok x → Says roster round bytes x.1 x.0
+says-found : (roster : Roster) (round : ℕ) (bytes : List ℕ) (x : Header × List ℕ) → IsBytes bytes
+    → admission_of_bytes roster round bytes ≡ Ok x → Says roster round bytes x.1 x.0
 says-found roster round bytes x fits e =
     let a = bind_ok (fault_as (λ at. Frame at) (frame_of bytes)) _ x e in
     let b = bind_ok (framed_admission_of roster round a.0) _ x a.2 in
     let frame = framed-found bytes a.0 fits (fault_as_ok (λ at. Frame at) (frame_of bytes) a.0 a.1) in
     let same : (b.0, a.0.content) ≡ x = (let e : admitted_ok (b.0, a.0.content) ≡ admitted_ok x = b.2 in cc) in
-    let says : Says roster round bytes a.0.content b.0 = record { signature = a.0.signature; spelled = frame.1; admitted = admit-found roster round a.0 b.0 frame.0 (framed-bytes bytes a.0 fits (fault_as_ok (λ at. Frame at) (frame_of bytes) a.0 a.1)) b.1 } in
+    let says : Says roster round bytes a.0.content b.0 = record {
+      signature = a.0.signature;
+      spelled = frame.1;
+      admitted = admit-found roster round a.0 b.0 frame.0
+          (framed-bytes bytes a.0 fits (fault_as_ok (λ at. Frame at) (frame_of bytes) a.0 a.1)) b.1;
+    } in
     subst (λ (x : Header × List ℕ). Says roster round bytes x.1 x.0) same says
 
 says-again : (roster : Roster) (round : ℕ) (bytes content : List ℕ) (header : Header) → Says roster round bytes content header
@@ -51,20 +57,25 @@ says-again roster round bytes content header says =
     rw (frame, admit-again roster round post header says.admitted) refl
 
 -- what a post says are bytes
-pub says-bytes : (roster : Roster) (round : ℕ) (bytes content : List ℕ) (header : Header) → IsBytes bytes → Says roster round bytes content header → IsBytes content
+pub says-bytes : (roster : Roster) (round : ℕ) (bytes content : List ℕ) (header : Header) → IsBytes bytes
+    → Says roster round bytes content header → IsBytes content
 says-bytes roster round bytes content header fits says =
-    let spelled : IsBytes (to_be_bytes w32 (length content) ++ content ++ says.signature) = subst (λ (x : List ℕ). IsBytes x) says.spelled fits in
-    IsBytes-back (to_be_bytes w32 (length content)) content (IsBytes-front (to_be_bytes w32 (length content) ++ content) says.signature spelled)
+    let spelled : IsBytes (to_be_bytes w32 (length content) ++ content ++ says.signature) = subst (λ (x : List ℕ). IsBytes x) says.spelled
+    fits in
+    IsBytes-back (to_be_bytes w32 (length content)) content (IsBytes-front (to_be_bytes w32 (length content) ++ content) says.signature
+    spelled)
 
 -- a post that is heard says what is heard, and the claim asks for it
-pub heard-found : (case : Case) (first : Option Header) (number : ℕ) (bytes : List ℕ) (x : Said) → IsBytes bytes → heard_of case first number bytes ≡ Ok x
+pub heard-found : (case : Case) (first : Option Header) (number : ℕ) (bytes : List ℕ) (x : Said) → IsBytes bytes
+    → heard_of case first number bytes ≡ Ok x
     → Says case.roster case.round bytes x.content x.header × (is_asked case first number x.header ≡ true)
 unfolding heard_of
 heard-found case first number bytes x fits e =
     let a = bind_ok (fault_as (λ refusal. RefusedPost number refusal) (admission_of_bytes case.roster case.round bytes)) _ x e in
     let said : Said = record { header = a.0.0; content = a.0.1 } in
     let asked = guard_ok (not (is_asked case first number a.0.0)) (Slot number a.0.0.stage) said x a.2 in
-    let says = says-found case.roster case.round bytes a.0 fits (fault_as_ok (λ refusal. RefusedPost number refusal) (admission_of_bytes case.roster case.round bytes) a.0 a.1) in
+    let says = says-found case.roster case.round bytes a.0 fits
+    (fault_as_ok (λ refusal. RefusedPost number refusal) (admission_of_bytes case.roster case.round bytes) a.0 a.1) in
     subst (λ (x : Said). Says case.roster case.round bytes x.content x.header × (is_asked case first number x.header ≡ true)) asked.1
     (says, not-false (is_asked case first number a.0.0) asked.0)
 
@@ -76,7 +87,8 @@ heard-again case first number bytes content header says asked = rw (says-again c
 
 -- the same of what is asked of the claim's slot
 abbrev asks : Claim → Case → Option Header → ℕ → Header → Bool
-asks claim case first number header = is_slot_asked claim case (kind_of_stage (shape_of_roster case.roster) header.stage) first number header
+asks claim case first number header = is_slot_asked claim case (kind_of_stage (shape_of_roster case.roster) header.stage) first number
+    header
 
 pub asked-found : (case : Case) (claim : Claim) (first : Option Header) (number : ℕ) (header : Header) → case.claim ≡ claim
     → is_asked case first number header ≡ true → asks claim case first number header ≡ true
@@ -103,28 +115,38 @@ pub record TakenPost (case : Case) (first : Option Header) (number : ℕ) (bytes
 abbrev header_ok : Header → Result Header Short
 header_ok header = Ok header
 
-pub taken-found : (case : Case) (first : Option Header) (number : ℕ) (bytes : List ℕ) (x : Said) → is_of_bodies case.claim ≡ true → IsBytes bytes
+pub taken-found : (case : Case) (first : Option Header) (number : ℕ) (bytes : List ℕ) (x : Said) → is_of_bodies case.claim ≡ true
+    → IsBytes bytes
     → taken_of case first number bytes ≡ Ok x → TakenPost case first number bytes x
 unfolding content_of
 taken-found case first number bytes x bodies fits e =
     let heard = heard-found case first number bytes x fits (taken-heard case first number bytes x e) in
     let looked = taken-read case first number bytes x bodies e in
-    let read = bind_ok (fault_as (λ offence. FailedBody number offence.at) (content_read (shape_of_roster case.roster) x.content)) _ looked.0 looked.1 in
-    let asked = guard_ok (not (is_kind_asked case.claim first read.0.body)) (Kind number (kind_number read.0.body)) read.0 looked.0 read.2 in
-    let found = fault_as_ok (λ offence. FailedBody number offence.at) (content_read (shape_of_roster case.roster) x.content) read.0 read.1 in
-    let header : header_ok read.0.header ≡ header_ok x.header = sym (content-header (shape_of_roster case.roster) x.content read.0 found) ∙ heard.0.admitted.reads in
+    let read = bind_ok (fault_as (λ offence. FailedBody number offence.at) (content_read (shape_of_roster case.roster) x.content)) _
+    looked.0 looked.1 in
+    let asked = guard_ok (not (is_kind_asked case.claim first read.0.body)) (Kind number (kind_number read.0.body)) read.0 looked.0 read.2
+    in
+    let found = fault_as_ok (λ offence. FailedBody number offence.at) (content_read (shape_of_roster case.roster) x.content) read.0 read.1
+    in
+    let header : header_ok read.0.header ≡ header_ok x.header = sym (content-header (shape_of_roster case.roster) x.content read.0 found)
+    ∙ heard.0.admitted.reads in
     let same : read.0.header ≡ x.header = cc in
     record {
       content = read.0;
       header_is = same;
-      file = record { text = x.content; says = subst (λ (h : Header). Says case.roster case.round bytes x.content h) (sym same) heard.0; reads = found };
+      file = record {
+        text = x.content;
+        says = subst (λ (h : Header). Says case.roster case.round bytes x.content h) (sym same) heard.0;
+        reads = found;
+      };
       reads = found;
       asked = heard.1;
       kind = not-false (is_kind_asked case.claim first read.0.body) asked.0;
     }
 
 -- and such a post is taken
-pub file-taken : (case : Case) (first : Option Header) (number : ℕ) (bytes : List ℕ) (content : Content) (file : IsPostFile case.roster case.round bytes content)
+pub file-taken : (case : Case) (first : Option Header) (number : ℕ) (bytes : List ℕ) (content : Content)
+    (file : IsPostFile case.roster case.round bytes content)
     → is_asked case first number content.header ≡ true → is_kind_asked case.claim first content.body ≡ true
     → taken_of case first number bytes ≡ Ok (record { header = content.header; content = file.text })
 unfolding content_of

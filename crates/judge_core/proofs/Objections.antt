@@ -30,38 +30,52 @@ list_is : (a b : List Said) → list_ok a ≡ list_ok b → a ≡ b
 list_is a b e = cc
 
 -- one that is taken
-pub objection : (case : Case) (first : Option Header) (number : ℕ) (bytes : List ℕ) (said : Said) → case.claim ≡ Replay → taken_of case first number bytes ≡ Ok said
+pub objection : (case : Case) (first : Option Header) (number : ℕ) (bytes : List ℕ) (said : Said) → case.claim ≡ Replay
+    → taken_of case first number bytes ≡ Ok said
     → IsObjection case said.header.stage said × (is_of_one_stage first said.header ≡ true)
 unfolding content_of
 objection case first number bytes said is e =
     let kind : Option StageKind = kind_of_stage (shape_in case) said.header.stage in
-    let asked = and_parts ((said.header.sender == number) && is_closing_stage kind) (is_of_one_stage first said.header) (asked-as case Replay first number bytes said is e) in
+    let asked = and_parts ((said.header.sender == number) && is_closing_stage kind) (is_of_one_stage first said.header)
+    (asked-as case Replay first number bytes said is e) in
     let closing = and_parts (said.header.sender == number) (is_closing_stage kind) asked.0 in
     let bodies = ap is_of_bodies is in
     let looked = taken-read case first number bytes said bodies e in
     let read = bind_ok (fault_as (λ offence. FailedBody number offence.at) (read_of case said)) _ looked.0 looked.1 in
-    let right = guard_ok (not (is_kind_asked case.claim first read.0.body)) (Kind number (kind_number read.0.body)) read.0 looked.0 read.2 in
+    let right = guard_ok (not (is_kind_asked case.claim first read.0.body)) (Kind number (kind_number read.0.body)) read.0 looked.0 read.2
+    in
     let found = fault_as_ok (λ offence. FailedBody number offence.at) (read_of case said) read.0 read.1 in
-    let dissents : is_dissent read.0.body ≡ true = subst (λ (c : Claim). is_kind_asked c first read.0.body ≡ true) is (not-false (is_kind_asked case.claim first read.0.body) right.0) in
-    (record { post = closing-post case first number bytes said bodies e closing.1; dissents = subst Dissents (sym found) dissents; at = refl }, asked.1)
+    let dissents : is_dissent read.0.body ≡ true = subst (λ (c : Claim). is_kind_asked c first read.0.body ≡ true) is
+    (not-false (is_kind_asked case.claim first read.0.body) right.0) in (
+      record {
+        post = closing-post case first number bytes said bodies e closing.1;
+        dissents = subst Dissents (sym found) dissents;
+        at = refl;
+      },
+      asked.1,
+    )
 
 -- the same at the stage of the first
-at-stage : (case : Case) (stage : ℕ) (said : Said) → IsObjection case said.header.stage said → said.header.stage ≡ stage → IsObjection case stage said
+at-stage : (case : Case) (stage : ℕ) (said : Said) → IsObjection case said.header.stage said → said.header.stage ≡ stage
+    → IsObjection case stage said
 at-stage case stage said o at = record { post = o.post; dissents = o.dissents; at = at }
 
 -- those that are taken behind the first
-others-object : (case : Case) (first : Header) (number : ℕ) (posts : List (List ℕ)) (said : List Said) → case.claim ≡ Replay → hearing_of case (Some first) number posts ≡ Ok said
+others-object : (case : Case) (first : Header) (number : ℕ) (posts : List (List ℕ)) (said : List Said) → case.claim ≡ Replay
+    → hearing_of case (Some first) number posts ≡ Ok said
     → (length said ≡ length posts) × All (IsObjection case first.stage) said
 unfolding hearing_of
 others-object case first number [] said is e =
-    subst (λ (s : List Said). (length s ≡ 0) × All (IsObjection case first.stage) s) (list_is [] said e) (refl, All-nil (IsObjection case first.stage))
+    subst (λ (s : List Said). (length s ≡ 0) × All (IsObjection case first.stage) s) (list_is [] said e)
+    (refl, All-nil (IsObjection case first.stage))
 others-object case first number (post ∷ posts) said is e =
     let a = bind_ok (taken_of case (Some first) number post) _ said e in
     let others = bind_ok (hearing_of case (Some first) (number + 1) posts) _ said a.2 in
     let rest = others-object case first (number + 1) posts others.0 is others.1 in
     let o = objection case (Some first) number post a.0 is a.1 in
     let here = at-stage case first.stage a.0 o.0 (eqb-true a.0.header.stage first.stage o.1) in
-    subst (λ (s : List Said). (length s ≡ length (post ∷ posts)) × All (IsObjection case first.stage) s) (list_is (a.0 ∷ others.0) said others.2)
+    subst (λ (s : List Said). (length s ≡ length (post ∷ posts)) × All (IsObjection case first.stage) s)
+    (list_is (a.0 ∷ others.0) said others.2)
     (omega (arith, rest.0), All-cons (IsObjection case first.stage) a.0 others.0 here rest.1)
 
 -- all that are taken
@@ -69,17 +83,20 @@ all-object : (case : Case) (posts : List (List ℕ)) (said : List Said) → case
     → (length said ≡ length posts) × ((stage : ℕ) × All (IsObjection case stage) said)
 unfolding hearing_of
 all-object case [] said is e =
-    subst (λ (s : List Said). (length s ≡ 0) × ((stage : ℕ) × All (IsObjection case stage) s)) (list_is [] said e) (refl, (0, All-nil (IsObjection case 0)))
+    subst (λ (s : List Said). (length s ≡ 0) × ((stage : ℕ) × All (IsObjection case stage) s)) (list_is [] said e)
+    (refl, (0, All-nil (IsObjection case 0)))
 all-object case (post ∷ posts) said is e =
     let a = bind_ok (taken_of case None 1 post) _ said e in
     let others = bind_ok (hearing_of case (Some a.0.header) 2 posts) _ said a.2 in
     let rest = others-object case a.0.header 2 posts others.0 is others.1 in
     let here = (objection case None 1 post a.0 is a.1).0 in
-    subst (λ (s : List Said). (length s ≡ length (post ∷ posts)) × ((stage : ℕ) × All (IsObjection case stage) s)) (list_is (a.0 ∷ others.0) said others.2)
+    subst (λ (s : List Said). (length s ≡ length (post ∷ posts)) × ((stage : ℕ) × All (IsObjection case stage) s))
+    (list_is (a.0 ∷ others.0) said others.2)
     (omega (arith, rest.0), (a.0.header.stage, All-cons (IsObjection case a.0.header.stage) a.0 others.0 here rest.1))
 
 -- the same of what the code holds
-pub objections : (case : Case) (posts : List (List ℕ)) (given : List GivenSaid) → case.claim ≡ Replay → hearing_of case None 1 posts ≡ Ok (map said_of given)
+pub objections : (case : Case) (posts : List (List ℕ)) (given : List GivenSaid) → case.claim ≡ Replay
+    → hearing_of case None 1 posts ≡ Ok (map said_of given)
     → All (λ (one : GivenSaid). length one.content.now < 2 ^ 32) given
     → (length given ≡ length posts) × AreOfOneStage case given
 objections case posts given is e short =
@@ -88,8 +105,11 @@ objections case posts given is e short =
       omega (arith, length-map given said_of, all.0),
       (
         stage,
-        λ k d lt.
-            (subst (IsObjection case stage) (get_or-map said_of given k d (said_of d) lt) (all.1.1 k (said_of d) (omega (arith, length-map given said_of, lt))), short k d lt),
+        λ k d lt. (
+          subst (IsObjection case stage) (get_or-map said_of given k d (said_of d) lt)
+              (all.1.1 k (said_of d) (omega (arith, length-map given said_of, lt))),
+          short k d lt,
+        ),
       ),
     )
 
@@ -104,16 +124,19 @@ pub first-object : (case : Case) (stage : ℕ) (all : List GivenSaid) (first : G
     → AreObjections case stage all → IsFirst case stage first others
 first-object case stage all first others split each =
     let these : AreObjections case stage (first ∷ others) = subst (AreObjections case stage) split each in
-    let head = All-head (λ (one : GivenSaid). IsObjection case stage (said_of one) × (length one.content.now < 2 ^ 32)) first others these in
+    let head = All-head (λ (one : GivenSaid). IsObjection case stage (said_of one) × (length one.content.now < 2 ^ 32)) first others these
+    in
     record {
       object = record { post = head.0.post; dissents = head.0.dissents; at = refl };
       short = head.1;
       at = head.0.at;
-      others_object = All-tail (λ (one : GivenSaid). IsObjection case stage (said_of one) × (length one.content.now < 2 ^ 32)) first others these;
+      others_object = All-tail (λ (one : GivenSaid). IsObjection case stage (said_of one) × (length one.content.now < 2 ^ 32)) first others
+          these;
     }
 
 -- what stands at a place of them
-pub object-at : (case : Case) (stage : ℕ) (all : List GivenSaid) (place : ℕ) (d : GivenSaid) → AreObjections case stage all → place < length all
+pub object-at : (case : Case) (stage : ℕ) (all : List GivenSaid) (place : ℕ) (d : GivenSaid) → AreObjections case stage all
+    → place < length all
     → IsObjection case (get_or all place d).header.stage (said_of (get_or all place d))
 object-at case stage all place d each lt =
     let here = (each place d lt).0 in
@@ -122,7 +145,8 @@ object-at case stage all place d each lt =
 -- ---- what the transcript comes to
 
 -- where not all are taken
-pub unheard : (case : Case) (posts : List (List ℕ)) (failed : Option FailedCheck) → IsFault failed (hearing_of case None 1 posts) → IsFault failed (conviction_of case posts)
+pub unheard : (case : Case) (posts : List (List ℕ)) (failed : Option FailedCheck) → IsFault failed (hearing_of case None 1 posts)
+    → IsFault failed (conviction_of case posts)
 unfolding conviction_of
 unheard case posts None fault = tt
 unheard case posts (Some failed) fault = rw fault refl

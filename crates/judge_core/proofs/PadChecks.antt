@@ -36,12 +36,15 @@ use Rattle.judge_core.proofs.PadSlots.{pads-said}
 -- ---- the pads of the accused
 
 -- what a post of pads says
-pub pads-body : (case : Case) (one : GivenSaid) (content : Content) → IsPadsPost case one → content_read (shape_in case) one.content.now ≡ Ok content
+pub pads-body : (case : Case) (one : GivenSaid) (content : Content) → IsPadsPost case one
+    → content_read (shape_in case) one.content.now ≡ Ok content
     → OfGrammar (shape_in case) content
     → (pads : List (List ℕ)) × (content.body ≡ Pads pads) × (length pads ≡ (shape_in case).members)
 pads-body case one content is read grammar =
-    let header = header_is content.header one.header (sym (content-header (shape_in case) one.content.now content read) ∙ is.readable.header) in
-    pads-said (shape_in case) content.header.stage content.body (ap (λ (h : Header). kind_of_stage (shape_in case) h.stage) header ∙ is.at) grammar.1
+    let header = header_is content.header one.header (sym (content-header (shape_in case) one.content.now content read)
+    ∙ is.readable.header) in
+    pads-said (shape_in case) content.header.stage content.body (ap (λ (h : Header). kind_of_stage (shape_in case) h.stage) header ∙ is.at)
+    grammar.1
 
 -- ---- descriptors
 
@@ -65,7 +68,8 @@ pads-count case one content row is read grammar e =
     ap (λ (l : List (List ℕ)). length l) (e ∙ ap pads_in said.1) ∙ said.2
 
 -- the descriptors and the table are of as many slots
-pub are-slots : (case : Case) (shape : Shape) (pads seeds list : List (List ℕ)) (descriptors : List (Option Description)) (table : List (List (List ℕ)))
+pub are-slots : (case : Case) (shape : Shape) (pads seeds list : List (List ℕ)) (descriptors : List (Option Description))
+    (table : List (List (List ℕ)))
     → shape ≡ shape_in case → table ≡ table_of case pads
     → All (λ row. length row ≡ (shape_in case).members) table → length list ≡ (shape_in case).members
     → descriptors ≡ map (option_and_then (descriptor_read shape.members)) (opened_list seeds list) → All
@@ -85,7 +89,8 @@ are-slots case shape pads seeds list descriptors table same is rows count opened
       record {
         members = many ∙ sym slots;
         pads = subst (λ (m : ℕ). All (λ (row : List (List ℕ)). length row ≡ m) table) (sym slots) rows;
-        hashes = subst (λ (m : ℕ). All (λ slot. IfSome slot (λ d. length d.pad_hashes ≡ m)) descriptors) (ap (λ (s : Shape). s.members) same ∙ sym slots) hashes;
+        hashes = subst (λ (m : ℕ). All (λ slot. IfSome slot (λ d. length d.pad_hashes ≡ m)) descriptors)
+            (ap (λ (s : Shape). s.members) same ∙ sym slots) hashes;
       },
       slots,
     )
@@ -95,13 +100,16 @@ are-slots case shape pads seeds list descriptors table same is rows count opened
 -- whether it holds by what was opened is whether it holds by the log
 pub holds-by-log : (case : Case) (shape : Shape) (past seeds list pads keys : List (List ℕ)) (table : List (List (List ℕ)))
     (descriptors : List (Option Description)) (a : Accusation) (r : Result (Unit {0}) AccusationRefusal)
-    → shape ≡ shape_in case → seeds ≡ seeds_revealed (shape_in case) past 1 → list_said (shape_in case) past 1 (shape_in case).members ≡ Some list
-    → descriptors ≡ map (option_and_then (descriptor_read shape.members)) (opened_list seeds list) → table ≡ table_of case pads → keys ≡ keys_said shape past bulk_place
+    → shape ≡ shape_in case → seeds ≡ seeds_revealed (shape_in case) past 1
+    → list_said (shape_in case) past 1 (shape_in case).members ≡ Some list
+    → descriptors ≡ map (option_and_then (descriptor_read shape.members)) (opened_list seeds list) → table ≡ table_of case pads
+    → keys ≡ keys_said shape past bulk_place
     → r ≡ value_unless (refusal_of a descriptors table keys) (tt {0}) → r ≡ value_unless
     (refusal_of a (descriptors_opened (shape_in case) past) (table_of case pads) (keys_said (shape_in case) past bulk_place)) (tt {0})
 holds-by-log case shape past seeds list pads keys table descriptors a r same e said opened is own answers =
     let n = ap (λ (s : Shape). map (option_and_then (descriptor_read s.members)) (opened_list seeds list)) same in
-    let found : descriptors ≡ descriptors_opened (shape_in case) past = opened ∙ n ∙ descriptors-are (shape_in case) past seeds list e said in
+    let found : descriptors ≡ descriptors_opened (shape_in case) past = opened ∙ n
+    ∙ descriptors-are (shape_in case) past seeds list e said in
     let bulk : keys ≡ keys_said (shape_in case) past bulk_place = own ∙ ap (λ (s : Shape). keys_said s past bulk_place) same in
     answers ∙ ap (λ (d : List (Option Description)). value_unless (refusal_of a d table keys) (tt {0})) found
     ∙ ap (λ (t : List (List (List ℕ))). value_unless (refusal_of a (descriptors_opened (shape_in case) past) t keys) (tt {0})) is
@@ -112,8 +120,10 @@ accused-refusal : (case : Case) (past pads : List (List ℕ)) (a : Accusation) �
     (refusal_of a (descriptors_opened (shape_in case) past) (table_of case pads) (keys_said (shape_in case) past bulk_place))
 accused-refusal case past pads a is =
     let refuted : Option FailedCheck =
-    option_map (λ refusal. Refuted refusal) (refusal_of a (descriptors_opened (shape_in case) past) (table_of case pads) (keys_said (shape_in case) past bulk_place)) in
-    ap (λ (o : Option FailedCheck). first_some (o ∷ refuted ∷ [])) (fault_unless-true (a.member == case.accused) OtherMember (eq-eqb a.member case.accused is))
+    option_map (λ refusal. Refuted refusal) (refusal_of a (descriptors_opened (shape_in case) past) (table_of case pads)
+    (keys_said (shape_in case) past bulk_place)) in
+    ap (λ (o : Option FailedCheck). first_some (o ∷ refuted ∷ []))
+    (fault_unless-true (a.member == case.accused) OtherMember (eq-eqb a.member case.accused is))
     ∙ only refuted
   where
     only : (o : Option FailedCheck) → first_some (None ∷ o ∷ []) ≡ o
@@ -133,21 +143,26 @@ borne (Some r) e = absurd cc
 pub accusation-fails : (case : Case) (past pads : List (List ℕ)) (detail : Option Accusation) (a : Accusation) (refusal : AccusationRefusal)
     (r : Result (Unit {0}) AccusationRefusal)
     → detail ≡ Some a → a.member ≡ case.accused → r ≡ Err refusal
-    → r ≡ value_unless (refusal_of a (descriptors_opened (shape_in case) past) (table_of case pads) (keys_said (shape_in case) past bulk_place)) (tt {0})
+    → r ≡ value_unless (refusal_of a (descriptors_opened (shape_in case) past) (table_of case pads)
+    (keys_said (shape_in case) past bulk_place)) (tt {0})
     → value_unless (accusation_failure case past pads detail) (tt {0}) ≡ Err (Refuted refusal)
 accusation-fails case past pads detail a refusal r is own e answers =
     ap (λ (d : Option Accusation). value_unless (accusation_failure case past pads d) (tt {0})) is
     ∙ ap (λ (o : Option FailedCheck). value_unless o (tt {0})) (accused-refusal case past pads a own)
-    ∙ refuted (refusal_of a (descriptors_opened (shape_in case) past) (table_of case pads) (keys_said (shape_in case) past bulk_place)) refusal (sym answers ∙ e)
+    ∙ refuted (refusal_of a (descriptors_opened (shape_in case) past) (table_of case pads) (keys_said (shape_in case) past bulk_place))
+    refusal (sym answers ∙ e)
 
-pub accusation-holds : (case : Case) (past pads : List (List ℕ)) (detail : Option Accusation) (a : Accusation) (r : Result (Unit {0}) AccusationRefusal)
+pub accusation-holds : (case : Case) (past pads : List (List ℕ)) (detail : Option Accusation) (a : Accusation)
+    (r : Result (Unit {0}) AccusationRefusal)
     → detail ≡ Some a → a.member ≡ case.accused → r ≡ Ok tt
-    → r ≡ value_unless (refusal_of a (descriptors_opened (shape_in case) past) (table_of case pads) (keys_said (shape_in case) past bulk_place)) (tt {0})
+    → r ≡ value_unless (refusal_of a (descriptors_opened (shape_in case) past) (table_of case pads)
+    (keys_said (shape_in case) past bulk_place)) (tt {0})
     → value_unless (accusation_failure case past pads detail) (tt {0}) ≡ Ok tt
 accusation-holds case past pads detail a r is own e answers =
     ap (λ (d : Option Accusation). value_unless (accusation_failure case past pads d) (tt {0})) is
     ∙ ap (λ (o : Option FailedCheck). value_unless o (tt {0})) (accused-refusal case past pads a own)
-    ∙ borne (refusal_of a (descriptors_opened (shape_in case) past) (table_of case pads) (keys_said (shape_in case) past bulk_place)) (sym answers ∙ e)
+    ∙ borne (refusal_of a (descriptors_opened (shape_in case) past) (table_of case pads) (keys_said (shape_in case) past bulk_place))
+    (sym answers ∙ e)
 
 -- ---- all checks
 
@@ -165,8 +180,10 @@ checks-are case said log pads is long =
     let all : map said_of said ≡ front ++ said_of pads ∷ [] = ap (map said_of) is ∙ map_push said_of log pads in
     let end : count ≡ length front = sym long ∙ sym (length-map log said_of) in
     let past : map content (take count (front ++ said_of pads ∷ [])) ≡ contents_said log =
-    ap (λ (k : ℕ). map content (take k (front ++ said_of pads ∷ []))) end ∙ ap (map content) (take-append_seam front (said_of pads ∷ [])) ∙ map_map said_of content log in
-    let last : slice_get (front ++ said_of pads ∷ []) count ≡ Some (said_of pads) = ap (slice_get (front ++ said_of pads ∷ [])) end ∙ last-got front (said_of pads) in
+    ap (λ (k : ℕ). map content (take k (front ++ said_of pads ∷ []))) end ∙ ap (map content) (take-append_seam front (said_of pads ∷ []))
+    ∙ map_map said_of content log in
+    let last : slice_get (front ++ said_of pads ∷ []) count ≡ Some (said_of pads) = ap (slice_get (front ++ said_of pads ∷ [])) end
+    ∙ last-got front (said_of pads) in
     ap (pad_answer case) all
     ∙ ap (λ (p : List (List ℕ)). value_unless (pad_failure_of case p (slice_get (front ++ said_of pads ∷ []) count)) (tt {0})) past
     ∙ ap (λ (o : Option Said). value_unless (pad_failure_of case (contents_said log) o) (tt {0})) last
@@ -189,7 +206,8 @@ view-fails None o a failed e = absurd cc
 pub opening-fails : (shape : Shape) (past : List (List ℕ)) (v a failed : Option FailedCheck) → value_unless v (tt {0}) ≡ Ok tt
     → IsUnopened shape past failed → IsFault failed (value_unless (first_some (v ∷ opening_failure shape past ∷ a ∷ [])) (tt {0}))
 opening-fails shape past v a None e unopened = tt
-opening-fails shape past None a (Some failed) e unopened = ap (λ (o : Option FailedCheck). value_unless (first_some (None ∷ o ∷ a ∷ [])) (tt {0})) unopened
+opening-fails shape past None a (Some failed) e unopened = ap (λ (o : Option FailedCheck). value_unless (first_some (None ∷ o ∷ a ∷ []))
+    (tt {0})) unopened
 opening-fails shape past (Some f) a (Some failed) e unopened = absurd cc
 
 -- where it does, the accusation decides
@@ -204,4 +222,11 @@ accusation-decides (Some f) o a e is = absurd cc
 pub split-long : (case : Case) (said log : List GivenSaid) (pads : GivenSaid) → ArePadPosts case said → said ≡ log ++ pads ∷ []
     → length log ≡ count_before_pads (shape_in case)
 split-long case said log pads are is =
-    omega (arith, ap (λ (l : List GivenSaid). length l) (sym is ∙ are.all), length-append log (pads ∷ []), length-append are.log (are.pads ∷ []), are.is_log.whole)
+    omega (
+      arith,
+      ap (λ (l : List GivenSaid). length l) (sym is ∙ are.all),
+      length-append log (pads ∷ []),
+      length-append are.log
+          (are.pads ∷ []),
+      are.is_log.whole,
+    )

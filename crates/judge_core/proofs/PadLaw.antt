@@ -99,14 +99,16 @@ IsLogOf roster round slots posts said =
 -- one that is taken is the post of its slot
 post-taken : (case : Case) (first : Option Header) (a : ℕ) (slot : Slot) (bytes : List ℕ) (one : Said) → case.claim ≡ Pad
     → a < count_before_pads (shape_in case) → slot_at (shape_in case) a ≡ Some slot → IsBytes bytes
-    → taken_of case first (1 + a) bytes ≡ Ok one → (post : Post) × IsPostOf case.roster case.round slot bytes post × (post.content ≡ one.content)
+    → taken_of case first (1 + a) bytes ≡ Ok one → (post : Post) × IsPostOf case.roster case.round slot bytes post
+    × (post.content ≡ one.content)
 post-taken case first a slot bytes one is lt at fits taken =
     let shape : Shape = shape_in case in
     let t = taken-found case first (1 + a) bytes one (ap is_of_bodies is) fits taken in
     let says = (heard-found case first (1 + a) bytes one fits (taken-heard case first (1 + a) bytes one taken)).0 in
     let post : Post = record { content = one.content; signature = says.signature } in
     let kind : Option StageKind = kind_of_stage shape one.header.stage in
-    let asked = sym (asked-slot case kind first (1 + a) one.header (omega (arith, lt))) ∙ asked-found case Pad first (1 + a) one.header is t.asked in
+    let asked = sym (asked-slot case kind first (1 + a) one.header (omega (arith, lt)))
+    ∙ asked-found case Pad first (1 + a) one.header is t.asked in
     let number = eqb-true (slot_number shape one.header.stage one.header.sender) (1 + a - 1) asked in
     let same_number : slot_number shape one.header.stage one.header.sender ≡ a = omega (arith, number) in
     let named : slot_named one.header ≡ slot = some_is (slot_named one.header) slot
@@ -122,18 +124,26 @@ post-taken case first a slot bytes one is lt at fits taken =
       refl,
     )
 
-first-bytes : (bytes : List ℕ) (posts : List (List ℕ)) → AllByRecursion IsBytes (bytes ∷ posts) → IsBytes bytes × AllByRecursion IsBytes posts
+first-bytes : (bytes : List ℕ) (posts : List (List ℕ)) → AllByRecursion IsBytes (bytes ∷ posts) → IsBytes bytes
+    × AllByRecursion IsBytes posts
 first-bytes bytes posts fits = (fits.0, fits.1)
 
-log-more : (roster : Roster) (round : ℕ) (slot : Slot) (slots : List Slot) (bytes : List ℕ) (posts : List (List ℕ)) (one : Said) (others : List Said)
-    → (post : Post) × IsPostOf roster round slot bytes post × (post.content ≡ one.content) → IsLogOf roster round slots posts others → IsLogOf roster
+log-more : (roster : Roster) (round : ℕ) (slot : Slot) (slots : List Slot) (bytes : List ℕ) (posts : List (List ℕ)) (one : Said)
+    (others : List Said)
+    → (post : Post) × IsPostOf roster round slot bytes post × (post.content ≡ one.content) → IsLogOf roster round slots posts others
+    → IsLogOf roster
     round (slot ∷ slots) (bytes ∷ posts) (one ∷ others)
-log-more roster round slot slots bytes posts one others here rest =
-    (here.0 ∷ rest.0, (here.1, rest.1), ap (λ (c : List ℕ). c ∷ contents_of rest.0) here.2 ∙ ap (λ (l : List (List ℕ)). one.content ∷ l) rest.2)
+log-more roster round slot slots bytes posts one others here rest = (
+  here.0 ∷ rest.0,
+  (here.1, rest.1),
+  ap (λ (c : List ℕ). c ∷ contents_of rest.0) here.2
+      ∙ ap (λ (l : List (List ℕ)). one.content ∷ l) rest.2,
+)
 
 log-taken : (case : Case) (first : Option Header) (a : ℕ) (slots : List Slot) (posts : List (List ℕ)) (said : List Said) → case.claim ≡ Pad
     → SlotsFrom (shape_in case) a slots → a + length slots ≤ count_before_pads (shape_in case)
-    → length slots ≤ length posts → AllByRecursion IsBytes posts → hearing_of case first (1 + a) posts ≡ Ok said → IsLogOf case.roster case.round slots posts said
+    → length slots ≤ length posts → AllByRecursion IsBytes posts → hearing_of case first (1 + a) posts ≡ Ok said
+    → IsLogOf case.roster case.round slots posts said
 unfolding hearing_of
 log-taken case first a [] posts said is from most long fits e = ([], tt, refl)
 log-taken case first a (slot ∷ slots) [] said is from most long fits e = absurd (omega arith)
@@ -143,7 +153,8 @@ log-taken case first a (slot ∷ slots) (bytes ∷ posts) said is from most long
     let each = first-bytes bytes posts fits in
     let next : 1 + a + 1 ≡ 1 + (a + 1) = omega arith in
     let heard = ap (λ (n : ℕ). hearing_of case (Some (unwrap_or first one.0.header)) n posts) (sym next) ∙ others.1 in
-    let here = post-taken case first a slot bytes one.0 is (omega (arith, most)) (slots-first (shape_in case) a slot slots from) each.0 one.1 in
+    let here = post-taken case first a slot bytes one.0 is (omega (arith, most)) (slots-first (shape_in case) a slot slots from) each.0
+    one.1 in
     let rest =
     log-taken case (Some (unwrap_or first one.0.header)) (a + 1) slots posts others.0 is (slots-rest (shape_in case) a slot slots from)
     (omega (arith, most)) (omega (arith, long)) each.1 heard in
@@ -194,7 +205,8 @@ opens-found shape past e =
     record {
       reveals = λ member least most. reveal-body (said_in shape past (final_stage shape 1) member)
           (each-passes is_reveal (said_in shape past (final_stage shape 1)) 1 shape.members member revealed least (omega arith));
-      list = some-list (list_said shape past 1 shape.members) (fault_unless-holds (is_some (list_said shape past 1 shape.members)) (NotOpened _) list.0);
+      list = some-list (list_said shape past 1 shape.members) (fault_unless-holds (is_some (list_said shape past 1 shape.members))
+          (NotOpened _) list.0);
     }
 
 opens-again : (shape : Shape) (past : List (List ℕ)) → OpensList shape past → opening_failure shape past ≡ None
@@ -215,21 +227,24 @@ rows-same f g a (suc n) (suc k) e =
 -- of the accused both have the same row
 refusal-same : (case : Case) (pads : List (List ℕ)) (a : Accusation) (past : List (List ℕ)) → 1 ≤ case.accused → a.member ≡ case.accused
     → refusal_of a (descriptors_opened (shape_in case) past) (table_of case pads) (keys_said (shape_in case) past bulk_place)
-    ≡ refusal_of a (descriptors_opened (shape_in case) past) (table_accused (shape_in case) case.accused pads) (keys_said (shape_in case) past bulk_place)
+    ≡ refusal_of a (descriptors_opened (shape_in case) past) (table_accused (shape_in case) case.accused pads)
+    (keys_said (shape_in case) past bulk_place)
 refusal-same case pads a past least is =
     let other : ℕ → List (List ℕ) = λ member. if member == case.accused then pads else [] in
     let own : (1 + (a.member - 1) == case.accused) ≡ true = eq-eqb (1 + (a.member - 1)) case.accused (omega (arith, least, is)) in
     holds_looks_at_one a (descriptors_opened (shape_in case) past) (table_of case pads) (table_accused (shape_in case) case.accused pads)
     (keys_said (shape_in case) past bulk_place)
     (rows-same (row_of case pads) other 1 (shape_in case).members (a.member - 1)
-    (cond-true (1 + (a.member - 1) == case.accused) pads (replicate (shape_in case).members []) own ∙ sym (cond-true (1 + (a.member - 1) == case.accused) pads [] own)))
+    (cond-true (1 + (a.member - 1) == case.accused) pads (replicate (shape_in case).members []) own
+    ∙ sym (cond-true (1 + (a.member - 1) == case.accused) pads [] own)))
 
 -- what the accusation shows
 pub record IsBorne (case : Case) (past pads : List (List ℕ)) (detail : Option Accusation) : Type 0 where
   pub accusation : Accusation
   pub detail_is : detail ≡ Some accusation
   pub accused : accusation.member ≡ case.accused
-  pub holds : Holds accusation (descriptors_opened (shape_in case) past) (table_accused (shape_in case) case.accused pads) (keys_said (shape_in case) past bulk_place)
+  pub holds : Holds accusation (descriptors_opened (shape_in case) past) (table_accused (shape_in case) case.accused pads)
+      (keys_said (shape_in case) past bulk_place)
 
 borne-found : (case : Case) (past pads : List (List ℕ)) (detail : Option Accusation) → 1 ≤ case.accused
     → accusation_failure case past pads detail ≡ None → IsBorne case past pads detail
@@ -243,7 +258,8 @@ borne-found case past pads (Some a) least e =
       accusation = a;
       detail_is = refl;
       accused = own;
-      holds = (holds_exactly a (descriptors_opened (shape_in case) past) (table_accused (shape_in case) case.accused pads) (keys_said (shape_in case) past bulk_place)).0
+      holds = (holds_exactly a (descriptors_opened (shape_in case) past) (table_accused (shape_in case) case.accused pads)
+          (keys_said (shape_in case) past bulk_place)).0
           (sym (refusal-same case pads a past least own) ∙ nothing_mapped (λ r. Refuted r) refusal last.0);
     }
 
@@ -325,8 +341,10 @@ pads-file case first number bytes one is last fits taken =
     let kind : Option StageKind = kind_of_stage shape one.header.stage in
     let asked = sym (asked-last case kind first number one.header last) ∙ asked-found case Pad first number one.header is t.asked in
     let there = pad-at case one.header asked in
-    let kind_is : kind_of_stage shape content.header.stage ≡ Some AtPad = ap (λ (h : Header). kind_of_stage shape h.stage) t.header_is ∙ there.1 in
-    let grammar = (content-is_spelled shape t.file.text content (says-bytes case.roster case.round bytes t.file.text content.header fits t.file.says) t.file.reads).1 in
+    let kind_is : kind_of_stage shape content.header.stage ≡ Some AtPad = ap (λ (h : Header). kind_of_stage shape h.stage) t.header_is
+    ∙ there.1 in
+    let grammar = (content-is_spelled shape t.file.text content
+    (says-bytes case.roster case.round bytes t.file.text content.header fits t.file.says) t.file.reads).1 in
     let said = pads-said shape content.header.stage content.body kind_is grammar.1 in
     let header : Header = content.header in
     record {
@@ -365,14 +383,17 @@ posts-are roster round [] posts [] are le = refl
 posts-are roster round [] posts (post ∷ log) are le = absurd are
 posts-are roster round (slot ∷ slots) [] log are le = absurd (omega arith)
 posts-are roster round (slot ∷ slots) (bytes ∷ posts) [] are le = absurd are
-posts-are roster round (slot ∷ slots) (bytes ∷ posts) (post ∷ log) are le = omega (arith, posts-are roster round slots posts log are.1 (omega arith))
+posts-are roster round (slot ∷ slots) (bytes ∷ posts) (post ∷ log) are le = omega
+    (arith, posts-are roster round slots posts log are.1 (omega arith))
 
 -- the checks by the log and the post of pads
 failure-by : (case : Case) (said : List Said) (past : List (List ℕ)) (pad : Said)
-    → map content_said (take (count_before_pads (shape_in case)) said) ≡ past → slice_get said (count_before_pads (shape_in case)) ≡ Some pad
+    → map content_said (take (count_before_pads (shape_in case)) said) ≡ past
+    → slice_get said (count_before_pads (shape_in case)) ≡ Some pad
     → pad_failure case said ≡ pad_failure_of case past (Some pad)
 failure-by case said past pad is last =
-    ap (λ (p : List (List ℕ)). pad_failure_of case p (slice_get said (count_before_pads (shape_in case)))) is ∙ ap (pad_failure_of case past) last
+    ap (λ (p : List (List ℕ)). pad_failure_of case p (slice_get said (count_before_pads (shape_in case)))) is
+    ∙ ap (pad_failure_of case past) last
 
 pub pad-found : (roster : Roster) (t : Transcript) → t.claim ≡ Pad → length t.posts ≡ claim_posts (shape_of_roster roster) Pad
     → AllByRecursion IsBytes t.posts → conviction_of (case_of_transcript roster t) t.posts ≡ Ok tt → ShowsBadPad roster t
@@ -388,15 +409,18 @@ pad-found roster t is count fits e =
     let failure : pad_failure case said.0 ≡ None = subst (λ (c : Claim). own_failure c case said.0 ≡ None) is passes.0 in
     let each = each-taken case None 1 t.posts said.0 said.1 in
     let listed = listed-long shape in
-    let log = log-taken case None 0 slots t.posts said.0 is (listed-from shape) (omega (arith, listed)) (omega (arith, listed, count)) fits said.1 in
+    let log = log-taken case None 0 slots t.posts said.0 is (listed-from shape) (omega (arith, listed)) (omega (arith, listed, count)) fits
+    said.1 in
     let past : List (List ℕ) = contents_of log.0 in
     let contents : map content_said (take n said.0) ≡ past = sym (log.2 ∙ ap (λ (k : ℕ). map content_said (take k said.0)) listed) in
     let pad = some-at said.0 n (omega (arith, each.0, count)) in
     let last = some-at t.posts n (omega (arith, count)) in
     let taken = each.1 n pad.0 (omega (arith, each.0, count)) in
     let one =
-    pads-file case taken.first (1 + n) (get_or t.posts n []) (get_or said.0 n pad.0) is (omega arith) (bytes-at t.posts n fits (omega (arith, count))) taken.taken in
-    let file = subst (λ (b : List ℕ). IsPadsFile case b pad.0) (last.2 []) (subst (λ (s : Said). IsPadsFile case (get_or t.posts n []) s) (pad.2 pad.0) one) in
+    pads-file case taken.first (1 + n) (get_or t.posts n []) (get_or said.0 n pad.0) is (omega arith)
+    (bytes-at t.posts n fits (omega (arith, count))) taken.taken in
+    let file = subst (λ (b : List ℕ). IsPadsFile case b pad.0) (last.2 [])
+    (subst (λ (s : Said). IsPadsFile case (get_or t.posts n []) s) (pad.2 pad.0) one) in
     let checks = sym (failure-by case said.0 past pad.0 contents pad.1) ∙ failure in
     let view = first_some-none_parts (view_failure shape past pad.0) _ checks in
     let opening = first_some-none_parts (opening_failure shape past) _ view.1 in
@@ -415,7 +439,8 @@ pad-found roster t is count fits e =
       pads_are = file.file;
       sender = file.sender;
       at = file.at;
-      view = ap (λ (h : Header). h.view) file.same ∙ equal-view pad.0.header.view (view_of shape past (pad_stage shape)) (View (n + 1)) view.0;
+      view = ap (λ (h : Header). h.view) file.same ∙ equal-view pad.0.header.view (view_of shape past (pad_stage shape)) (View (n + 1))
+          view.0;
       opens = opens-found shape past opening.0;
       accusation = borne.accusation;
       detail = borne.detail_is;
@@ -426,7 +451,8 @@ pad-found roster t is count fits e =
 -- ---- and back
 
 -- what is said of the posts of slots, and behind them
-record IsSaid (case : Case) (first : Option Header) (number : ℕ) (posts : List (List ℕ)) (count : ℕ) (past : List (List ℕ)) (last : Said) : Type 0 where
+record IsSaid (case : Case) (first : Option Header) (number : ℕ) (posts : List (List ℕ)) (count : ℕ) (past : List (List ℕ)) (last : Said) :
+    Type 0 where
   pub said : List Said
   pub heard : hearing_of case first number posts ≡ Ok said
   pub contents : map content_said (take count said) ≡ past
@@ -434,22 +460,32 @@ record IsSaid (case : Case) (first : Option Header) (number : ℕ) (posts : List
 
 post-again : (case : Case) (first : Option Header) (a : ℕ) (slot : Slot) (bytes : List ℕ) (post : Post) → case.claim ≡ Pad
     → a < count_before_pads (shape_in case) → slot_at (shape_in case) a ≡ Some slot
-    → (o : IsPostOf case.roster case.round slot bytes post) → taken_of case first (1 + a) bytes ≡ Ok (record { header = o.content.header; content = post.content })
+    → (o : IsPostOf case.roster case.round slot bytes post) → taken_of case first (1 + a) bytes ≡ Ok
+    (record { header = o.content.header; content = post.content })
 post-again case first a slot bytes post is lt at o =
     let shape : Shape = shape_in case in
     let header : Header = o.content.header in
     let file : IsPostFile case.roster case.round bytes o.content =
-    record { text = post.content; says = record { signature = post.signature; spelled = o.spelled; admitted = o.admitted }; reads = o.reads } in
+    record {
+      text = post.content;
+      says = record { signature = post.signature; spelled = o.spelled; admitted = o.admitted };
+      reads = o.reads;
+    } in
     let slot_is = (slot_at-is shape a slot at).1 in
-    let number : slot_number shape header.stage header.sender ≡ 1 + a - 1 = ap (λ (s : Slot). slot_number shape s.stage s.sender) o.named ∙ slot_is ∙ omega arith in
+    let number : slot_number shape header.stage header.sender ≡ 1 + a - 1 = ap (λ (s : Slot). slot_number shape s.stage s.sender) o.named
+    ∙ slot_is ∙ omega arith in
     let asked =
-    asked-again case Pad first (1 + a) header is (asked-slot case (kind_of_stage shape header.stage) first (1 + a) header (omega (arith, lt)) ∙ eq-eqb _ _ number) in
-    let kind : is_kind_asked case.claim first o.content.body ≡ true = subst (λ (c : Claim). is_kind_asked c first o.content.body ≡ true) (sym is) refl in
+    asked-again case Pad first (1 + a) header is (asked-slot case (kind_of_stage shape header.stage) first (1 + a) header
+    (omega (arith, lt)) ∙ eq-eqb _ _ number) in
+    let kind : is_kind_asked case.claim first o.content.body ≡ true = subst (λ (c : Claim). is_kind_asked c first o.content.body ≡ true)
+    (sym is) refl in
     file-taken case first (1 + a) bytes o.content file asked kind
 
-said-more : (case : Case) (first : Option Header) (number : ℕ) (bytes : List ℕ) (posts : List (List ℕ)) (count : ℕ) (past : List (List ℕ)) (last one : Said)
+said-more : (case : Case) (first : Option Header) (number : ℕ) (bytes : List ℕ) (posts : List (List ℕ)) (count : ℕ) (past : List (List ℕ))
+    (last one : Said)
     → taken_of case first number bytes ≡ Ok one
-    → IsSaid case (Some (unwrap_or first one.header)) (number + 1) posts count past last → IsSaid case first number (bytes ∷ posts) (suc count) (one.content ∷ past) last
+    → IsSaid case (Some (unwrap_or first one.header)) (number + 1) posts count past last
+    → IsSaid case first number (bytes ∷ posts) (suc count) (one.content ∷ past) last
 unfolding hearing_of
 said-more case first number bytes posts count past last one taken rest = record {
   said = one ∷ rest.said;
@@ -473,15 +509,19 @@ only-one [] bytes long e = absurd (omega arith)
 only-one (post ∷ []) bytes long e = let same : post ≡ bytes = cc in ap (λ (p : List ℕ). p ∷ []) same
 only-one (post ∷ other ∷ posts) bytes long e = absurd (omega arith)
 
-log-again : (case : Case) (first : Option Header) (a : ℕ) (slots : List Slot) (posts : List (List ℕ)) (log : List Post) (bytes : List ℕ) (last : Said)
+log-again : (case : Case) (first : Option Header) (a : ℕ) (slots : List Slot) (posts : List (List ℕ)) (log : List Post) (bytes : List ℕ)
+    (last : Said)
     → case.claim ≡ Pad → SlotsFrom (shape_in case) a slots
-    → a + length slots ≡ count_before_pads (shape_in case) → length posts ≡ length slots + 1 → ArePostsOf case.roster case.round (zip slots posts) log
+    → a + length slots ≡ count_before_pads (shape_in case) → length posts ≡ length slots + 1
+    → ArePostsOf case.roster case.round (zip slots posts) log
     → slice_get posts (length slots) ≡ Some bytes
-    → ((first : Option Header) → taken_of case first (1 + count_before_pads (shape_in case)) bytes ≡ Ok last) → IsSaid case first (1 + a) posts
+    → ((first : Option Header) → taken_of case first (1 + count_before_pads (shape_in case)) bytes ≡ Ok last)
+    → IsSaid case first (1 + a) posts
     (length slots) (contents_of log) last
 log-again case first a [] posts [] bytes last is from most long are end taken =
     let here : 1 + count_before_pads (shape_in case) ≡ 1 + a = omega (arith, most) in
-    said-last case first (1 + a) posts bytes last (only-one posts bytes (omega (arith, long)) end) (ap (λ (n : ℕ). taken_of case first n bytes) (sym here) ∙ taken first)
+    said-last case first (1 + a) posts bytes last (only-one posts bytes (omega (arith, long)) end)
+    (ap (λ (n : ℕ). taken_of case first n bytes) (sym here) ∙ taken first)
 log-again case first a [] posts (post ∷ log) bytes last is from most long are end taken = absurd are
 log-again case first a (slot ∷ slots) [] log bytes last is from most long are end taken = absurd (omega (arith, long))
 log-again case first a (slot ∷ slots) (post ∷ posts) [] bytes last is from most long are end taken = absurd are
@@ -509,14 +549,18 @@ pad-again roster t is count fits m =
     let past : List (List ℕ) = contents_of m.log in
     let are = (posts_are_found roster t.round 0 (pairs_listed roster t) m.log (all-bytes slots t.posts fits)).0 m.stands in
     let kind : kind_of_stage shape m.header.stage ≡ Some AtPad = ap (kind_of_stage shape) m.at ∙ pad_is shape (pad_stage shape) refl in
-    let asks : (m.header.sender == t.accused && is_pad_stage (kind_of_stage shape m.header.stage)) ≡ true = both-true _ _ (eq-eqb _ _ m.sender) (ap is_pad_stage kind) in
+    let asks : (m.header.sender == t.accused && is_pad_stage (kind_of_stage shape m.header.stage)) ≡ true = both-true _ _
+    (eq-eqb _ _ m.sender) (ap is_pad_stage kind) in
     let taken = λ (first : Option Header).
     file-taken case first (1 + n) m.pads_post (record { header = m.header; body = Pads m.pads }) m.pads_are
-    (asked-again case Pad first (1 + n) m.header is (asked-last case (kind_of_stage shape m.header.stage) first (1 + n) m.header (omega arith) ∙ asks))
+    (asked-again case Pad first (1 + n) m.header is (asked-last case (kind_of_stage shape m.header.stage) first (1 + n) m.header
+    (omega arith) ∙ asks))
     (subst (λ (c : Claim). is_kind_asked c first (Pads m.pads) ≡ true) (sym is) refl) in
     let end : slice_get t.posts (length slots) ≡ Some m.pads_post = ap (slice_get t.posts) (listed ∙ sym before) ∙ m.last in
-    let said = log-again case None 0 slots t.posts m.log m.pads_post pads is (listed-from shape) (omega (arith, listed)) (omega (arith, listed, count)) are end taken in
-    let contents : map content_said (take n said.said) ≡ past = ap (λ (k : ℕ). map content_said (take k said.said)) (sym listed) ∙ said.contents in
+    let said = log-again case None 0 slots t.posts m.log m.pads_post pads is (listed-from shape) (omega (arith, listed))
+    (omega (arith, listed, count)) are end taken in
+    let contents : map content_said (take n said.said) ≡ past = ap (λ (k : ℕ). map content_said (take k said.said)) (sym listed)
+    ∙ said.contents in
     let last : slice_get said.said n ≡ Some pads = ap (slice_get said.said) (sym listed) ∙ said.end in
     let row : pads_row case pads ≡ m.pads = ap (λ (r : Result Content Offence). pads_in (body_of r)) m.pads_are.reads in
     let least = (slot-bounds shape m.header.stage m.header.sender m.pads_are.says.admitted.slot).1 in
@@ -526,7 +570,8 @@ pad-again roster t is count fits m =
     let borne =
     borne-again case past m.pads t.detail (omega (arith, least, m.sender))
     (record { accusation = m.accusation; detail_is = m.detail; accused = m.accused; holds = m.holds }) in
-    let failure : pad_failure case said.said ≡ None = failure-by case said.said past pads contents last ∙ no-failure (view_failure shape past pads)
+    let failure : pad_failure case said.said ≡ None = failure-by case said.said past pads contents last
+    ∙ no-failure (view_failure shape past pads)
     (opening_failure shape past) (accusation_failure case past (pads_row case pads) t.detail) view
     (opens-again shape past m.opens) (ap (λ (p : List (List ℕ)). accusation_failure case past p t.detail) row ∙ borne) in
     heard-pad case t.posts said.said is said.heard ∙ ap (λ (o : Option FailedCheck). value_unless o (tt {0})) failure

@@ -33,7 +33,8 @@ pub record IsTaken (case : Case) (number : ℕ) (bytes : List ℕ) (said : Said)
 abbrev pub AreTaken : Case → ℕ → List (List ℕ) → List Said → Type 0
 AreTaken case number posts said = (k : ℕ) (d : Said) → k < length said → IsTaken case (number + k) (get_or posts k []) (get_or said k d)
 
-taken-more : (case : Case) (number : ℕ) (post : List ℕ) (posts : List (List ℕ)) (one : Said) (others : List Said) → IsTaken case number post one
+taken-more : (case : Case) (number : ℕ) (post : List ℕ) (posts : List (List ℕ)) (one : Said) (others : List Said)
+    → IsTaken case number post one
     → AreTaken case (number + 1) posts others → AreTaken case number (post ∷ posts) (one ∷ others)
 taken-more case number post posts one others here rest zero d lt =
     let same : number ≡ number + 0 = omega arith in
@@ -51,7 +52,8 @@ each-taken case first number (post ∷ posts) said e =
     let a = bind_ok (taken_of case first number post) _ said e in
     let others = bind_ok (hearing_of case (Some (unwrap_or first a.0.header)) (number + 1) posts) _ said a.2 in
     let rest = each-taken case (Some (unwrap_or first a.0.header)) (number + 1) posts others.0 others.1 in
-    subst (λ (s : List Said). (length s ≡ length (post ∷ posts)) × AreTaken case number (post ∷ posts) s) (list_is (a.0 ∷ others.0) said others.2)
+    subst (λ (s : List Said). (length s ≡ length (post ∷ posts)) × AreTaken case number (post ∷ posts) s)
+    (list_is (a.0 ∷ others.0) said others.2)
     (omega (arith, rest.0), taken-more case number post posts a.0 others.0 (record { first = first; taken = a.1 }) rest.1)
 
 -- ---- where it stands
@@ -74,7 +76,8 @@ pub asked-slot : (case : Case) (kind : Option StageKind) (first : Option Header)
 asked-slot case kind first number header lt =
     cond-false (number == claim_posts (shape_in case) Pad) (header.sender == case.accused && is_pad_stage kind)
     (slot_number (shape_in case) header.stage header.sender == number - 1)
-    (false_from_ne_true (number == claim_posts (shape_in case) Pad) (λ e. let same = eqb-true number (claim_posts (shape_in case) Pad) e in absurd (omega arith)))
+    (false_from_ne_true (number == claim_posts (shape_in case) Pad)
+    (λ e. let same = eqb-true number (claim_posts (shape_in case) Pad) e in absurd (omega arith)))
 
 -- and the last is of the accused, at the stage of pads
 pub asked-last : (case : Case) (kind : Option StageKind) (first : Option Header) (number : ℕ) (header : Header)
@@ -85,7 +88,8 @@ asked-last case kind first number header is =
     (slot_number (shape_in case) header.stage header.sender == number - 1)
     (eq-eqb number (claim_posts (shape_in case) Pad) is)
 
-pub pad-at : (case : Case) (header : Header) → (header.sender == case.accused && is_pad_stage (kind_of_stage (shape_in case) header.stage)) ≡ true
+pub pad-at : (case : Case) (header : Header) → (header.sender == case.accused && is_pad_stage (kind_of_stage (shape_in case) header.stage))
+    ≡ true
     → (header.sender ≡ case.accused) × (kind_of_stage (shape_in case) header.stage ≡ Some AtPad)
 pad-at case header e =
     let parts = and_parts (header.sender == case.accused) (is_pad_stage (kind_of_stage (shape_in case) header.stage)) e in
@@ -103,7 +107,8 @@ stands : (case : Case) (place : ℕ) (bytes : List ℕ) (one : GivenSaid) → ca
     → IsTaken case (1 + place) bytes (said_of one) → length one.content.now < 2 ^ 32 → StandsAt (shape_in case) place one
 stands case place bytes one is lt t short =
     let kind : Option StageKind = kind_of_stage (shape_in case) one.header.stage in
-    let asked = sym (asked-slot case kind t.first (1 + place) one.header (omega (arith, lt))) ∙ asked-as case Pad t.first (1 + place) bytes (said_of one) is t.taken in
+    let asked = sym (asked-slot case kind t.first (1 + place) one.header (omega (arith, lt)))
+    ∙ asked-as case Pad t.first (1 + place) bytes (said_of one) is t.taken in
     let there = eqb-true (slot_number (shape_in case) one.header.stage one.header.sender) (1 + place - 1) asked in
     record { readable = readable case (1 + place) bytes one is t short; there = omega (arith, there) }
 
@@ -112,7 +117,8 @@ is-pads : (case : Case) (bytes : List ℕ) (one : GivenSaid) → case.claim ≡ 
 is-pads case bytes one is t short =
     let number : ℕ = 1 + count_before_pads (shape_in case) in
     let kind : Option StageKind = kind_of_stage (shape_in case) one.header.stage in
-    let asked = sym (asked-last case kind t.first number one.header (omega arith)) ∙ asked-as case Pad t.first number bytes (said_of one) is t.taken in
+    let asked = sym (asked-last case kind t.first number one.header (omega arith))
+    ∙ asked-as case Pad t.first number bytes (said_of one) is t.taken in
     record { readable = readable case number bytes one is t short; at = (pad-at case one.header asked).1 }
 
 -- ---- all of them
@@ -121,7 +127,8 @@ some-given : (given : List GivenSaid) → 0 < length given → GivenSaid
 some-given [] lt = absurd (omega arith)
 some-given (one ∷ others) lt = one
 
-pub pad-posts : (case : Case) (posts : List (List ℕ)) (given : List GivenSaid) → case.claim ≡ Pad → length posts ≡ claim_posts (shape_in case) Pad
+pub pad-posts : (case : Case) (posts : List (List ℕ)) (given : List GivenSaid) → case.claim ≡ Pad
+    → length posts ≡ claim_posts (shape_in case) Pad
     → hearing_of case None 1 posts ≡ Ok (map said_of given)
     → All (λ (one : GivenSaid). length one.content.now < 2 ^ 32) given → ArePadPosts case given
 pad-posts case posts given is count e short =
@@ -142,7 +149,8 @@ pad-posts case posts given is count e short =
         stand = λ place x lt.
             let within : place < length given = omega (arith, lt, front, long) in
             subst (StandsAt (shape_in case) place) (sym (get_or-take n given place x (omega (arith, lt, front))))
-            (stands case place (get_or posts place []) (get_or given place x) is (omega (arith, lt, front)) (at place x within) (short place x within));
+            (stands case place (get_or posts place []) (get_or given place x) is (omega (arith, lt, front)) (at place x within)
+            (short place x within));
       };
       is_pads = is-pads case (get_or posts n []) (get_or given n d) is (at n d (omega (arith, long))) (short n d (omega (arith, long)));
     }

@@ -45,17 +45,20 @@ length-said log = length-map log content_in
 -- what was read of a post that stands in a slot's number was said there
 pub slot-said : (shape : Shape) (log : List GivenSaid) (stage sender : ℕ) (d : GivenSaid) (content : Content)
     → slot_number shape stage sender < length log
-    → content_read shape (get_or log (slot_number shape stage sender) d).content.now ≡ Ok content → content.body ≡ said_in shape (contents_said log) stage sender
+    → content_read shape (get_or log (slot_number shape stage sender) d).content.now ≡ Ok content
+    → content.body ≡ said_in shape (contents_said log) stage sender
 unfolding said_in
 slot-said shape log stage sender d content lt read =
-    let there : get_or (contents_said log) (slot_number shape stage sender) [] ≡ (get_or log (slot_number shape stage sender) d).content.now =
+    let there : get_or (contents_said log) (slot_number shape stage sender) [] ≡ (get_or log (slot_number shape stage sender) d).content.now
+    =
     get_or-map content_in log (slot_number shape stage sender) d [] lt in
     sym (ap (λ (bytes : List ℕ). body_of (content_read shape bytes)) there ∙ ap body_of read)
 
 -- and is a body of the slot's stage
 pub slot-body : (shape : Shape) (log : List GivenSaid) (stage sender : ℕ) (d : GivenSaid) (content : Content) → IsListedLog shape log
     → slot_number shape stage sender < length log → is_slot shape stage sender ≡ true
-    → content_read shape (get_or log (slot_number shape stage sender) d).content.now ≡ Ok content → OfGrammar shape content → IsBody shape stage content.body
+    → content_read shape (get_or log (slot_number shape stage sender) d).content.now ≡ Ok content → OfGrammar shape content
+    → IsBody shape stage content.body
 slot-body shape log stage sender d content is lt there read grammar =
     let stands = is.stand (slot_number shape stage sender) d lt in
     let one : GivenSaid = get_or log (slot_number shape stage sender) d in
@@ -107,7 +110,8 @@ member-next {A} f sender list x least so_far is =
 all-pass : {A : Type 0} (p : A → Bool) (f : ℕ → A) (a n : ℕ) → ((k : ℕ) → a ≤ k → k < a + n → p (f k) ≡ true)
     → list_all p (map f (range_with_len a n)) ≡ true
 all-pass {A} p f a zero each = refl
-all-pass {A} p f a (suc n) each = rw (each a (omega arith) (omega arith)) (all-pass p f (a + 1) n (λ k least lt. each k (omega arith) (omega arith)))
+all-pass {A} p f a (suc n) each = rw (each a (omega arith) (omega arith))
+    (all-pass p f (a + 1) n (λ k least lt. each k (omega arith) (omega arith)))
 
 some-fails : {A : Type 0} (p : A → Bool) (x : A) (xs : List A) → (p x ≡ false) ⊎ (list_all p xs ≡ false) → list_all p (x ∷ xs) ≡ false
 some-fails {A} p x xs fails = by_test (p x) (list_all p xs) fails
@@ -128,7 +132,8 @@ one-fails {A} p f a (suc n) k least lt e = some-fails p (f a) (map f (range_with
 
 -- whether all members revealed
 pub all-revealed : (shape : Shape) (past : List (List ℕ))
-    → ((k : ℕ) → 1 ≤ k → k < 1 + shape.members → is_reveal (said_in shape past (final_stage shape 1) k) ≡ true) → are_revealed shape past ≡ true
+    → ((k : ℕ) → 1 ≤ k → k < 1 + shape.members → is_reveal (said_in shape past (final_stage shape 1) k) ≡ true)
+    → are_revealed shape past ≡ true
 all-revealed shape past each = all-pass is_reveal (said_in shape past (final_stage shape 1)) 1 shape.members each
 
 pub one-hides : (shape : Shape) (past : List (List ℕ)) (k : ℕ) → 1 ≤ k → k ≤ shape.members
@@ -174,9 +179,11 @@ revealed-none shape past seeds e = record { each = λ k least lt. absurd (omega 
 
 pub revealed-not : (shape : Shape) (past : List (List ℕ)) (sender : ℕ) (body : Body) → 1 ≤ sender → sender ≤ shape.members
     → body ≡ said_in shape past (shape.members + 3) sender → is_reveal body ≡ false → are_revealed shape past ≡ false
-revealed-not shape past sender body least most is other = one-hides shape past sender least most (ap is_reveal (sym (said-final shape past sender body is)) ∙ other)
+revealed-not shape past sender body least most is other = one-hides shape past sender least most
+    (ap is_reveal (sym (said-final shape past sender body is)) ∙ other)
 
-pub revealed-next : (shape : Shape) (past : List (List ℕ)) (sender : ℕ) (seeds more : List (List ℕ)) (body : Body) (seed : List ℕ) → 1 ≤ sender
+pub revealed-next : (shape : Shape) (past : List (List ℕ)) (sender : ℕ) (seeds more : List (List ℕ)) (body : Body) (seed : List ℕ)
+    → 1 ≤ sender
     → RevealedSoFar shape past sender seeds → body ≡ said_in shape past (shape.members + 3) sender
     → (is_reveal body ≡ true) × (seed ≡ seed_in body) → more ≡ seeds ++ seed ∷ [] → RevealedSoFar shape past (sender + 1) more
 revealed-next shape past sender seeds more body seed least so is tells pushed =
@@ -184,10 +191,12 @@ revealed-next shape past sender seeds more body seed least so is tells pushed =
     record {
       each = λ k low lt. elim (cases_lt k sender) [
         | inl before ↦ so.each k low before
-        | inr now ↦ (let same : sender ≡ k = omega arith in ap (λ (m : ℕ). is_reveal (said_in shape past (final_stage shape 1) m)) (sym same) ∙ ap
+        | inr now ↦ (let same : sender ≡ k = omega arith in ap (λ (m : ℕ). is_reveal (said_in shape past (final_stage shape 1) m))
+            (sym same) ∙ ap
             is_reveal (sym said) ∙ tells.0)
       ];
-      seeds = pushed ∙ member-next (λ member. seed_in (said_in shape past (final_stage shape 1) member)) sender seeds seed least so.seeds (tells.1 ∙ ap seed_in said);
+      seeds = pushed ∙ member-next (λ member. seed_in (said_in shape past (final_stage shape 1) member)) sender seeds seed least so.seeds
+          (tells.1 ∙ ap seed_in said);
     }
 
 pub revealed-all : (shape : Shape) (past : List (List ℕ)) (sender : ℕ) (seeds list : List (List ℕ)) → sender ≡ shape.members + 1
@@ -207,7 +216,11 @@ pub range-some : (shape : Shape) (log : List GivenSaid) (stage : ℕ) → IsShap
 range-some shape log stage is listed lt =
     let a : ℕ = slots_before shape stage in
     let b : ℕ = slots_before shape (stage + 1) in
-    omega (arith, length-take-le (b - a) (drop a log) (omega (arith, length-drop a log, listed.whole, stage-within shape stage lt)), stage-some shape stage is lt)
+    omega (
+      arith,
+      length-take-le (b - a) (drop a log) (omega (arith, length-drop a log, listed.whole, stage-within shape stage lt)),
+      stage-some shape stage is lt,
+    )
 
 pub seen-next : (shape : Shape) (log : List GivenSaid) (stage : ℕ) (posts : List GivenSaid) (running : RunningView)
     → posts ≡ slice_range log (slots_before shape stage) (slots_before shape (stage + 1))
@@ -215,4 +228,5 @@ pub seen-next : (shape : Shape) (log : List GivenSaid) (stage : ℕ) (posts : Li
     (view_of shape (contents_said log) (stage + 1)) []
 seen-next shape log stage posts running is carries =
     subst (λ (view : List ℕ). Carries running view [])
-    (ap (λ (p : List GivenSaid). hash_of View (view_of shape (contents_said log) stage ∷ contents_said p)) is ∙ next-view shape log stage) carries
+    (ap (λ (p : List GivenSaid). hash_of View (view_of shape (contents_said log) stage ∷ contents_said p)) is ∙ next-view shape log stage)
+    carries

@@ -89,7 +89,8 @@ keys-slot shape sender least most = slot-of shape 0 sender AtKeys (keys_is shape
 
 pub final-slot : (shape : Shape) (stage sender : ℕ) → stage ≡ shape.members + 3 → 1 ≤ sender → sender ≤ shape.members
     → is_slot shape stage sender ≡ true
-final-slot shape stage sender e least most = slot-of shape stage sender (AtFinal 1) (final_a_is shape stage e) (member-there shape.members sender least most)
+final-slot shape stage sender e least most = slot-of shape stage sender (AtFinal 1) (final_a_is shape stage e)
+    (member-there shape.members sender least most)
 
 pub last_turn-slot : (shape : Shape) → 1 ≤ shape.members → is_slot shape (shape.members + 1) shape.members ≡ true
 last_turn-slot shape least =
@@ -152,7 +153,8 @@ bulk-key body keys d five is =
 level-small : (n k : ℕ) → n ≤ 8 → level n 1 k < 2 ^ 32
 level-small n k most = omega (arith, most)
 
-turn-entries : (shape : Shape) (before k : ℕ) (body : Body) (list : List (List ℕ)) → shape.members ≤ 8 → IsBodyAt shape before (AtShuffle 1 k) body
+turn-entries : (shape : Shape) (before k : ℕ) (body : Body) (list : List (List ℕ)) → shape.members ≤ 8
+    → IsBodyAt shape before (AtShuffle 1 k) body
     → list_of body ≡ Some list → AreEntries shape list
 turn-entries shape before k (Shuffled entries) list most is e =
     let same = list_is entries list e in
@@ -179,11 +181,13 @@ turn-entries shape before k (Check vote) list most is e = absurd is
 turn-entries shape before k (Confirm votes) list most is e = absurd is
 turn-entries shape before k (Differ posts) list most is e = absurd is
 
-pub last-entries : (shape : Shape) (stage : ℕ) (body : Body) (list : List (List ℕ)) → IsShape shape.version shape.members → stage ≡ shape.members + 1
+pub last-entries : (shape : Shape) (stage : ℕ) (body : Body) (list : List (List ℕ)) → IsShape shape.version shape.members
+    → stage ≡ shape.members + 1
     → IsBody shape stage body → list_of body ≡ Some list → AreEntries shape list
 last-entries shape stage body list is at said e =
     turn-entries shape (slots_before shape stage) shape.members body list is.most
-    (body-at shape stage (AtShuffle 1 shape.members) body (turn_a shape stage shape.members at (omega (arith, is.least)) (omega arith)) said) e
+    (body-at shape stage (AtShuffle 1 shape.members) body (turn_a shape stage shape.members at (omega (arith, is.least)) (omega arith))
+    said) e
 
 -- pads, one for each slot of the list
 pub pads-said : (shape : Shape) (stage : ℕ) (body : Body) → kind_of_stage shape stage ≡ Some AtPad → IsBody shape stage body

@@ -65,7 +65,8 @@ said_ok s = Ok s
 one-more : (case : Case) (first : Header) (number : ℕ) (post : List ℕ) (posts : List (List ℕ)) (a : Said) (others : List Said) (d : Said)
     → taken_of case (Some first) number post ≡ Ok a
     → ((k : ℕ) → k < length posts → taken_of case (Some first) (number + 1 + k) (slice_index_or posts k []) ≡ Ok (get_or others k d))
-    → (k : ℕ) → k < length (post ∷ posts) → taken_of case (Some first) (number + k) (slice_index_or (post ∷ posts) k []) ≡ Ok (get_or (a ∷ others) k d)
+    → (k : ℕ) → k < length (post ∷ posts) → taken_of case (Some first) (number + k) (slice_index_or (post ∷ posts) k []) ≡ Ok
+    (get_or (a ∷ others) k d)
 one-more case first number post posts a others d e rest zero lt =
     let same : number + 0 ≡ number = omega arith in
     ap (λ (n : ℕ). taken_of case (Some first) n post) same ∙ e
@@ -82,7 +83,8 @@ behind-taken case first number [] said d e k lt = absurd (omega arith)
 behind-taken case first number (post ∷ posts) said d e k lt =
     let a = bind_ok (taken_of case (Some first) number post) _ said e in
     let others = bind_ok (hearing_of case (Some first) (number + 1) posts) _ said a.2 in
-    let here = one-more case first number post posts a.0 others.0 d a.1 (behind-taken case first (number + 1) posts others.0 d others.1) k lt in
+    let here = one-more case first number post posts a.0 others.0 d a.1 (behind-taken case first (number + 1) posts others.0 d others.1) k
+    lt in
     here ∙ ap (λ (s : List Said). said_ok (get_or s k d)) (list_is (a.0 ∷ others.0) said others.2)
 
 behind-long : (case : Case) (first : Header) (number : ℕ) (posts : List (List ℕ)) (said : List Said)
@@ -96,7 +98,8 @@ behind-long case first number (post ∷ posts) said e =
     omega (arith, ap (λ (s : List Said). length s) is, behind-long case first (number + 1) posts others.0 others.1)
 
 -- and back
-behind-heard : (case : Case) (first : Header) (number : ℕ) (posts : List (List ℕ)) (said : List Said) (d : Said) → length said ≡ length posts
+behind-heard : (case : Case) (first : Header) (number : ℕ) (posts : List (List ℕ)) (said : List Said) (d : Said)
+    → length said ≡ length posts
     → ((k : ℕ) → k < length posts → taken_of case (Some first) (number + k) (slice_index_or posts k []) ≡ Ok (get_or said k d))
     → hearing_of case (Some first) number posts ≡ Ok said
 unfolding hearing_of
@@ -105,7 +108,8 @@ behind-heard case first number [] (s ∷ said) d long each = absurd (omega arith
 behind-heard case first number (post ∷ posts) [] d long each = absurd (omega arith)
 behind-heard case first number (post ∷ posts) (s ∷ said) d long each =
     let zero_more : number ≡ number + 0 = omega arith in
-    let here : taken_of case (Some first) number post ≡ Ok s = ap (λ (n : ℕ). taken_of case (Some first) n post) zero_more ∙ each 0 (omega arith) in
+    let here : taken_of case (Some first) number post ≡ Ok s = ap (λ (n : ℕ). taken_of case (Some first) n post) zero_more
+    ∙ each 0 (omega arith) in
     let rest = behind-heard case first (number + 1) posts said d (omega arith)
     (λ k lt. let next : number + 1 + k ≡ number + suc k = omega arith in
     ap (λ (n : ℕ). taken_of case (Some first) n (slice_index_or posts k [])) next ∙ each (suc k) (omega arith)) in
@@ -124,7 +128,8 @@ record AllTaken (case : Case) (posts : List (List ℕ)) (said : List Said) : Typ
   pub long : length (first ∷ others) ≡ length posts
   pub taken : EachTaken case posts first others
 
-all-taken : (case : Case) (posts : List (List ℕ)) (said : List Said) → 0 < length posts → hearing_of case None 1 posts ≡ Ok said → AllTaken case posts said
+all-taken : (case : Case) (posts : List (List ℕ)) (said : List Said) → 0 < length posts → hearing_of case None 1 posts ≡ Ok said
+    → AllTaken case posts said
 unfolding hearing_of
 all-taken case [] said some e = absurd (omega arith)
 all-taken case (post ∷ posts) said some e =
@@ -160,16 +165,20 @@ all-heard case (post ∷ posts) first others long each =
 
 -- ---- justified posts
 
-justified-each : (case : Case) (number : ℕ) (said : List Said) → unjustified_from case number said ≡ None → All (λ (one : Said). is_justified_in case one ≡ true) said
+justified-each : (case : Case) (number : ℕ) (said : List Said) → unjustified_from case number said ≡ None
+    → All (λ (one : Said). is_justified_in case one ≡ true) said
 justified-each case number [] e = All-nil (λ (one : Said). is_justified_in case one ≡ true)
 justified-each case number (one ∷ others) e = elim (cases_Bool (is_justified_in case one)) [
   | inl good ↦
       All-cons (λ (one : Said). is_justified_in case one ≡ true) one others good
-      (justified-each case (number + 1) others (sym (cond-true (is_justified_in case one) (unjustified_from case (number + 1) others) (Some (NotJustified number)) good) ∙ e))
-  | inr bad ↦ absurd (none-some (NotJustified number) (sym e ∙ cond-false (is_justified_in case one) (unjustified_from case (number + 1) others) (Some (NotJustified number)) bad))
+      (justified-each case (number + 1) others (sym (cond-true (is_justified_in case one) (unjustified_from case (number + 1) others)
+      (Some (NotJustified number)) good) ∙ e))
+  | inr bad ↦ absurd (none-some (NotJustified number) (sym e ∙ cond-false (is_justified_in case one)
+      (unjustified_from case (number + 1) others) (Some (NotJustified number)) bad))
 ]
 
-none-unjustified : (case : Case) (number : ℕ) (said : List Said) → All (λ (one : Said). is_justified_in case one ≡ true) said → unjustified_from case number said ≡ None
+none-unjustified : (case : Case) (number : ℕ) (said : List Said) → All (λ (one : Said). is_justified_in case one ≡ true) said
+    → unjustified_from case number said ≡ None
 none-unjustified case number [] all = refl
 none-unjustified case number (one ∷ others) all =
     cond-true (is_justified_in case one) (unjustified_from case (number + 1) others) (Some (NotJustified number))
@@ -182,7 +191,8 @@ justified-posts : (roster : Roster) (round : ℕ) (content : Content) → is_con
 unfolding is_content_justified
 justified-posts roster round content e = by_posts (posts_in_content roster round content) e
   where
-    by_posts : (r : Result (List Post) BadPost) → is_justified_by (shape_of_roster roster) content r ≡ true → (posts : List Post) × (r ≡ Ok posts)
+    by_posts : (r : Result (List Post) BadPost) → is_justified_by (shape_of_roster roster) content r ≡ true → (posts : List Post)
+        × (r ≡ Ok posts)
     by_posts (Ok posts) e = (posts, refl)
     by_posts (Err bad) e = absurd cc
 
@@ -193,7 +203,8 @@ posts_are : (a b : List Post) → posts_ok a ≡ posts_ok b → a ≡ b
 posts_are a b e = cc
 
 -- and is as long as what is embedded
-posts-long : (roster : Roster) (round place : ℕ) (pairs : List (Slot × List ℕ)) (posts : List Post) → posts_for roster round place pairs ≡ Ok posts → length posts ≡ length pairs
+posts-long : (roster : Roster) (round place : ℕ) (pairs : List (Slot × List ℕ)) (posts : List Post)
+    → posts_for roster round place pairs ≡ Ok posts → length posts ≡ length pairs
 unfolding posts_for
 posts-long roster round place [] posts e = ap (λ (p : List Post). length p) (sym (posts_are [] posts e))
 posts-long roster round place (pair ∷ pairs) posts e =
@@ -220,7 +231,8 @@ past-same : (past : List (List ℕ)) → unlike_place past past ≡ None
 unfolding unlike_place
 past-same past =
     first_below-none (λ place. fault_unless (is_alike past past place) place) (length past)
-    (λ place lt. fault_unless-true (is_alike past past place) place ((bytes_eq-Decides (slice_index_or past place []) (slice_index_or past place [])).1 refl))
+    (λ place lt. fault_unless-true (is_alike past past place) place
+    ((bytes_eq-Decides (slice_index_or past place []) (slice_index_or past place [])).1 refl))
 
 alike-each : (case : Case) (past : List (List ℕ)) (number : ℕ) (said : List Said) → unlike_from case past number said ≡ None
     → All (λ (one : Said). unlike_place past (past_in case one) ≡ None) said
@@ -236,7 +248,8 @@ first-none : (o : Option FailedCheck) → o ≡ None → first_some (None ∷ o 
 first-none None e = refl
 first-none (Some failed) e = absurd cc
 
-none-unlike : (case : Case) (past : List (List ℕ)) (number : ℕ) (said : List Said) → All (λ (one : Said). past_in case one ≡ past) said → unlike_from case past number said ≡ None
+none-unlike : (case : Case) (past : List (List ℕ)) (number : ℕ) (said : List Said) → All (λ (one : Said). past_in case one ≡ past) said
+    → unlike_from case past number said ≡ None
 none-unlike case past number [] all = refl
 none-unlike case past number (one ∷ others) all =
     let same = All-head (λ (one : Said). past_in case one ≡ past) one others all in
@@ -246,18 +259,21 @@ none-unlike case past number (one ∷ others) all =
     ∙ first-none (unlike_from case past (number + 1) others) rest
 
 -- the past of one that objects has a content for each slot before its stage
-past-long : (case : Case) (stage : ℕ) (one : Said) (content : Content) → OfGrammar (shape_in case) content → IsObjection case stage one → read_of case one ≡ Ok content
+past-long : (case : Case) (stage : ℕ) (one : Said) (content : Content) → OfGrammar (shape_in case) content → IsObjection case stage one
+    → read_of case one ≡ Ok content
     → is_justified_in case one ≡ true → length (past_in case one) ≡ slots_before (shape_in case) stage
 past-long case stage one content grammar o read good =
     let shape : Shape = shape_in case in
     let span = spans shape content grammar (closing-content case one content o.post read) in
     let objects = span.objects (dissent-objects content.body (read-dissents (read_of case one) content read o.dissents)) in
-    let justified : is_content_justified case.roster case.round content ≡ true = sym (ap (is_read_justified case.roster case.round) read) ∙ good in
+    let justified : is_content_justified case.roster case.round content ≡ true = sym (ap (is_read_justified case.roster case.round) read)
+    ∙ good in
     let found = justified-posts case.roster case.round content justified in
     let past : past_in case one ≡ contents_of found.0 = ap (contents_embedded case.roster case.round) read ∙ ap contents_found found.1 in
     let pairs = posts-long case.roster case.round 0 (embedded_pairs case.roster content) found.0 found.1 in
     let at : slots_before shape content.header.stage ≡ slots_before shape stage =
-    ap (λ (h : Header). slots_before shape h.stage) (sym (read-header case one content o.post.header read)) ∙ ap (slots_before shape) o.at in
+    ap (λ (h : Header). slots_before shape h.stage) (sym (read-header case one content o.post.header read))
+    ∙ ap (slots_before shape) o.at in
     omega (
       arith,
       ap (λ (p : List (List ℕ)). length p) past,
@@ -273,7 +289,8 @@ past-long case stage one content grammar o read good =
 -- ---- what is replayed
 
 -- a list by its places
-by_range : (f : Said → Shown) (g : ℕ → Shown) (a : ℕ) (said : List Said) (d : Said) → ((k : ℕ) → k < length said → f (get_or said k d) ≡ g (a + k))
+by_range : (f : Said → Shown) (g : ℕ → Shown) (a : ℕ) (said : List Said) (d : Said)
+    → ((k : ℕ) → k < length said → f (get_or said k d) ≡ g (a + k))
     → map f said ≡ map g (range_with_len a (length said))
 by_range f g a [] d each = refl
 by_range f g a (one ∷ others) d each =
@@ -282,8 +299,10 @@ by_range f g a (one ∷ others) d each =
     ∙ ap (λ (t : List Shown). g a ∷ t) (by_range f g (a + 1) others d
     (λ k lt. let next : a + suc k ≡ a + 1 + k = omega arith in each (suc k) (omega arith) ∙ ap g next))
 
-parts-same : (case : Case) (kind : Option StageKind) (all : List Said) (d : Said) (said : ℕ → Content) → length all ≡ (shape_in case).members
-    → ((k : ℕ) → k < length all → shown_of case (get_or all k d) ≡ shown_in (said (1 + k)).body) → parts_shown case kind all ≡ parts_said (shape_in case) kind said
+parts-same : (case : Case) (kind : Option StageKind) (all : List Said) (d : Said) (said : ℕ → Content)
+    → length all ≡ (shape_in case).members
+    → ((k : ℕ) → k < length all → shown_of case (get_or all k d) ≡ shown_in (said (1 + k)).body)
+    → parts_shown case kind all ≡ parts_said (shape_in case) kind said
 parts-same case (Some (AtFinal shuffle)) all d said long each =
     by_range (shown_of case) (λ member. shown_in (said member).body) 1 all d each
     ∙ ap (λ (n : ℕ). map (λ member. shown_in (said member).body) (range_with_len 1 n)) long
@@ -299,13 +318,15 @@ parts-same case (Some AtCheck) all d said long each = refl
 abbrev asked : Shape → List (List ℕ) → ℕ → ℕ → List Shown → Inquiry
 asked shape past stage round shown = record { shape = shape; past = past; stage = stage; round = round; shown = shown }
 
-inquiry-by : (case : Case) (first : Said) (all : List Said) (d : Said) (stage : ℕ) (past : List (List ℕ)) (said : ℕ → Content) → past_in case first ≡ past
+inquiry-by : (case : Case) (first : Said) (all : List Said) (d : Said) (stage : ℕ) (past : List (List ℕ)) (said : ℕ → Content)
+    → past_in case first ≡ past
     → first.header.stage ≡ stage → length all ≡ (shape_in case).members
     → ((k : ℕ) → k < length all → shown_of case (get_or all k d) ≡ shown_in (said (1 + k)).body)
     → inquiry_in case first all ≡ inquiry_by (shape_in case) case.round stage past said
 inquiry-by case first all d stage past said own at long each =
     let shape : Shape = shape_in case in
-    ap (λ (p : List (List ℕ)). asked shape p first.header.stage case.round (parts_shown case (kind_of_stage shape first.header.stage) all)) own
+    ap (λ (p : List (List ℕ)). asked shape p first.header.stage case.round (parts_shown case (kind_of_stage shape first.header.stage) all))
+    own
     ∙ ap (λ (s : ℕ). asked shape past s case.round (parts_shown case (kind_of_stage shape s) all)) at
     ∙ ap (λ (p : List Shown). asked shape past stage case.round p) (parts-same case (kind_of_stage shape stage) all d said long each)
 
@@ -314,7 +335,12 @@ inquiry-by case first all d stage past said own at long each =
 -- of what blames the accused its fault
 blamed : (accused : ℕ) (o : Option Fault) → culprit_failure accused o ≡ None → (fault : Fault) × (o ≡ Some fault) × (fault.member ≡ accused)
 blamed accused None e = absurd cc
-blamed accused (Some fault) e = (fault, refl, eqb-true fault.member accused (fault_unless-holds (fault.member == accused) (Culprit fault.member) e))
+blamed accused (Some fault) e = (
+  fault,
+  refl,
+  eqb-true fault.member accused
+      (fault_unless-holds (fault.member == accused) (Culprit fault.member) e),
+)
 
 -- what was read, or else another content
 abbrev content_or : Content → Result Content Offence → Content
@@ -333,12 +359,14 @@ record StandsAt (case : Case) (posts : List (List ℕ)) (first : Said) (place : 
   pub long : length (past_in case one) ≡ slots_before (shape_in case) first.header.stage
 
 -- the stage of one that is taken is that of the first
-at-first : (first : Said) (others : List Said) (place : ℕ) → is_of_one_stage (first_header first.header place) (get_or (first ∷ others) place first).header ≡ true
+at-first : (first : Said) (others : List Said) (place : ℕ) → is_of_one_stage (first_header first.header place)
+    (get_or (first ∷ others) place first).header ≡ true
     → (get_or (first ∷ others) place first).header.stage ≡ first.header.stage
 at-first first others zero e = refl
 at-first first others (suc place) e = eqb-true (get_or others place first).header.stage first.header.stage e
 
-stands-at : (case : Case) (posts : List (List ℕ)) (first : Said) (others : List Said) → case.claim ≡ Replay → EachTaken case posts first others
+stands-at : (case : Case) (posts : List (List ℕ)) (first : Said) (others : List Said) → case.claim ≡ Replay
+    → EachTaken case posts first others
     → ((k : ℕ) → k < length posts → IsBytes (slice_index_or posts k []))
     → ((k : ℕ) → k < length posts → is_justified_in case (get_or (first ∷ others) k first) ≡ true)
     → (k : ℕ) → k < length posts → StandsAt case posts first k (get_or (first ∷ others) k first)
@@ -360,15 +388,18 @@ stands-at case posts first others is each fits good k lt =
     }
 
 -- one that stands at a place and embeds the past objects, in the words of what convicts
-objects : (case : Case) (posts : List (List ℕ)) (first : Said) (place : ℕ) (one : Said) (past : List (List ℕ)) (s : StandsAt case posts first place one) → case.claim ≡ Replay
-    → past_in case one ≡ past → Objects case.roster case.round first.header.stage past (place + 1) (slice_index_or posts place []) s.taken.content
+objects : (case : Case) (posts : List (List ℕ)) (first : Said) (place : ℕ) (one : Said) (past : List (List ℕ))
+    (s : StandsAt case posts first place one) → case.claim ≡ Replay
+    → past_in case one ≡ past → Objects case.roster case.round first.header.stage past (place + 1) (slice_index_or posts place [])
+    s.taken.content
 objects case posts first place one past s is same =
     let header : Option Header = first_header first.header place in
     let kind : Option StageKind = kind_of_stage (shape_in case) one.header.stage in
     let slot = and_parts ((one.header.sender == place + 1) && is_closing_stage kind) (is_of_one_stage header one.header)
     (asked-found case Replay header (place + 1) one.header is s.taken.asked) in
     let sender = and_parts (one.header.sender == place + 1) (is_closing_stage kind) slot.0 in
-    let justified : is_content_justified case.roster case.round s.taken.content ≡ true = sym (ap (is_read_justified case.roster case.round) s.taken.reads) ∙ s.justified in
+    let justified : is_content_justified case.roster case.round s.taken.content ≡ true = sym
+    (ap (is_read_justified case.roster case.round) s.taken.reads) ∙ s.justified in
     let found = justified-posts case.roster case.round s.taken.content justified in
     record {
       file = s.taken.file;
@@ -382,8 +413,10 @@ objects case posts first place one past s is same =
     }
 
 -- the post of a member is that at its place
-by-place : (case : Case) (t : Transcript) (stage : ℕ) (past : List (List ℕ)) (place member : ℕ) (content said : Content) → place ≡ member - 1 → 1 ≤ member → content ≡ said
-    → Objects case.roster case.round stage past (place + 1) (slice_index_or t.posts place []) content → Objects case.roster case.round stage past member (post_listed t member) said
+by-place : (case : Case) (t : Transcript) (stage : ℕ) (past : List (List ℕ)) (place member : ℕ) (content said : Content)
+    → place ≡ member - 1 → 1 ≤ member → content ≡ said
+    → Objects case.roster case.round stage past (place + 1) (slice_index_or t.posts place []) content
+    → Objects case.roster case.round stage past member (post_listed t member) said
 by-place case t stage past place member content said at least same o =
     let back : place + 1 ≡ member = omega arith in
     subst (λ (c : Content). Objects case.roster case.round stage past member (post_listed t member) c) same
@@ -406,8 +439,10 @@ past-at case posts first others stands long alike (suc k) lt =
     same-past (past_in case first) (past_in case (get_or others k first))
     ((stands (suc k) lt).long ∙ sym (stands 0 (omega arith)).long) (alike k first (omega (arith, lt, long)))
 
-found-of : (roster : Roster) (t : Transcript) (first : Said) (others : List Said) → t.claim ≡ Replay → length t.posts ≡ (shape_of_roster roster).members
-    → AllByRecursion IsBytes t.posts → length (first ∷ others) ≡ length t.posts → EachTaken (case_of_transcript roster t) t.posts first others
+found-of : (roster : Roster) (t : Transcript) (first : Said) (others : List Said) → t.claim ≡ Replay
+    → length t.posts ≡ (shape_of_roster roster).members
+    → AllByRecursion IsBytes t.posts → length (first ∷ others) ≡ length t.posts
+    → EachTaken (case_of_transcript roster t) t.posts first others
     → replay_failure (case_of_transcript roster t) (first ∷ others) ≡ None → 0 < length t.posts → ReplaysFault roster t
 found-of roster t first others is count fits long taken passes some =
     let case : Case = case_of_transcript roster t in
@@ -422,7 +457,8 @@ found-of roster t first others is count fits long taken passes some =
     let stands = stands-at case t.posts first others is taken (bytes-at t.posts fits) (λ k lt. good k first (omega (arith, lt, long))) in
     let same = past-at case t.posts first others stands long (alike-each case past 2 others b.0) in
     let fault = blamed t.accused (culprit_of (inquiry_in case first all)) c.0 in
-    let read : (k : ℕ) (lt : k < length t.posts) → read_of case (get_or all k first) ≡ Ok (stands k lt).taken.content = λ k lt. (stands k lt).taken.reads in
+    let read : (k : ℕ) (lt : k < length t.posts) → read_of case (get_or all k first) ≡ Ok (stands k lt).taken.content = λ k lt.
+    (stands k lt).taken.reads in
     record {
       count = count;
       stage = first.header.stage;
@@ -431,12 +467,14 @@ found-of roster t first others is count fits long taken passes some =
       said = said_by case first all;
       object = λ member least most.
           let lt : member - 1 < length t.posts = omega (arith, count) in
-          by-place case t first.header.stage past (member - 1) member (stands (member - 1) lt).taken.content (said_by case first all member) refl least
+          by-place case t first.header.stage past (member - 1) member (stands (member - 1) lt).taken.content (said_by case first all member)
+          refl least
           (sym (ap (content_or (record { header = first.header; body = Abort })) (read (member - 1) lt)))
           (objects case t.posts first (member - 1) (get_or all (member - 1) first) past (stands (member - 1) lt) is (same (member - 1) lt));
       fault = fault.0;
       blames = ap culprit_of (sym (inquiry-by case first all first first.header.stage past (said_by case first all) refl refl (long ∙ count)
-          (λ k lt. shown-by case first all k (stands k (omega (arith, lt, long))).taken.content (read k (omega (arith, lt, long)))))) ∙ fault.1;
+          (λ k lt. shown-by case first all k (stands k (omega (arith, lt, long))).taken.content (read k (omega (arith, lt, long))))))
+          ∙ fault.1;
       accused = fault.2;
     }
   where
@@ -449,7 +487,8 @@ found-of roster t first others is count fits long taken passes some =
         ap (λ (n : ℕ). content_or other (read_of case (get_or all n first))) back ∙ ap (content_or other) read in
         ap (λ (r : Result Content Offence). shown_in (body_of r)) read ∙ ap (λ (c : Content). shown_in c.body) (sym there)
 
-pub replay-found : (roster : Roster) (t : Transcript) → t.claim ≡ Replay → length t.posts ≡ (shape_of_roster roster).members → 0 < length t.posts
+pub replay-found : (roster : Roster) (t : Transcript) → t.claim ≡ Replay → length t.posts ≡ (shape_of_roster roster).members
+    → 0 < length t.posts
     → AllByRecursion IsBytes t.posts → conviction_of (case_of_transcript roster t) t.posts ≡ Ok tt → ReplaysFault roster t
 unfolding conviction_of
 replay-found roster t is count some fits e =
@@ -487,7 +526,8 @@ record Speaks (roster : Roster) (t : Transcript) (r : ReplaysFault roster t) (pl
   pub objects : Objects roster t.round r.stage r.past (place + 1) (slice_index_or t.posts place []) (r.said (place + 1))
   pub is : one ≡ record { header = (r.said (place + 1)).header; content = objects.file.text }
 
-speaks : (roster : Roster) (t : Transcript) (r : ReplaysFault roster t) (place : ℕ) → place < (shape_of_roster roster).members → (one : Said) × Speaks roster t r place one
+speaks : (roster : Roster) (t : Transcript) (r : ReplaysFault roster t) (place : ℕ) → place < (shape_of_roster roster).members
+    → (one : Said) × Speaks roster t r place one
 speaks roster t r place lt =
     let back : place + 1 - 1 ≡ place = omega arith in
     let o = subst (λ (k : ℕ). Objects roster t.round r.stage r.past (place + 1) (slice_index_or t.posts k []) (r.said (place + 1))) back
@@ -508,24 +548,30 @@ speaks-past : (roster : Roster) (t : Transcript) (r : ReplaysFault roster t) (pl
 speaks-past roster t r place one s =
     ap (contents_embedded roster t.round) (speaks-read roster t r place one s) ∙ ap contents_found s.objects.embeds ∙ s.objects.contents
 
-speaks-stage : (roster : Roster) (t : Transcript) (r : ReplaysFault roster t) (place : ℕ) (one : Said) → Speaks roster t r place one → one.header.stage ≡ r.stage
+speaks-stage : (roster : Roster) (t : Transcript) (r : ReplaysFault roster t) (place : ℕ) (one : Said) → Speaks roster t r place one
+    → one.header.stage ≡ r.stage
 speaks-stage roster t r place one s = ap (λ (x : Said). x.header.stage) s.is ∙ s.objects.at
 
-one-stage : (first : Header) (place : ℕ) (header : Header) → header.stage ≡ first.stage → is_of_one_stage (first_header first place) header ≡ true
+one-stage : (first : Header) (place : ℕ) (header : Header) → header.stage ≡ first.stage
+    → is_of_one_stage (first_header first place) header ≡ true
 one-stage first zero header e = refl
 one-stage first (suc place) header e = eq-eqb _ _ e
 
-speaks-taken : (roster : Roster) (t : Transcript) (r : ReplaysFault roster t) → t.claim ≡ Replay → (first : Header) → first.stage ≡ r.stage → (place : ℕ) (one : Said)
-    → Speaks roster t r place one → taken_of (case_of_transcript roster t) (first_header first place) (place + 1) (slice_index_or t.posts place []) ≡ Ok one
+speaks-taken : (roster : Roster) (t : Transcript) (r : ReplaysFault roster t) → t.claim ≡ Replay → (first : Header) → first.stage ≡ r.stage
+    → (place : ℕ) (one : Said)
+    → Speaks roster t r place one → taken_of (case_of_transcript roster t) (first_header first place) (place + 1)
+    (slice_index_or t.posts place []) ≡ Ok one
 speaks-taken roster t r is first at place one s =
     let case : Case = case_of_transcript roster t in
     let content : Content = r.said (place + 1) in
     let kind : Option StageKind = kind_of_stage (shape_in case) content.header.stage in
     let closing : is_closing_stage kind ≡ true =
-    closing-is kind (subst (λ (stage : ℕ). IsSome (option_and_then vote_of (kind_of_stage (shape_in case) stage))) (sym s.objects.at) r.closing) in
+    closing-is kind (subst (λ (stage : ℕ). IsSome (option_and_then vote_of (kind_of_stage (shape_in case) stage))) (sym s.objects.at)
+    r.closing) in
     let sender : (content.header.sender == place + 1) ≡ true = eq-eqb _ _ s.objects.sender in
     let stage = one-stage first place content.header (s.objects.at ∙ sym at) in
-    let slot = asked-again case Replay (first_header first place) (place + 1) content.header is (both-true _ _ (both-true _ _ sender closing) stage) in
+    let slot = asked-again case Replay (first_header first place) (place + 1) content.header is
+    (both-true _ _ (both-true _ _ sender closing) stage) in
     let dissents = subst (λ (c : Claim). is_kind_asked c (first_header first place) content.body ≡ true) (sym is) s.objects.dissents in
     file-taken case (first_header first place) (place + 1) (slice_index_or t.posts place []) content s.objects.file slot dissents
     ∙ ap said_ok (sym s.is)
@@ -553,10 +599,12 @@ again-of roster t r is first others long each =
     (sym (none-unlike case (past_in case first) 2 others same)) (sym (ap culprit_of inquiry ∙ r.blames))
     (sym (fault_unless-true (r.fault.member == t.accused) (Culprit r.fault.member) (eq-eqb _ _ r.accused)))
   where
-    behind : (k : ℕ) (d : Said) → k < length others → (P : Said → Type 0) → ((place : ℕ) (one : Said) → Speaks roster t r place one → P one) → P (get_or others k d)
+    behind : (k : ℕ) (d : Said) → k < length others → (P : Said → Type 0) → ((place : ℕ) (one : Said) → Speaks roster t r place one → P one)
+        → P (get_or others k d)
     behind k d lt P so = so (suc k) (get_or others k d) (at_place others k d lt (each (suc k) (let l = long in omega (arith, lt, l))))
       where
-        at_place : (others : List Said) (k : ℕ) (d : Said) → k < length others → Speaks roster t r (suc k) (get_or others k first) → Speaks roster t r (suc k) (get_or others k d)
+        at_place : (others : List Said) (k : ℕ) (d : Said) → k < length others → Speaks roster t r (suc k) (get_or others k first)
+            → Speaks roster t r (suc k) (get_or others k d)
         at_place others k d lt s = subst (Speaks roster t r (suc k)) (default others k lt) s
           where
             default : (others : List Said) (k : ℕ) → k < length others → get_or others k first ≡ get_or others k d
@@ -564,10 +612,12 @@ again-of roster t r is first others long each =
             default (one ∷ others) zero lt = refl
             default (one ∷ others) (suc k) lt = default others k (omega arith)
 
-    shown-said : (k : ℕ) (one : Said) → Speaks roster t r k one → shown_of (case_of_transcript roster t) one ≡ shown_in (r.said (1 + k)).body
+    shown-said : (k : ℕ) (one : Said) → Speaks roster t r k one
+        → shown_of (case_of_transcript roster t) one ≡ shown_in (r.said (1 + k)).body
     shown-said k one s =
         let next : k + 1 ≡ 1 + k = omega arith in
-        ap (λ (x : Result Content Offence). shown_in (body_of x)) (speaks-read roster t r k one s) ∙ ap (λ (n : ℕ). shown_in (r.said n).body) next
+        ap (λ (x : Result Content Offence). shown_in (body_of x)) (speaks-read roster t r k one s)
+        ∙ ap (λ (n : ℕ). shown_in (r.said n).body) next
 
 pub replay-again : (roster : Roster) (t : Transcript) → 0 < (shape_of_roster roster).members → t.claim ≡ Replay → ReplaysFault roster t
     → conviction_of (case_of_transcript roster t) t.posts ≡ Ok tt
@@ -575,7 +625,8 @@ replay-again roster t some is r =
     let n : ℕ = (shape_of_roster roster).members in
     let all = listed n 0 (Speaks roster t r) (λ k lt. let zero_more : k ≡ 0 + k = omega arith in
     let s = speaks roster t r k lt in (s.0, subst (λ (j : ℕ). Speaks roster t r j s.0) zero_more s.1)) in
-    by_list all.0 all.1 (λ k d lt. let zero_more : 0 + k ≡ k = omega arith in subst (λ (j : ℕ). Speaks roster t r j (get_or all.0 k d)) zero_more (all.2 k d lt))
+    by_list all.0 all.1 (λ k d lt. let zero_more : 0 + k ≡ k = omega arith in subst (λ (j : ℕ). Speaks roster t r j (get_or all.0 k d))
+    zero_more (all.2 k d lt))
   where
     by_list : (all : List Said) → length all ≡ (shape_of_roster roster).members
         → ((k : ℕ) (d : Said) → k < (shape_of_roster roster).members → Speaks roster t r k (get_or all k d))

@@ -47,14 +47,16 @@ reveal_body (Reveal votes seed) e = (votes, seed, refl)
 reveal_body _ e = absurd cc
 
 -- the first post is of the stage of the keys
-pub keys-content : (case : Case) (bytes : List ℕ) (said : Said) → case.claim ≡ WrongSeed → taken_of case None 1 bytes ≡ Ok said → IsKeysContent (shape_in case) said.content
+pub keys-content : (case : Case) (bytes : List ℕ) (said : Said) → case.claim ≡ WrongSeed → taken_of case None 1 bytes ≡ Ok said
+    → IsKeysContent (shape_in case) said.content
 unfolding content_of
 keys-content case bytes said is e =
     let looked = taken-read case None 1 bytes said (ap is_of_bodies is) e in
     let read = bind_ok (fault_as (λ offence. FailedBody 1 offence.at) (read_of case said)) _ looked.0 looked.1 in
     let found = fault_as_ok (λ offence. FailedBody 1 offence.at) (read_of case said) read.0 read.1 in
     let header = read-header case said read.0 (heard-parts case None 1 bytes said (taken-heard case None 1 bytes said e)).0 found in
-    let parts = and_parts (said.header.sender == case.accused) (is_keys_stage (kind_of_stage (shape_in case) said.header.stage)) (asked-as case WrongSeed None 1 bytes said is e) in
+    let parts = and_parts (said.header.sender == case.accused) (is_keys_stage (kind_of_stage (shape_in case) said.header.stage))
+    (asked-as case WrongSeed None 1 bytes said is e) in
     let at = is-keys (kind_of_stage (shape_in case) said.header.stage) parts.1 in
     record {
       content = read.0;
@@ -63,15 +65,18 @@ keys-content case bytes said is e =
     }
 
 -- the second reveals a seed
-pub reveals-seed : (case : Case) (first : Header) (bytes : List ℕ) (said : Said) → case.claim ≡ WrongSeed → taken_of case (Some first) 2 bytes ≡ Ok said
+pub reveals-seed : (case : Case) (first : Header) (bytes : List ℕ) (said : Said) → case.claim ≡ WrongSeed
+    → taken_of case (Some first) 2 bytes ≡ Ok said
     → RevealsSeed (shape_in case) said.content
 unfolding content_of
 reveals-seed case first bytes said is e =
     let looked = taken-read case (Some first) 2 bytes said (ap is_of_bodies is) e in
     let read = bind_ok (fault_as (λ offence. FailedBody 2 offence.at) (read_of case said)) _ looked.0 looked.1 in
-    let right = guard_ok (not (is_kind_asked case.claim (Some first) read.0.body)) (Kind 2 (kind_number read.0.body)) read.0 looked.0 read.2 in
+    let right = guard_ok (not (is_kind_asked case.claim (Some first) read.0.body)) (Kind 2 (kind_number read.0.body)) read.0 looked.0 read.2
+    in
     let found = fault_as_ok (λ offence. FailedBody 2 offence.at) (read_of case said) read.0 read.1 in
-    let body = reveal_body read.0.body (subst (λ (c : Claim). is_kind_asked c (Some first) read.0.body ≡ true) is (not-false (is_kind_asked case.claim (Some first) read.0.body) right.0)) in
+    let body = reveal_body read.0.body (subst (λ (c : Claim). is_kind_asked c (Some first) read.0.body ≡ true) is
+    (not-false (is_kind_asked case.claim (Some first) read.0.body) right.0)) in
     record {
       header = read.0.header;
       votes = body.0;
@@ -85,11 +90,13 @@ reveals-seed case first bytes said is e =
 -- ---- what is right of a seed
 
 -- of contents that are read
-pub seed-right : (kind : Option StageKind) (first last : Result Content Offence) (a b : Content) (shuffle : ℕ) (keys votes : List (List ℕ)) (seed : List ℕ)
+pub seed-right : (kind : Option StageKind) (first last : Result Content Offence) (a b : Content) (shuffle : ℕ) (keys votes : List (List ℕ))
+    (seed : List ℕ)
     → kind ≡ Some (AtFinal shuffle) → first ≡ Ok a → last ≡ Ok b → a.body ≡ Keys keys → b.body ≡ Reveal votes seed
     → is_seed_of_key kind first last ≡ bytes_eq (key_of_seed seed) (inner_key shuffle keys)
 seed-right kind first last a b shuffle keys votes seed e1 e2 e3 e4 e5 =
-    rw (e1, e2, e3) (ap (λ (body : Body). is_seed_in (Some (AtFinal shuffle)) body b.body) e4 ∙ ap (λ (body : Body). is_seed_in (Some (AtFinal shuffle)) (Keys keys) body) e5)
+    rw (e1, e2, e3) (ap (λ (body : Body). is_seed_in (Some (AtFinal shuffle)) body b.body) e4
+    ∙ ap (λ (body : Body). is_seed_in (Some (AtFinal shuffle)) (Keys keys) body) e5)
 
 pub ended-is : (kind : Option StageKind) (shuffle : ℕ) → shuffle_ended kind ≡ Some shuffle → kind ≡ Some (AtFinal shuffle)
 ended-is (Some (AtFinal s)) shuffle e = let same : s ≡ shuffle = cc in ap (λ (k : ℕ). some_final k) same
@@ -99,7 +106,8 @@ ended-is (Some (AtFinal s)) shuffle e = let same : s ≡ shuffle = cc in ap (λ 
 ended-is _ shuffle e = absurd cc
 
 -- elsewhere nothing is wrong
-pub right-elsewhere : (kind : Option StageKind) (first last : Result Content Offence) → shuffle_ended kind ≡ None → is_seed_of_key kind first last ≡ true
+pub right-elsewhere : (kind : Option StageKind) (first last : Result Content Offence) → shuffle_ended kind ≡ None
+    → is_seed_of_key kind first last ≡ true
 right-elsewhere kind (Err offence) last e = refl
 right-elsewhere kind (Ok a) (Err offence) e = refl
 right-elsewhere kind (Ok a) (Ok b) e = in_kind kind a.body b.body e
@@ -166,7 +174,12 @@ keys-laid shape bytes fits k =
     let text : bytes ≡ front ++ rest =
     found.0 ∙ ap (λ (b : Body). header_text c.header ++ ((kind_number b ∷ []) ++ body_text b)) body.1
     ∙ sym (append_assoc (header_text c.header) (1 ∷ []) rest) in
-    let front_long : length front ≡ 76 = omega (arith, length-append (header_text c.header) (1 ∷ []), length-header_text shape c.header found.1.0) in
+    let front_long : length front ≡ 76 = omega (
+      arith,
+      length-append (header_text c.header) (1 ∷ []),
+      length-header_text shape c.header
+          found.1.0,
+    ) in
     record {
       header = c.header;
       keys = keys;
@@ -185,7 +198,8 @@ keys-laid shape bytes fits k =
 -- ---- the seed
 
 -- a body of the grammar stands at a stage of some kind
-kind-some : {F : Type 0} (o : Option StageKind) (form : Option StageKind → Option F) (f : F) → form None ≡ None → form o ≡ Some f → (kind : StageKind) × (o ≡ Some kind)
+kind-some : {F : Type 0} (o : Option StageKind) (form : Option StageKind → Option F) (f : F) → form None ≡ None → form o ≡ Some f
+    → (kind : StageKind) × (o ≡ Some kind)
 kind-some {F} (Some kind) form f none some = (kind, refl)
 kind-some {F} None form f none some = absurd (never (form None) none some)
   where
@@ -193,7 +207,8 @@ kind-some {F} None form f none some = absurd (never (form None) none some)
     never None none some = absurd cc
     never (Some x) none some = absurd cc
 
-seed-at : (shape : Shape) (before : ℕ) (kind : StageKind) (votes : List (List ℕ)) (seed : List ℕ) → IsBodyAt shape before kind (Reveal votes seed) → length seed ≡ 32
+seed-at : (shape : Shape) (before : ℕ) (kind : StageKind) (votes : List (List ℕ)) (seed : List ℕ)
+    → IsBodyAt shape before kind (Reveal votes seed) → length seed ≡ 32
 seed-at shape before (AtFinal shuffle) votes seed is = is.1
 seed-at shape before _ votes seed is = absurd is
 

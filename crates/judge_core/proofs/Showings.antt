@@ -55,7 +55,8 @@ pub read-dissents : (read : Result Content Offence) (content : Content) → read
 read-dissents read content e dissents = subst Dissents e dissents
 
 -- the log that it embeds keeps its past
-pub keeps-past : (roster : Roster) (round : ℕ) (content : Content) (log : Log) → KeepsEmbedded roster round content log → Spans (shape_of_roster roster) content
+pub keeps-past : (roster : Roster) (round : ℕ) (content : Content) (log : Log) → KeepsEmbedded roster round content log
+    → Spans (shape_of_roster roster) content
     → is_assent content.body ≡ false
     → KeepsPast (shape_of_roster roster) content.header.stage (contents_found (posts_in_content roster round content)) log
 keeps-past roster round content log k span objects =
@@ -126,7 +127,8 @@ pub part-told : (case : Case) (said : Said) (content : Content) → read_of case
 part-told case said content read at closing dissents =
     let shape : Shape = shape_in case in
     let kind = closing_kind (kind_of_stage shape said.header.stage) closing in
-    let body = closings_are_read shape said.content content kind.0 kind.1 read (ap (λ (stage : ℕ). kind_of_stage shape stage) at ∙ kind.2) kind.3 in
+    let body = closings_are_read shape said.content content kind.0 kind.1 read (ap (λ (stage : ℕ). kind_of_stage shape stage) at ∙ kind.2)
+    kind.3 in
     part-of_body shape content.header.stage kind.0 content.body body dissents
     ∙ ap (λ (r : Result Content Offence). part_in kind.0 (shown_in (body_of r))) (sym read)
     ∙ sym (part-shown case kind.0 said)
@@ -141,30 +143,38 @@ same_header : (a b : Header) → header_ok a ≡ header_ok b → a ≡ b
 same_header a b e = cc
 
 -- what is read has the header that was heard
-pub read-header : (case : Case) (said : Said) (content : Content) → header_of said.content ≡ Ok said.header → read_of case said ≡ Ok content → said.header ≡ content.header
-read-header case said content header read = same_header said.header content.header (sym header ∙ content-header (shape_in case) said.content content read)
+pub read-header : (case : Case) (said : Said) (content : Content) → header_of said.content ≡ Ok said.header → read_of case said ≡ Ok content
+    → said.header ≡ content.header
+read-header case said content header read = same_header said.header content.header
+    (sym header ∙ content-header (shape_in case) said.content content read)
 
 -- and is a closing content
-pub closing-content : (case : Case) (said : Said) (content : Content) → IsClosingPost case said → read_of case said ≡ Ok content → IsClosing (shape_in case) content
+pub closing-content : (case : Case) (said : Said) (content : Content) → IsClosingPost case said → read_of case said ≡ Ok content
+    → IsClosing (shape_in case) content
 closing-content case said content post read =
-    subst (λ (h : Header). IsSome (option_and_then vote_of (kind_of_stage (shape_in case) h.stage))) (read-header case said content post.header read) post.closing
+    subst (λ (h : Header). IsSome (option_and_then vote_of (kind_of_stage (shape_in case) h.stage)))
+    (read-header case said content post.header read) post.closing
 
 -- where a log justifies what a post that dissents says, it shows this log
 pub shown-is : (case : Case) (stage : ℕ) (said : Said) (content : Content) (log : Log) (shown : Option Shown) → IsObjection case stage said
     → read_of case said ≡ Ok content → OfGrammar (shape_in case) content
-    → KeepsEmbedded case.roster case.round content log → true ≡ is_content_justified case.roster case.round content → shown ≡ shown_by content.body
+    → KeepsEmbedded case.roster case.round content log → true ≡ is_content_justified case.roster case.round content
+    → shown ≡ shown_by content.body
     → IsShown case said (record { stage = said.header.stage; log = log; shown = shown })
 shown-is case stage said content log shown o read grammar keeps justified told =
     let shape : Shape = shape_in case in
     let header : said.header ≡ content.header = read-header case said content o.post.header read in
     let dissents : is_dissent content.body ≡ true = read-dissents (read_of case said) content read o.dissents in
     let span = spans shape content grammar (closing-content case said content o.post read) in
-    let past : KeepsPast shape content.header.stage (contents_found (posts_in_content case.roster case.round content)) log = keeps-past case.roster case.round content log keeps span (dissent-objects content.body dissents) in
+    let past : KeepsPast shape content.header.stage (contents_found (posts_in_content case.roster case.round content)) log = keeps-past
+    case.roster case.round content log keeps span (dissent-objects content.body dissents) in
     record {
       justified = ap (is_read_justified case.roster case.round) read ∙ sym justified;
       stage = refl;
-      keeps = subst (λ (r : Result Content Offence). KeepsPast shape said.header.stage (contents_embedded case.roster case.round r) log) (sym read)
-          (subst (λ (h : Header). KeepsPast shape h.stage (contents_found (posts_in_content case.roster case.round content)) log) (sym header) past);
+      keeps = subst (λ (r : Result Content Offence). KeepsPast shape said.header.stage (contents_embedded case.roster case.round r) log)
+          (sym read)
+          (subst (λ (h : Header). KeepsPast shape h.stage (contents_found (posts_in_content case.roster case.round content)) log)
+          (sym header) past);
       told = ap (λ (o : Option Shown). option_to_list o) told
           ∙ part-told case said content read (ap (λ (h : Header). h.stage) (sym header)) o.post.closing dissents;
     }
@@ -177,7 +187,8 @@ some_post post = Some post
 abbrev none_post : Option Post
 none_post = None
 
-pub before-past : (shape : Shape) (stage : ℕ) (past : List (List ℕ)) (log : Log) (k : KeepsPast shape stage past log) → before log stage ≡ Some k.posts
+pub before-past : (shape : Shape) (stage : ℕ) (past : List (List ℕ)) (log : Log) (k : KeepsPast shape stage past log)
+    → before log stage ≡ Some k.posts
 before-past shape stage past log k =
     let rest : List (Option Post) = replicate (slot_count shape - (0 + length k.posts)) none_post in
     let long : slots_before shape stage ≡ length (map some_post k.posts) = omega (arith, length-map k.posts some_post, k.long) in

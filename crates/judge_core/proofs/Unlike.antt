@@ -34,7 +34,8 @@ nothing = record { content = []; signature = [] }
 
 -- ---- what stands at a place of such a log
 
-kept-front : (posts : List Post) (rest : List (Option Post)) (n : ℕ) → n < length posts → option_flatten (slice_get (map some_post posts ++ rest) n) ≡ Some (get_or posts n nothing)
+kept-front : (posts : List Post) (rest : List (Option Post)) (n : ℕ) → n < length posts
+    → option_flatten (slice_get (map some_post posts ++ rest) n) ≡ Some (get_or posts n nothing)
 kept-front [] rest n lt = absurd (omega arith)
 kept-front (post ∷ posts) rest zero lt = refl
 kept-front (post ∷ posts) rest (suc n) lt = kept-front posts rest n (omega arith)
@@ -44,7 +45,8 @@ none-there zero n = refl
 none-there (suc m) zero = refl
 none-there (suc m) (suc n) = none-there m n
 
-kept-behind : (posts : List Post) (m n : ℕ) → length posts ≤ n → option_flatten (slice_get (map some_post posts ++ replicate m none_post) n) ≡ None
+kept-behind : (posts : List Post) (m n : ℕ) → length posts ≤ n → option_flatten (slice_get (map some_post posts ++ replicate m none_post) n)
+    ≡ None
 kept-behind [] m n le = none-there m n
 kept-behind (post ∷ posts) m zero le = absurd (omega arith)
 kept-behind (post ∷ posts) m (suc n) le = kept-behind posts m n (omega arith)
@@ -55,23 +57,35 @@ content-at (post ∷ posts) zero lt = refl
 content-at (post ∷ posts) (suc n) lt = content-at posts n (omega arith)
 
 -- what is kept in a slot
-kept-in : (shape : Shape) (stage : ℕ) (past : List (List ℕ)) (log : Log) (k : KeepsPast shape stage past log) (slot : Slot) → is_slot shape slot.stage slot.sender ≡ true
+kept-in : (shape : Shape) (stage : ℕ) (past : List (List ℕ)) (log : Log) (k : KeepsPast shape stage past log) (slot : Slot)
+    → is_slot shape slot.stage slot.sender ≡ true
     → kept_in log slot ≡ option_flatten (slice_get (places_of 0 (slot_count shape) k.posts) (slot_number shape slot.stage slot.sender))
 kept-in shape stage past log k slot there =
     ap (λ (l : Log). kept_in l slot) k.keeps
-    ∙ cond-true (is_slot shape slot.stage slot.sender) (option_flatten (slice_get (places_of 0 (slot_count shape) k.posts) (slot_number shape slot.stage slot.sender))) None there
+    ∙ cond-true (is_slot shape slot.stage slot.sender) (option_flatten
+    (slice_get (places_of 0 (slot_count shape) k.posts) (slot_number shape slot.stage slot.sender))) None there
 
-kept-at : (shape : Shape) (stage : ℕ) (past : List (List ℕ)) (log : Log) (k : KeepsPast shape stage past log) (slot : Slot) → is_slot shape slot.stage slot.sender ≡ true
-    → slot_number shape slot.stage slot.sender < length k.posts → kept_in log slot ≡ Some (get_or k.posts (slot_number shape slot.stage slot.sender) nothing)
+kept-at : (shape : Shape) (stage : ℕ) (past : List (List ℕ)) (log : Log) (k : KeepsPast shape stage past log) (slot : Slot)
+    → is_slot shape slot.stage slot.sender ≡ true
+    → slot_number shape slot.stage slot.sender < length k.posts
+    → kept_in log slot ≡ Some (get_or k.posts (slot_number shape slot.stage slot.sender) nothing)
 kept-at shape stage past log k slot there lt =
-    kept-in shape stage past log k slot there ∙ kept-front k.posts (replicate (slot_count shape - (0 + length k.posts)) none_post) (slot_number shape slot.stage slot.sender) lt
+    kept-in shape stage past log k slot there ∙ kept-front k.posts (replicate (slot_count shape - (0 + length k.posts)) none_post)
+    (slot_number shape slot.stage slot.sender) lt
 
 past-at : (shape : Shape) (stage : ℕ) (past : List (List ℕ)) (log : Log) (k : KeepsPast shape stage past log) (n : ℕ) → n < length k.posts
     → slice_index_or past n [] ≡ (get_or k.posts n nothing).content
 past-at shape stage past log k n lt = ap (λ (c : List (List ℕ)). slice_index_or c n []) (sym k.contents) ∙ content-at k.posts n lt
 
-past-long : (shape : Shape) (stage : ℕ) (past : List (List ℕ)) (log : Log) → KeepsPast shape stage past log → length past ≡ slots_before shape stage
-past-long shape stage past log k = omega (arith, ap (λ (c : List (List ℕ)). length c) k.contents, length-map k.posts (λ (post : Post). post.content), k.long)
+past-long : (shape : Shape) (stage : ℕ) (past : List (List ℕ)) (log : Log) → KeepsPast shape stage past log
+    → length past ≡ slots_before shape stage
+past-long shape stage past log k = omega (
+  arith,
+  ap (λ (c : List (List ℕ)). length c) k.contents,
+  length-map k.posts
+      (λ (post : Post). post.content),
+  k.long,
+)
 
 -- ---- places and slots in which two of them differ
 
@@ -85,13 +99,15 @@ record DifferAt (shape : Shape) (log other : Log) (place : ℕ) : Type 0 where
   pub number : slot_number shape slot.stage slot.sender ≡ place
   pub differ : Differ log other slot
 
-differ-at : (shape : Shape) (stage : ℕ) (past others : List (List ℕ)) (log other : Log) → KeepsPast shape stage past log → KeepsPast shape stage others other
+differ-at : (shape : Shape) (stage : ℕ) (past others : List (List ℕ)) (log other : Log) → KeepsPast shape stage past log
+    → KeepsPast shape stage others other
     → (place : ℕ) → place < length past → is_same past others place ≡ false → DifferAt shape log other place
 differ-at shape stage past others log other k k' place lt unlike =
     let nobody : Slot = record { stage = 0; sender = 0 } in
     let slot : Slot = get_or (slots_of shape) place nobody in
     let long = past-long shape stage past log k in
-    let is = slot_at-is shape place slot (slice_get-get_or (slots_of shape) place nobody (omega (arith, lt, long, slots_before-most shape stage, length-slots_of shape))) in
+    let is = slot_at-is shape place slot (slice_get-get_or (slots_of shape) place nobody
+    (omega (arith, lt, long, slots_before-most shape stage, length-slots_of shape))) in
     let within : slot_number shape slot.stage slot.sender < length k.posts = omega (arith, is.1, lt, long, k.long) in
     let within' : slot_number shape slot.stage slot.sender < length k'.posts = omega (arith, is.1, lt, long, k'.long) in
     let at : place < length k.posts = omega (arith, lt, long, k.long) in
@@ -107,7 +123,8 @@ differ-at shape stage past others log other k k' place lt unlike =
         other_kept = kept-at shape stage others other k' slot is.0 within';
         contents = λ same. apart (slice_index_or past place []) (slice_index_or others place []) unlike
             (past-at shape stage past log k place at
-            ∙ ap (λ (n : ℕ). (get_or k.posts n nothing).content) (sym is.1) ∙ same ∙ ap (λ (n : ℕ). (get_or k'.posts n nothing).content) is.1
+            ∙ ap (λ (n : ℕ). (get_or k.posts n nothing).content) (sym is.1) ∙ same
+            ∙ ap (λ (n : ℕ). (get_or k'.posts n nothing).content) is.1
             ∙ sym (past-at shape stage others other k' place at'));
       };
     }
@@ -124,24 +141,33 @@ record NumberOf (shape : Shape) (past others : List (List ℕ)) (slot : Slot) : 
 post-is : (a b : Post) → some_post a ≡ some_post b → a ≡ b
 post-is a b e = cc
 
-kept-within : (shape : Shape) (stage : ℕ) (past : List (List ℕ)) (log : Log) (k : KeepsPast shape stage past log) (slot : Slot) (post : Post)
+kept-within : (shape : Shape) (stage : ℕ) (past : List (List ℕ)) (log : Log) (k : KeepsPast shape stage past log) (slot : Slot)
+    (post : Post)
     → is_slot shape slot.stage slot.sender ≡ true
-    → kept_in log slot ≡ Some post → (slot_number shape slot.stage slot.sender < length k.posts) × (post ≡ get_or k.posts (slot_number shape slot.stage slot.sender) nothing)
+    → kept_in log slot ≡ Some post → (slot_number shape slot.stage slot.sender < length k.posts)
+    × (post ≡ get_or k.posts (slot_number shape slot.stage slot.sender) nothing)
 kept-within shape stage past log k slot post there kept =
     elim (cases_lt (slot_number shape slot.stage slot.sender) (length k.posts)) [
-      | inl lt ↦ (lt, post-is post (get_or k.posts (slot_number shape slot.stage slot.sender) nothing) (sym kept ∙ kept-at shape stage past log k slot there lt))
+      | inl lt ↦ (
+        lt,
+        post-is post (get_or k.posts (slot_number shape slot.stage slot.sender) nothing)
+            (sym kept ∙ kept-at shape stage past log k slot there lt),
+      )
       | inr le ↦ absurd (never post
-          (sym (kept-in shape stage past log k slot there ∙ kept-behind k.posts (slot_count shape - (0 + length k.posts)) (slot_number shape slot.stage slot.sender) le) ∙ kept))
+          (sym (kept-in shape stage past log k slot there ∙ kept-behind k.posts (slot_count shape - (0 + length k.posts))
+          (slot_number shape slot.stage slot.sender) le) ∙ kept))
     ]
   where
     never : (post : Post) → none_post ≡ some_post post → ⊥
     never post e = absurd cc
 
-number-of : (shape : Shape) (stage : ℕ) (past others : List (List ℕ)) (log other : Log) → KeepsPast shape stage past log → KeepsPast shape stage others other
+number-of : (shape : Shape) (stage : ℕ) (past others : List (List ℕ)) (log other : Log) → KeepsPast shape stage past log
+    → KeepsPast shape stage others other
     → (slot : Slot) → Differ log other slot → NumberOf shape past others slot
 number-of shape stage past others log other k k' slot differ =
     let n : ℕ = slot_number shape slot.stage slot.sender in
-    let there : is_slot shape slot.stage slot.sender ≡ true = subst (λ (s : Shape). is_slot s slot.stage slot.sender ≡ true) (ap (λ (l : Log). l.shape) k.keeps) (kept-slot log slot differ.post differ.kept) in
+    let there : is_slot shape slot.stage slot.sender ≡ true = subst (λ (s : Shape). is_slot s slot.stage slot.sender ≡ true)
+    (ap (λ (l : Log). l.shape) k.keeps) (kept-slot log slot differ.post differ.kept) in
     let one = kept-within shape stage past log k slot differ.post there differ.kept in
     let two = kept-within shape stage others other k' slot differ.other_post there differ.other_kept in
     record {
@@ -162,7 +188,8 @@ number-first : (shape : Shape) (a b : Slot) → is_slot shape a.stage a.sender �
 number-first shape a b here there (inl later) = omega (arith, slot_number-later shape a.stage b.stage a.sender b.sender here there later)
 number-first shape a b here there (inr same) =
     let at : is_slot shape a.stage b.sender ≡ true = subst (λ (s : ℕ). is_slot shape s b.sender ≡ true) (sym same.0) there in
-    let stage : slot_number shape a.stage b.sender ≡ slot_number shape b.stage b.sender = ap (λ (s : ℕ). slot_number shape s b.sender) same.0 in
+    let stage : slot_number shape a.stage b.sender ≡ slot_number shape b.stage b.sender = ap (λ (s : ℕ). slot_number shape s b.sender)
+    same.0 in
     elim (cases_lt a.sender b.sender) [
       | inl below ↦ omega (arith, slot_number-rises shape a.stage a.sender b.sender here at below, stage)
       | inr above ↦
@@ -171,7 +198,8 @@ number-first shape a b here there (inr same) =
     ]
 
 -- the number of the first slot in which they differ is the least place at which their contents do
-pub unlike-is : (shape : Shape) (stage : ℕ) (past others : List (List ℕ)) (log other : Log) → KeepsPast shape stage past log → KeepsPast shape stage others other
+pub unlike-is : (shape : Shape) (stage : ℕ) (past others : List (List ℕ)) (log other : Log) → KeepsPast shape stage past log
+    → KeepsPast shape stage others other
     → (found : Option Slot) → MatchOption found (HaveNoDifference log other) (λ slot. IsFirstDifference log other slot)
     → option_map (λ (slot : Slot). slot_number shape slot.stage slot.sender) found ≡ unlike_place past others
 unfolding unlike_place
@@ -188,9 +216,11 @@ unlike-is shape stage past others log other k k' (Some slot) first =
     sym (first_below-some (λ place. fault_unless (is_same past others place) place) (length past) (slot_number shape slot.stage slot.sender)
     (slot_number shape slot.stage slot.sender)
     own.within (λ place lt. earlier own place lt)
-    (fault_unless-false (is_same past others (slot_number shape slot.stage slot.sender)) (slot_number shape slot.stage slot.sender) own.unlike))
+    (fault_unless-false (is_same past others (slot_number shape slot.stage slot.sender)) (slot_number shape slot.stage slot.sender)
+    own.unlike))
   where
-    earlier : NumberOf shape past others slot → (place : ℕ) → place < slot_number shape slot.stage slot.sender → fault_unless (is_same past others place) place ≡ None
+    earlier : NumberOf shape past others slot → (place : ℕ) → place < slot_number shape slot.stage slot.sender
+        → fault_unless (is_same past others place) place ≡ None
     earlier own place lt = elim (cases_Bool (is_same past others place)) [
       | inl same ↦ fault_unless-true (is_same past others place) place same
       | inr unlike ↦ absurd (

@@ -13,5 +13,7 @@ mod replaying;
 mod wrong_seed;
 
 pub use failed_check::FailedCheck;
+pub use group_roster::Roster;
 pub use judging::{Accepted, judge};
 pub use laws::checks_are_exact;
+pub use transcript_form::{Claim, Refused};

@@ -71,15 +71,18 @@ module _ {D : Type 0} (told : D → Option (List ℕ)) (may_leave : D → List �
       ))
 
   -- what the image of a disk at rest says, where every image keeps `least`
-  rest_says : (disk : D) (image file : List ℕ) (content least : KeyContent) → told disk ≡ Some file → IsAtRest (told disk) (may_leave disk) image
+  rest_says : (disk : D) (image file : List ℕ) (content least : KeyContent) → told disk ≡ Some file
+      → IsAtRest (told disk) (may_leave disk) image
       → Every (may_leave disk) (KeepsFront least) → Keeps least image
   rest_says disk image file content least e rest keeps =
       let here : may_leave disk file = subst (λ (o : Option (List ℕ)). IfSome o (may_leave disk)) e (read_is_image disk) in
-      let at_rest : IsAtRest (Some file) (may_leave disk) image = subst (λ (o : Option (List ℕ)). IsAtRest o (may_leave disk) image) e rest in
+      let at_rest : IsAtRest (Some file) (may_leave disk) image = subst (λ (o : Option (List ℕ)). IsAtRest o (may_leave disk) image) e rest
+      in
       subst (Keeps least) at_rest.0 (keeps file here)
 
   -- a raise, whether it was Done or failed
-  pub raise_keeps : (old new : D) (image file : List ℕ) (at : ℕ) (content least : KeyContent) (handed : Option Handed) → told old ≡ Some file
+  pub raise_keeps : (old new : D) (image file : List ℕ) (at : ℕ) (content least : KeyContent) (handed : Option Handed)
+      → told old ≡ Some file
       → IsAtRest (told old) (may_leave old) image → key_read image ≡ Ok content
       → (IsPaired image → LeavesOf moment left_since (told old) old new (IsMidway content at)) → Every (may_leave old) (KeepsFront least)
       → (IsPaired image → Says least content → IfSome handed (λ h. IsRaised least h (may_leave new)))
@@ -91,44 +94,54 @@ module _ {D : Type 0} (told : D → Option (List ℕ)) (may_leave : D → List �
       subst (λ (o : Option (List ℕ)). LeavesOf moment left_since o old new (IsMidway content at)) e (run kept.paired) in
       record {
         moments = λ left since. lowered least content (take 128 left) said (leaves.each left since).keeps;
-        now = λ left may. lowered least content (take 128 left) said (leaves.each left (counts_now new (moment old) left leaves.later may)).keeps;
+        now = λ left may. lowered least content (take 128 left) said
+            (leaves.each left (counts_now new (moment old) left leaves.later may)).keeps;
         hands = hands kept.paired said;
       }
 
   -- what was handed out behind a raise
-  pub raise_hands : (new : D) (now : List ℕ) (content least : KeyContent) (h : Handed) (round n : ℕ) → IsSome (told new) → IsAtRest (told new) (may_leave new) now
-      → key_read now ≡ Ok record content { kept = record { round = round; next = content.kept.next + n } } → IsPaired now → content.kept.round < round
+  pub raise_hands : (new : D) (now : List ℕ) (content least : KeyContent) (h : Handed) (round n : ℕ) → IsSome (told new)
+      → IsAtRest (told new) (may_leave new) now
+      → key_read now ≡ Ok record content { kept = record { round = round; next = content.kept.next + n } } → IsPaired now
+      → content.kept.round < round
       → h ≡ record { round = round; first = content.kept.next; leaves = n } → Says least content → IsRaised least h (may_leave new)
   raise_hands new now content least h round n some rest read paired later is said =
       subst (λ (h : Handed). IsRaised least h (may_leave new)) (sym is) record {
         later = omega (arith, said.round, later);
         behind = said.next;
-        kept = subst (λ (c : KeyContent). Every (may_leave new) (KeepsFront c)) (ap (λ (c : KeyContent). raised_to c raised) said.same) (told_some (told new) some rests);
+        kept = subst (λ (c : KeyContent). Every (may_leave new) (KeepsFront c)) (ap (λ (c : KeyContent). raised_to c raised) said.same)
+            (told_some (told new) some rests);
       }
     where
       raised : Handed
       raised = record { round = round; first = content.kept.next; leaves = n }
 
       rests : IfSome (told new) (λ _. Every (may_leave new) (KeepsFront (raised_to content raised)))
-      rests = rest_keeps (told new) (may_leave new) now (raised_to content raised) rest (keeps_itself (raised_to content raised) now read paired)
+      rests = rest_keeps (told new) (may_leave new) now (raised_to content raised) rest
+          (keeps_itself (raised_to content raised) now read paired)
 
 -- the leaves that were reserved
-pub handed_is : (round n : ℕ) (run : RunState) (secret : SecretState) (content : KeyContent) → run ≡ record { parts = secret.parts; first = secret.next; left = n }
+pub handed_is : (round n : ℕ) (run : RunState) (secret : SecretState) (content : KeyContent)
+    → run ≡ record { parts = secret.parts; first = secret.next; left = n }
     → secret ≡ record { parts = parts_in content; next = content.kept.next }
-    → ◌≡◌ {A = Handed} record { round = round; first = run.first; leaves = run.left } record { round = round; first = content.kept.next; leaves = n }
+    → ◌≡◌ {A = Handed} record { round = round; first = run.first; leaves = run.left } record
+    { round = round; first = content.kept.next; leaves = n }
 handed_is round n run secret content reserved secret_is =
     ap (λ (r : RunState). let h : Handed = record { round = round; first = r.first; leaves = r.left } in h) reserved
     ∙ ap (λ (s : SecretState). let h : Handed = record { round = round; first = s.next; leaves = n } in h) secret_is
 
 -- a disk at rest as the key file last saw it
 pub rest_seen : (told : Option (List ℕ)) (images : List ℕ → Type 0) (key : KeyState) (image : List ℕ) (secret : SecretState) (failed : Bool)
-    → ◌≡◌ {A = KeyState} record { parts = secret.parts; image = image; failed = failed } key → failed ≡ false → IsCurrent key told images → IsAtRest told images image
+    → ◌≡◌ {A = KeyState} record { parts = secret.parts; image = image; failed = failed } key → failed ≡ false → IsCurrent key told images
+    → IsAtRest told images image
 rest_seen told images key image secret failed view works current =
     subst (IsAtRest told images) (sym (ap (λ (k : KeyState). k.image) view)) (current (sym (ap (λ (k : KeyState). k.failed) view) ∙ works))
 
 -- a round that may begin, where its slots are paired
-pub rises : (content : KeyContent) (image : List ℕ) (at total round n : ℕ) → total ≡ made_leaves content.height → at ≡ chosen total image → key_read image ≡ Ok content
-    → content.kept.round < round → content.kept.next + n ≤ made_leaves content.height → 0 < n → IsPaired image → IsRise content image at round (content.kept.next + n)
+pub rises : (content : KeyContent) (image : List ℕ) (at total round n : ℕ) → total ≡ made_leaves content.height → at ≡ chosen total image
+    → key_read image ≡ Ok content
+    → content.kept.round < round → content.kept.next + n ≤ made_leaves content.height → 0 < n → IsPaired image
+    → IsRise content image at round (content.kept.next + n)
 rises content image at total round n found chose read later enough some paired = record {
   read = read;
   paired = paired;

@@ -11,7 +11,8 @@ use Rattle.crash_disk.proofs.Overwrites.{overwritten_torn, length-overwritten, t
 pub mirror_length : (file image : List ℕ) → take 128 file ≡ image → length image ≡ 128 → 128 ≤ length file
 mirror_length file image mirrors whole = omega (arith, ap length mirrors, length-take 128 file)
 
-pub written_told : (old new : Option (List ℕ)) (bytes : List ℕ) (at : ℕ) → Writes old new at bytes → new ≡ option_map (λ file. overwritten file at bytes) old
+pub written_told : (old new : Option (List ℕ)) (bytes : List ℕ) (at : ℕ) → Writes old new at bytes
+    → new ≡ option_map (λ file. overwritten file at bytes) old
 written_told None new bytes at writes = writes
 written_told (Some file) new bytes at writes = writes.1
 
@@ -64,7 +65,8 @@ is_put old mid new image bytes at whole within mirrors writes same =
     let done : new ≡ option_map (λ file. overwritten file at bytes) old = same ∙ written_told old mid bytes at writes in
     record {
       done = done;
-      current = subst (λ (o : Option (List ℕ)). Mirrors o (overwritten image at bytes)) (sym done) (mirrors-overwritten old image bytes at whole within mirrors);
+      current = subst (λ (o : Option (List ℕ)). Mirrors o (overwritten image at bytes)) (sym done)
+          (mirrors-overwritten old image bytes at whole within mirrors);
       torn = subst (λ (o : Option (List ℕ)). Tears old o at (length bytes)) (sym same) (tears-written old mid at bytes writes);
     }
 
@@ -73,7 +75,8 @@ unfolding overwritten
 only_bytes file image whole = take_at image (drop (0 + length image) file) 128 whole
 
 -- a file over whose front an image was written mirrors it
-pub made_mirrored : (old mid new : Option (List ℕ)) (image : List ℕ) → length image ≡ 128 → Writes old mid 0 image → new ≡ mid → Mirrors new image
+pub made_mirrored : (old mid new : Option (List ℕ)) (image : List ℕ) → length image ≡ 128 → Writes old mid 0 image → new ≡ mid
+    → Mirrors new image
 made_mirrored None mid new image whole writes same = subst (λ (o : Option (List ℕ)). Mirrors o image) (sym (same ∙ writes)) tt
 made_mirrored (Some file) mid new image whole writes same =
     subst (λ (o : Option (List ℕ)). Mirrors o image) (sym (same ∙ writes.1)) (only_bytes file image whole)
@@ -88,7 +91,8 @@ pub rest_mirrors : (told : Option (List ℕ)) (images : List ℕ → Type 0) (im
 rest_mirrors None images image rest = tt
 rest_mirrors (Some file) images image rest = rest.0
 
-pub rest_only : (told : Option (List ℕ)) (images : List ℕ → Type 0) (image : List ℕ) → IsAtRest told images image → IfSome told (λ file. Only file images)
+pub rest_only : (told : Option (List ℕ)) (images : List ℕ → Type 0) (image : List ℕ) → IsAtRest told images image
+    → IfSome told (λ file. Only file images)
 rest_only None images image rest = tt
 rest_only (Some file) images image rest = rest.1
 
@@ -106,7 +110,8 @@ synced_rest mid new images image same mirrors only =
 module _ {D : Type 0} (told : D → Option (List ℕ)) (may_leave : D → List ℕ → Type 0) (moment : D → ℕ) (left_since : D → ℕ → List ℕ → Type 0)
     (only_now : (disk : D) (image : List ℕ) → left_since disk (moment disk) image → may_leave disk image) where
   -- a write
-  pub leaves-write : (old new : D) (image : List ℕ) (at n : ℕ) → IsAtRest (told old) (may_leave old) image → ImagesTear (may_leave old) (may_leave new) at n
+  pub leaves-write : (old new : D) (image : List ℕ) (at n : ℕ) → IsAtRest (told old) (may_leave old) image
+      → ImagesTear (may_leave old) (may_leave new) at n
       → Elapses (moment old) (moment new) (left_since old) (left_since new) (may_leave new)
       → LeavesOf moment left_since (told old) old new (λ file. IsTorn file at n)
   leaves-write old new image at n rest tears time = by_case (told old) rest
@@ -120,7 +125,8 @@ module _ {D : Type 0} (told : D → Option (List ℕ)) (may_leave : D → List �
           time (torn_only (may_leave old) (may_leave new) file at n rest.1 tears)
 
   -- a write and a sync
-  pub leaves-put : (old mid new : D) (image : List ℕ) (at n : ℕ) → IsAtRest (told old) (may_leave old) image → ImagesTear (may_leave old) (may_leave mid) at n
+  pub leaves-put : (old mid new : D) (image : List ℕ) (at n : ℕ) → IsAtRest (told old) (may_leave old) image
+      → ImagesTear (may_leave old) (may_leave mid) at n
       → Elapses (moment old) (moment mid) (left_since old) (left_since mid) (may_leave mid)
       → ((image : List ℕ) → may_leave new image → may_leave mid image)
       → Elapses (moment mid) (moment new) (left_since mid) (left_since new) (may_leave new)
@@ -145,13 +151,17 @@ module _ {D : Type 0} (told : D → Option (List ℕ)) (may_leave : D → List �
       by_case None rest = tt
       by_case (Some file) rest =
           let here : (image : List ℕ) → may_leave old image → IsClosing at file image =
-          λ image left. subst (IsClosing at file) (sym (rest.1 image left)) record { beside = torn_nowhere file at 1; closed_already = λ zero. refl } in
-          goes_on may_leave moment left_since old old new (IsClosing at file) (started may_leave moment left_since only_now old (IsClosing at file) here) time
+          λ image left. subst (IsClosing at file) (sym (rest.1 image left)) record
+          { beside = torn_nowhere file at 1; closed_already = λ zero. refl } in
+          goes_on may_leave moment left_since old old new (IsClosing at file)
+          (started may_leave moment left_since only_now old (IsClosing at file) here) time
           (λ image left. here image (same image left))
 
   -- a write and a sync where it is not
-  pub leaves-closing : (old new : D) (image : List ℕ) (at : ℕ) → length image ≡ 128 → at < 128 → slice_index image at ≢ 0 → IsAtRest (told old) (may_leave old) image
-      → LeavesOf moment left_since (told old) old new (λ file. IsTorn file at 1) → LeavesOf moment left_since (told old) old new (IsClosing at)
+  pub leaves-closing : (old new : D) (image : List ℕ) (at : ℕ) → length image ≡ 128 → at < 128 → slice_index image at ≢ 0
+      → IsAtRest (told old) (may_leave old) image
+      → LeavesOf moment left_since (told old) old new (λ file. IsTorn file at 1)
+      → LeavesOf moment left_since (told old) old new (IsClosing at)
   leaves-closing old new image at whole within gate rest run = by_case (told old) rest run
     where
       by_case : (o : Option (List ℕ)) → IsAtRest o (may_leave old) image → LeavesOf moment left_since o old new (λ file. IsTorn file at 1)

@@ -53,13 +53,32 @@ other_shows leaves a b at paired some is = by_cases (is_valid leaves a) (is_vali
     by_cases : (va vb lt : Bool) → is_valid leaves a ≡ va → is_valid leaves b ≡ vb → nat_lt a.next b.next ≡ lt → (va || vb) ≡ true
         → at ≡ number_by va vb lt → OtherShows leaves a b at (greatest (counts_by va a) (counts_by vb b))
     by_cases false false lt ea eb el some is = absurd (cc)
-    by_cases false true lt ea eb el some is = inl (is, record { valid = eb; is_open = valid_gate leaves b eb; round = omega arith; next = omega arith })
-    by_cases true false lt ea eb el some is = inr (is, record { valid = ea; is_open = valid_gate leaves a ea; round = omega arith; next = omega arith })
+    by_cases false true lt ea eb el some is = inl (
+      is,
+      record {
+        valid = eb;
+        is_open = valid_gate leaves b eb;
+        round = omega arith;
+        next =
+            omega arith;
+      },
+    )
+    by_cases true false lt ea eb el some is = inr (
+      is,
+      record {
+        valid = ea;
+        is_open = valid_gate leaves a ea;
+        round = omega arith;
+        next =
+            omega arith;
+      },
+    )
     by_cases true true true ea eb el some is =
         let gate_a = valid_gate leaves a ea in
         let gate_b = valid_gate leaves b eb in
         let lower : a.next < b.next = grind (arith, nat_tests) in
-        let over : IsAbove b a = ⊎_elim (λ wrong. absurd (no wrong.1 lower)) (λ right. right) (paired (open_gate a gate_a) (open_gate b gate_b)) in
+        let over : IsAbove b a = ⊎_elim (λ wrong. absurd (no wrong.1 lower)) (λ right. right)
+        (paired (open_gate a gate_a) (open_gate b gate_b)) in
         inl (is, record { valid = eb; is_open = gate_b; round = below a.round b.round over.0; next = below a.next b.next over.1 })
       where
         no : b.next < a.next → a.next < b.next → ⊥
@@ -71,7 +90,8 @@ other_shows leaves a b at paired some is = by_cases (is_valid leaves a) (is_vali
         let gate_a = valid_gate leaves a ea in
         let gate_b = valid_gate leaves b eb in
         let no_lower : b.next ≤ a.next = grind (arith, nat_tests) in
-        let over : IsAbove a b = ⊎_elim (λ right. right) (λ wrong. absurd (no wrong.1 no_lower)) (paired (open_gate a gate_a) (open_gate b gate_b)) in
+        let over : IsAbove a b = ⊎_elim (λ right. right) (λ wrong. absurd (no wrong.1 no_lower))
+        (paired (open_gate a gate_a) (open_gate b gate_b)) in
         inr (is, record { valid = ea; is_open = gate_a; round = above a.round b.round over.0; next = above a.next b.next over.1 })
       where
         no : a.next < b.next → b.next ≤ a.next → ⊥
@@ -82,7 +102,8 @@ other_shows leaves a b at paired some is = by_cases (is_valid leaves a) (is_vali
 
 -- a slot whose gate is not closed is above what is kept, or below it
 abbrev pub IsBeside : Slot → Standing → Type 0
-IsBeside slot kept = slot.gate ≢ 0 → ((kept.round < slot.round) × (kept.next < slot.next)) ⊎ ((slot.round < kept.round) × (slot.next < kept.next))
+IsBeside slot kept = slot.gate ≢ 0 → ((kept.round < slot.round) × (kept.next < slot.next))
+    ⊎ ((slot.round < kept.round) × (slot.next < kept.next))
 
 -- two slots of which one shows what is kept
 pub record StillKept (leaves : ℕ) (a b : Slot) (kept : Standing) : Type 0 where

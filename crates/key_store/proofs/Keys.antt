@@ -21,12 +21,14 @@ pub record IsOf (key : KeyState) (secret : SecretState) (content : KeyContent) :
   pub next : (kept_by key).next ≡ content.kept.next
   pub total : leaves_of key ≡ made_leaves content.height
 
-secret_read : (image : List ℕ) (secret : SecretState) (content : KeyContent) → IsSecretOf (key_read image) secret → key_read image ≡ Ok content
+secret_read : (image : List ℕ) (secret : SecretState) (content : KeyContent) → IsSecretOf (key_read image) secret
+    → key_read image ≡ Ok content
     → secret ≡ record { parts = parts_in content; next = content.kept.next }
 secret_read image secret content of read = subst (λ (r : Result KeyContent ℕ). IsSecretOf r secret) read of
 
 pub is_of : (key : KeyState) (image : List ℕ) (secret : SecretState) (failed : Bool) (content : KeyContent)
-    → ◌≡◌ {A = KeyState} record { parts = secret.parts; image = image; failed = failed } key → IsSecretOf (key_read image) secret → key_read image ≡ Ok content
+    → ◌≡◌ {A = KeyState} record { parts = secret.parts; image = image; failed = failed } key → IsSecretOf (key_read image) secret
+    → key_read image ≡ Ok content
     → IsOf key secret content
 is_of key image secret failed content view of read =
     let secret_is = secret_read image secret content of read in
@@ -56,7 +58,8 @@ pub loaded : (image : List ℕ) (size : ℕ) (content : KeyContent) (secret : Se
     → IsLoaded (key_read (take size image)) (take size image) record { parts = secret.parts; image = image; failed = false }
 loaded image size content secret read front whole made =
     let same : image ≡ take size image = sym (take_all size image (omega (arith, front, whole, length-take size image))) in
-    subst (λ (r : Result KeyContent ℕ). IsLoaded r (take size image) record { parts = secret.parts; image = image; failed = false }) (sym read) (
+    subst (λ (r : Result KeyContent ℕ). IsLoaded r (take size image) record { parts = secret.parts; image = image; failed = false })
+    (sym read) (
       ap (λ (s : SecretState). let k : KeyState = record { parts = s.parts; image = image; failed = false } in k) made
           ∙ ap (λ (l : List ℕ). let k : KeyState = record { parts = parts_in content; image = l; failed = false } in k) same,
       ap (λ (s : SecretState). stands (leaves s.parts) image) made
@@ -71,7 +74,8 @@ not_later a b round later same old = omega arith
 pub not_old : (a b round : ℕ) → round ≤ a → a ≡ b → b < round → ⊥
 not_old a b round old same later = omega arith
 
-pub not_short : (a b leaves total whole most : ℕ) → most < a + leaves → a ≡ b → most ≡ whole → total ≡ whole → leaves ≤ total - b → b ≤ whole → ⊥
+pub not_short : (a b leaves total whole most : ℕ) → most < a + leaves → a ≡ b → most ≡ whole → total ≡ whole → leaves ≤ total - b
+    → b ≤ whole → ⊥
 not_short a b leaves total whole most short same is found enough within = omega arith
 
 pub not_enough : (a b leaves total whole most : ℕ) → a + leaves ≤ most → a ≡ b → most ≡ whole → total ≡ whole → total - b < leaves → ⊥
@@ -83,13 +87,15 @@ few_leaves H5 = omega arith
 few_leaves H10 = omega arith
 
 -- a key file of which a slot was raised
-pub record HasBegun (key : KeyState) (image : List ℕ) (secret : SecretState) (content : KeyContent) (at round n : ℕ) (now : List ℕ) (after : SecretState) : Type 0 where
+pub record HasBegun (key : KeyState) (image : List ℕ) (secret : SecretState) (content : KeyContent) (at round n : ℕ) (now : List ℕ)
+    (after : SecretState) : Type 0 where
   pub read : key_read now ≡ Ok record content { kept = record { round = round; next = content.kept.next + n } }
   pub invariant : IsSecretOf (key_read now) after
   pub parts : after.parts ≡ key.parts
   pub kept : stands (leaves after.parts) now ≡ record { round = round; next = (kept_by key).next + n }
 
-pub has_begun : (key : KeyState) (image : List ℕ) (secret : SecretState) (content : KeyContent) (at round n : ℕ) (now : List ℕ) (after : SecretState)
+pub has_begun : (key : KeyState) (image : List ℕ) (secret : SecretState) (content : KeyContent) (at round n : ℕ) (now : List ℕ)
+    (after : SecretState)
     → IsOf key secret content → length image ≡ 128 → key_read image ≡ Ok content → IsSlot at → round < 2 ^ 64
     → content.kept.round < round → content.kept.next + n ≤ made_leaves content.height
     → now ≡ raised image at round (content.kept.next + n) → after ≡ record { parts = secret.parts; next = secret.next + n }
@@ -99,7 +105,8 @@ has_begun key image secret content at round n now after of whole read slot small
     let c : KeyContent = record content { kept = record { round = round; next = next } } in
     let few = few_leaves content.height in
     let again : key_read now ≡ Ok c =
-    ap key_read raises ∙ key_read-raised image at round next content whole slot small (omega (arith, few, enough)) read (omega (arith, later)) (omega arith) enough in
+    ap key_read raises ∙ key_read-raised image at round next content whole slot small (omega (arith, few, enough)) read
+    (omega (arith, later)) (omega arith) enough in
     let secret_now : after ≡ record { parts = parts_in content; next = next } =
     risen ∙ ap (λ (s : SecretState). let t : SecretState = record { parts = s.parts; next = s.next + n } in t) of.secret_is in
     record {
@@ -111,9 +118,11 @@ has_begun key image secret content at round n now after of whole read slot small
     }
 
 -- the key file as its callers see it then
-pub raised_state : (key : KeyState) (image now : List ℕ) (secret after : SecretState) (failed : Bool) (content : KeyContent) (at total round n : ℕ)
+pub raised_state : (key : KeyState) (image now : List ℕ) (secret after : SecretState) (failed : Bool) (content : KeyContent)
+    (at total round n : ℕ)
     → IsOf key secret content → ◌≡◌ {A = KeyState} record { parts = secret.parts; image = image; failed = failed } key → failed ≡ false
-    → total ≡ made_leaves content.height → at ≡ chosen total image → after.parts ≡ key.parts → now ≡ raised image at round (content.kept.next + n)
+    → total ≡ made_leaves content.height → at ≡ chosen total image → after.parts ≡ key.parts
+    → now ≡ raised image at round (content.kept.next + n)
     → ◌≡◌ {A = KeyState} record { parts = after.parts; image = now; failed = failed }
     record { parts = key.parts; image = raised key.image (chosen (leaves_of key) key.image) round ((kept_by key).next + n); failed = false }
 raised_state key image now secret after failed content at total round n of view works found chose parts raises =
@@ -126,7 +135,12 @@ raised_state key image now secret after failed content at total round n of view 
     ∙ ap (λ (k : ℕ). raised key.image (chosen (leaves_of key) key.image) round (k + n)) (sym of.next) in
     ap (λ (p : SecretParts). let k : KeyState = record { parts = p; image = now; failed = failed } in k) parts
     ∙ ap (λ (l : List ℕ). let k : KeyState = record { parts = key.parts; image = l; failed = failed } in k) image_is
-    ∙ ap (λ (b : Bool). let k : KeyState = record { parts = key.parts; image = raised key.image (chosen (leaves_of key) key.image) round ((kept_by key).next + n); failed = b } in k) works
+    ∙ ap (λ (b : Bool). let k : KeyState = record {
+      parts = key.parts;
+      image = raised key.image (chosen (leaves_of key) key.image) round
+          ((kept_by key).next + n);
+      failed = b;
+    } in k) works
 
 -- the run of leaves
 pub reserved_run : (key : KeyState) (secret : SecretState) (content : KeyContent) (run : RunState) (n : ℕ) → IsOf key secret content

@@ -131,7 +131,8 @@ unfolding head_read
 head_made c now whole first version lms ots =
     ap (λ (n : ℕ). head_of n (word_at now 0) (slice_index now 4) (word_at now 5) (word_at now 9)) whole
     ∙ ap (λ (n : ℕ). head_of 128 n (slice_index now 4) (word_at now 5) (word_at now 9)) (word_known now 0 magic (omega arith) first)
-    ∙ ap (λ (n : ℕ). head_of 128 magic n (word_at now 5) (word_at now 9)) (byte-by_part now 4 ∙ ap (λ (l : List ℕ). slice_index l 0) version)
+    ∙ ap (λ (n : ℕ). head_of 128 magic n (word_at now 5) (word_at now 9))
+    (byte-by_part now 4 ∙ ap (λ (l : List ℕ). slice_index l 0) version)
     ∙ ap (λ (n : ℕ). head_of 128 magic 1 n (word_at now 9)) (word_known now 5 _ (tree_small c.height) lms)
     ∙ ap (λ (n : ℕ). head_of 128 magic 1 (tree_number (made_type c.height)) n) (word_known now 9 _ (type_small c.width) ots)
     ∙ head_known c.height c.width
@@ -173,7 +174,8 @@ second_slot : (now : List ℕ) → length now ≡ 128 → drop 61 now ≡ drop 6
     → slot_at (opened now 64) 96 ≡ record { gate = 0; round = 0; next = 0 }
 second_slot now whole back =
     same_slot (opened now 64) (replicate 128 0) 96 (behind (replicate 128 0) now 96 1 whole back (omega arith))
-    (behind (replicate 128 0) now 97 8 whole back (omega arith)) (behind (replicate 128 0) now 105 4 whole back (omega arith)) ∙ blank_slot 0
+    (behind (replicate 128 0) now 97 8 whole back (omega arith)) (behind (replicate 128 0) now 105 4 whole back (omega arith))
+    ∙ blank_slot 0
 
 content_made : (c : KeyContent) (now : List ℕ) → part now 13 16 ≡ c.identifier → part now 29 32 ≡ c.seed
     → stands (made_leaves c.height) now ≡ record { round = 0; next = 0 }

@@ -9,14 +9,16 @@ use Rattle.key_store.proofs.Torn.{torn_wider}
 front_torn : (file image left : List ℕ) → length image ≡ 128 → IsTorn (overwritten file 0 image) 64 1 left → IsTorn file 0 128 left
 front_torn file image left whole torn =
     torn_wider file (overwritten file 0 image) left 0 128 64 1
-    (subst (λ (n : ℕ). IsTorn file 0 n (overwritten file 0 image)) whole (overwritten_torn file 0 image (omega arith))) torn (omega arith) (omega arith)
+    (subst (λ (n : ℕ). IsTorn file 0 n (overwritten file 0 image)) whole (overwritten_torn file 0 image (omega arith))) torn (omega arith)
+    (omega arith)
 
 module _ {D : Type 0} (told : D → Option (List ℕ)) (may_leave : D → List ℕ → Type 0) (moment : D → ℕ) (left_since : D → ℕ → List ℕ → Type 0)
     (only_now : (disk : D) (image : List ℕ) → left_since disk (moment disk) image → may_leave disk image) where
   -- before the first call
   pub untouched : (disk : D) → LeavesOnly moment left_since disk disk (IsTornOf (may_leave disk) 0 128)
   untouched disk =
-      started may_leave moment left_since only_now disk (IsTornOf (may_leave disk) 0 128) (λ image left. (image, left, torn_nowhere image 0 128))
+      started may_leave moment left_since only_now disk (IsTornOf (may_leave disk) 0 128)
+      (λ image left. (image, left, torn_nowhere image 0 128))
 
   -- the front is written
   pub front_written : (old new : D) (n : ℕ) → n ≡ 128 → ImagesTear (may_leave old) (may_leave new) 0 n
@@ -37,7 +39,8 @@ module _ {D : Type 0} (told : D → Option (List ℕ)) (may_leave : D → List �
       (λ image left. subst (λ (n : ℕ). IsTornOf (may_leave old) 0 n image) whole (tears image (same image left)))
 
   -- a gate of a file that is told is written
-  pub gate_put : ((disk : D) → IfSome (told disk) (may_leave disk)) → (old mid new : D) (wrote synced : Option (List ℕ)) (image : List ℕ) → length image ≡ 128
+  pub gate_put : ((disk : D) → IfSome (told disk) (may_leave disk)) → (old mid new : D) (wrote synced : Option (List ℕ)) (image : List ℕ)
+      → length image ≡ 128
       → Writes (told old) wrote 0 image → synced ≡ wrote → LeavesOnly moment left_since old mid (IsTornOf (may_leave old) 0 128)
       → LeavesOf moment left_since synced mid new (λ file. IsTorn file 64 1)
       → IfSome (told old) (λ _. LeavesOnly moment left_since old new (IsTornOf (may_leave old) 0 128))

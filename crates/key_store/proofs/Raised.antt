@@ -16,10 +16,12 @@ use Rattle.key_store.proofs.Slots.{length-raised, raised-apart, same_byte, same_
 -- the two slots of a file of which one is raised
 abbrev pub AreRaised : (old_a old_b a b : Slot) (round next : ℕ) → Type 0
 AreRaised old_a old_b a b round next =
-    ((a ≡ record { gate = 1; round = round; next = next }) × (b ≡ old_b)) ⊎ ((a ≡ old_a) × (b ≡ record { gate = 1; round = round; next = next }))
+    ((a ≡ record { gate = 1; round = round; next = next }) × (b ≡ old_b))
+    ⊎ ((a ≡ old_a) × (b ≡ record { gate = 1; round = round; next = next }))
 
 pub slots-raised : (file : List ℕ) (at round next : ℕ) → length file ≡ 128 → IsSlot at → round < 2 ^ 64 → next < 2 ^ 32
-    → AreRaised (slot_at file 64) (slot_at file 96) (slot_at (raised file at round next) 64) (slot_at (raised file at round next) 96) round next
+    → AreRaised (slot_at file 64) (slot_at file 96) (slot_at (raised file at round next) 64) (slot_at (raised file at round next) 96) round
+    next
 slots-raised file at round next whole (inl is) small_round small_next =
     let within : at + 13 ≤ length file = omega arith in
     inl (
@@ -34,7 +36,8 @@ slots-raised file at round next whole (inr is) small_round small_next =
     )
 
 -- a slot with a next leaf of the tree is valid, and counts
-pub counted-open : (leaves round next : ℕ) → next ≤ leaves → counted leaves record { gate = 1; round = round; next = next } ≡ record { round = round; next = next }
+pub counted-open : (leaves round next : ℕ) → next ≤ leaves → counted leaves record { gate = 1; round = round; next = next } ≡ record
+    { round = round; next = next }
 counted-open leaves round next within = rw (le-leb next leaves within) refl
 
 pub valid-open : (leaves round next : ℕ) → next ≤ leaves → is_valid leaves record { gate = 1; round = round; next = next } ≡ true
@@ -63,7 +66,8 @@ or_true false = refl
 pub stands-raised : (leaves : ℕ) (old_a old_b a b : Slot) (round next : ℕ)
     → AreRaised old_a old_b a b round next → (greatest (counted leaves old_a) (counted leaves old_b)).round ≤ round
     → (greatest (counted leaves old_a) (counted leaves old_b)).next ≤ next → next ≤ leaves
-    → ((is_valid leaves a || is_valid leaves b) ≡ true) × (greatest (counted leaves a) (counted leaves b) ≡ record { round = round; next = next })
+    → ((is_valid leaves a || is_valid leaves b) ≡ true) × (greatest (counted leaves a) (counted leaves b) ≡ record
+    { round = round; next = next })
 stands-raised leaves old_a old_b a b round next (inl raised) r n within =
     let low : Standing = counted leaves old_b in
     let low_round : low.round ≤ round = below_second (counted leaves old_a).round low.round round r in
@@ -132,11 +136,13 @@ was_read file c e =
       content = slots (has_valid (made_leaves (head.0).0) file) (content_of head.0 file) c head.2;
     }
   where
-    valid : (valid : Bool) (content c : KeyContent) → ◌≡◌ {A = Result KeyContent ℕ} (if valid then Ok content else Err 64) (Ok c) → valid ≡ true
+    valid : (valid : Bool) (content c : KeyContent) → ◌≡◌ {A = Result KeyContent ℕ} (if valid then Ok content else Err 64) (Ok c)
+        → valid ≡ true
     valid true content c e = refl
     valid false content c e = absurd (cc)
 
-    slots : (valid : Bool) (content c : KeyContent) → ◌≡◌ {A = Result KeyContent ℕ} (if valid then Ok content else Err 64) (Ok c) → content ≡ c
+    slots : (valid : Bool) (content c : KeyContent) → ◌≡◌ {A = Result KeyContent ℕ} (if valid then Ok content else Err 64) (Ok c)
+        → content ≡ c
     slots true content c e = cc
     slots false content c e = absurd (cc)
 
@@ -171,7 +177,8 @@ key_read-raised file at round next c whole slot small_round small_next read late
     let r : (stands leaves file).round ≤ round = below (ap (λ (k : Standing). k.round) kept) later in
     let n : (stands leaves file).next ≤ next = below (ap (λ (k : Standing). k.next) kept) higher in
     let e : next ≤ leaves = above (ap (λ (h : MadeHeight). made_leaves h) (sym height)) enough in
-    let now = stands-raised leaves (slot_at file 64) (slot_at file 96) _ _ round next (slots-raised file at round next whole slot small_round small_next) r n e in
+    let now = stands-raised leaves (slot_at file 64) (slot_at file 96) _ _ round next
+    (slots-raised file at round next whole slot small_round small_next) r n e in
     read_raised (raised file at round next) was.types _ (head-raised file at round next whole slot ∙ was.head) now.0
     (content_raised was.types file (raised file at round next) _
     (raised-apart file at round next 13 16 within (before_slot at 13 16 slot (omega arith)))

@@ -35,7 +35,8 @@ unfolding long_at
 long-written file at round next within small =
     let place : at + 1 ≡ at + 1 + 0 = omega arith in
     ap (from_be_bytes w64)
-    (part-inside file (at + 1) (numbers round next) (at + 1) 0 8 within place (omega (arith, size_of_numbers round next)) ∙ first_number round next)
+    (part-inside file (at + 1) (numbers round next) (at + 1) 0 8 within place (omega (arith, size_of_numbers round next))
+    ∙ first_number round next)
     ∙ from_be_bytes-to_be_bytes_8 round small
 
 pub word-written : (file : List ℕ) (at round next : ℕ) → at + 1 ≤ length file → next < 2 ^ 32
@@ -44,7 +45,8 @@ unfolding word_at
 word-written file at round next within small =
     let place : at + 9 ≡ at + 1 + 8 = omega arith in
     ap (from_be_bytes w32)
-    (part-inside file (at + 1) (numbers round next) (at + 9) 8 4 within place (omega (arith, size_of_numbers round next)) ∙ second_number round next)
+    (part-inside file (at + 1) (numbers round next) (at + 9) 8 4 within place (omega (arith, size_of_numbers round next))
+    ∙ second_number round next)
     ∙ from_be_bytes-to_be_bytes_4 next small
 
 -- one slot, from its parts
@@ -102,8 +104,10 @@ unfolding raised
 raised-apart file at round next k n within apart =
     let first = closed_length file at 0 (omega arith) in
     let second = written_length (closed file at) at round next (omega (arith, first)) in
-    part-apart (written (closed file at) at round next) at (1 ∷ []) k n (omega (arith, first, second)) (shorter k n at at 1 apart (omega arith) (omega arith))
-    ∙ part-apart (closed file at) (at + 1) (numbers round next) k n (omega (arith, first)) (shorter k n at (at + 1) 12 apart (omega arith) (omega arith))
+    part-apart (written (closed file at) at round next) at (1 ∷ []) k n (omega (arith, first, second))
+    (shorter k n at at 1 apart (omega arith) (omega arith))
+    ∙ part-apart (closed file at) (at + 1) (numbers round next) k n (omega (arith, first))
+    (shorter k n at (at + 1) 12 apart (omega arith) (omega arith))
     ∙ part-apart file at (0 ∷ []) k n (omega arith) (shorter k n at at 1 apart (omega arith) (omega arith))
   where
     shorter : (k n at start size : ℕ) → IsApart k n at 13 → at ≤ start → start + size ≤ at + 13 → IsApart k n start size

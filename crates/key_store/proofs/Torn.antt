@@ -31,7 +31,8 @@ pub length-torn : (file image : List ℕ) (at m : ℕ) → IsTorn file at m imag
 length-torn file image at m torn within = omega (arith, torn.no_shorter, torn.no_longer)
 
 -- a range inside another
-pub torn_wider : (file mid image : List ℕ) (at m a n : ℕ) → IsTorn file at m mid → IsTorn mid a n image → at ≤ a → a + n ≤ at + m → IsTorn file at m image
+pub torn_wider : (file mid image : List ℕ) (at m a n : ℕ) → IsTorn file at m mid → IsTorn mid a n image → at ≤ a → a + n ≤ at + m
+    → IsTorn file at m image
 torn_wider file mid image at m a n first second low high = record {
   before = take-torn mid image a n at second low ∙ first.before;
   after = drop-torn mid image a n (at + m) second high ∙ first.after;
@@ -40,7 +41,8 @@ torn_wider file mid image at m a n first second low high = record {
 }
 
 -- in the first 128 bytes
-pub torn_front : (file image : List ℕ) (at m : ℕ) → IsTorn file at m image → at + m ≤ 128 → 128 ≤ length file → IsTorn (take 128 file) at m (take 128 image)
+pub torn_front : (file image : List ℕ) (at m : ℕ) → IsTorn file at m image → at + m ≤ 128 → 128 ≤ length file
+    → IsTorn (take 128 file) at m (take 128 image)
 torn_front file image at m torn within long = record {
   before = take-take at 128 image (omega arith) ∙ torn.before ∙ sym (take-take at 128 file (omega arith));
   after = back_taken image 128 (at + m) ∙ ap (take (128 - (at + m))) torn.after ∙ sym (back_taken file 128 (at + m));

@@ -36,34 +36,44 @@ module _ (image : List ℕ) (at round next : ℕ) (whole : length image ≡ 128)
         → LeavesOf moment left_since told old new (λ file. IsTorn file at 13)
     slot_closing None old new run = tt
     slot_closing (Some file) old new run =
-        weaker may_leave moment left_since old new (IsClosing at file) (IsTorn file at 13) (λ left closing. torn_more file left at 1 13 closing.beside (omega arith)) run
+        weaker may_leave moment left_since old new (IsClosing at file) (IsTorn file at 13)
+        (λ left closing. torn_more file left at 1 13 closing.beside (omega arith)) run
 
-    pub slot_writing : (told mid_told : Option (List ℕ)) (old mid new : D) → Mirrors told image → mid_told ≡ option_map (λ file. closed file at) told
-        → LeavesOf moment left_since told old mid (λ file. IsTorn file at 13) → LeavesOf moment left_since mid_told mid new (λ file. IsTorn file (at + 1) 12)
+    pub slot_writing : (told mid_told : Option (List ℕ)) (old mid new : D) → Mirrors told image
+        → mid_told ≡ option_map (λ file. closed file at) told
+        → LeavesOf moment left_since told old mid (λ file. IsTorn file at 13)
+        → LeavesOf moment left_since mid_told mid new (λ file. IsTorn file (at + 1) 12)
         → LeavesOf moment left_since told old new (λ file. IsTorn file at 13)
     slot_writing None mid_told old mid new mirrors is run more = tt
     slot_writing (Some file) mid_told old mid new mirrors is run more =
         let step = subst (λ (o : Option (List ℕ)). LeavesOf moment left_since o mid new (λ file. IsTorn file (at + 1) 12)) is more in
         joined may_leave moment left_since old mid new (IsTorn file at 13) run
         (weaker may_leave moment left_since mid new (IsTorn (closed file at) (at + 1) 12) (IsTorn file at 13)
-        (λ left torn. torn_wider file (closed file at) left at 13 (at + 1) 12 (closed_torn file at (within file mirrors)) torn (omega arith) (omega arith)) step)
+        (λ left torn. torn_wider file (closed file at) left at 13 (at + 1) 12 (closed_torn file at (within file mirrors)) torn (omega arith)
+        (omega arith)) step)
 
-    pub slot_opening : (told mid_told last_told : Option (List ℕ)) (old mid new : D) → Mirrors told image → mid_told ≡ option_map (λ file. closed file at) told
+    pub slot_opening : (told mid_told last_told : Option (List ℕ)) (old mid new : D) → Mirrors told image
+        → mid_told ≡ option_map (λ file. closed file at) told
         → last_told ≡ option_map (λ file. written file at round next) mid_told
-        → LeavesOf moment left_since told old mid (λ file. IsTorn file at 13) → LeavesOf moment left_since last_told mid new (λ file. IsTorn file at 1)
+        → LeavesOf moment left_since told old mid (λ file. IsTorn file at 13)
+        → LeavesOf moment left_since last_told mid new (λ file. IsTorn file at 1)
         → LeavesOf moment left_since told old new (λ file. IsTorn file at 13)
     slot_opening None mid_told last_told old mid new mirrors is last run more = tt
     slot_opening (Some file) mid_told last_told old mid new mirrors is last run more =
-        let told_is : last_told ≡ Some (written (closed file at) at round next) = last ∙ ap (option_map (λ (l : List ℕ). written l at round next)) is in
+        let told_is : last_told ≡ Some (written (closed file at) at round next) = last
+        ∙ ap (option_map (λ (l : List ℕ). written l at round next)) is in
         let step = subst (λ (o : Option (List ℕ)). LeavesOf moment left_since o mid new (λ file. IsTorn file at 1)) told_is more in
         joined may_leave moment left_since old mid new (IsTorn file at 13) run
         (weaker may_leave moment left_since mid new (IsTorn (written (closed file at) at round next) at 1) (IsTorn file at 13)
-        (λ left torn. torn_wider file (written (closed file at) at round next) left at 13 at 1 (written_torn file at round next (within file mirrors)) torn (omega arith) (omega arith)) step)
+        (λ left torn. torn_wider file (written (closed file at) at round next) left at 13 at 1
+        (written_torn file at round next (within file mirrors)) torn (omega arith) (omega arith)) step)
 
 -- a disk at rest that no call touches
-pub slot_stays : {D : Type 0} (told : D → Option (List ℕ)) (may_leave : D → List ℕ → Type 0) (moment : D → ℕ) (left_since : D → ℕ → List ℕ → Type 0)
+pub slot_stays : {D : Type 0} (told : D → Option (List ℕ)) (may_leave : D → List ℕ → Type 0) (moment : D → ℕ)
+    (left_since : D → ℕ → List ℕ → Type 0)
     → ((disk : D) (image : List ℕ) → left_since disk (moment disk) image → may_leave disk image)
-    → (disk : D) (image : List ℕ) (at : ℕ) → IsAtRest (told disk) (may_leave disk) image → LeavesOf moment left_since (told disk) disk disk (λ file. IsTorn file at 13)
+    → (disk : D) (image : List ℕ) (at : ℕ) → IsAtRest (told disk) (may_leave disk) image
+    → LeavesOf moment left_since (told disk) disk disk (λ file. IsTorn file at 13)
 slot_stays {D} told may_leave moment left_since only_now disk image at rest = by_told (told disk) rest
   where
     by_told : (o : Option (List ℕ)) → IsAtRest o (may_leave disk) image → LeavesOf moment left_since o disk disk (λ file. IsTorn file at 13)

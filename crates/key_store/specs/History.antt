@@ -51,7 +51,8 @@ abbrev pub IsLeft : {D : Type 0} → (told : D → Option (List ℕ)) (may_leave
 IsLeft told may_leave images left = (image : List ℕ) × images image × (told left ≡ Some image) × Only image (may_leave left)
 
 -- each of these happened to the disk that the one before left
-abbrev pub Happened : {D : Type 0} → (told : D → Option (List ℕ)) (may_leave : D → List ℕ → Type 0) (moment : D → ℕ) (left_since : D → ℕ → List ℕ → Type 0)
+abbrev pub Happened : {D : Type 0} → (told : D → Option (List ℕ)) (may_leave : D → List ℕ → Type 0) (moment : D → ℕ)
+    (left_since : D → ℕ → List ℕ → Type 0)
     → (old : D) → List (Event D) → Type 0
 Happened told may_leave moment left_since old [] = Unit {0}
 Happened told may_leave moment left_since old (returned new handed ∷ events) =
@@ -85,7 +86,8 @@ raised_to_last least (h ∷ handed) = raised_to_last (raised_to least h) handed
 -- From a disk of which every image is a key file, whatever happens: rounds rise strictly, the leaves of each come behind
 -- those of all earlier ones, so none is handed out twice, and every image stays a key file of the same key that stands
 -- for what was handed out last.
-abbrev pub IsUsedOnce : {D : Type 0} → (told : D → Option (List ℕ)) (may_leave : D → List ℕ → Type 0) (moment : D → ℕ) (left_since : D → ℕ → List ℕ → Type 0) → Type 0
+abbrev pub IsUsedOnce : {D : Type 0} → (told : D → Option (List ℕ)) (may_leave : D → List ℕ → Type 0) (moment : D → ℕ)
+    (left_since : D → ℕ → List ℕ → Type 0) → Type 0
 IsUsedOnce {D} told may_leave moment left_since =
     (least : KeyContent) (start : D) (events : List (Event D)) → Every (may_leave start) (KeepsFront least)
     → Happened told may_leave moment left_since start events

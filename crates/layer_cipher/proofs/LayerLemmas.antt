@@ -34,12 +34,23 @@ check_of : List ℕ → List ℕ → List ℕ
 check_of m hidden = hash_of LayerTag (m ∷ hidden ∷ [])
 
 length-front : (key m hidden : List ℕ) → length (capsule_of key m ++ hash_of LayerTag (m ∷ hidden ∷ [])) ≡ 2272
-length-front key m hidden = omega (arith, length-append (capsule_of key m) (hash_of LayerTag (m ∷ hidden ∷ [])), length-capsule_of key m, (hash_bytes LayerTag (m ∷ hidden ∷ [])).0)
+length-front key m hidden = omega (
+  arith,
+  length-append (capsule_of key m) (hash_of LayerTag (m ∷ hidden ∷ [])),
+  length-capsule_of key m,
+  (hash_bytes LayerTag (m ∷ hidden ∷ [])).0,
+)
 
 pub layer_adds : LayerAdds
 unfolding layer_of
 layer_adds key m body =
-    omega (arith, length-append (capsule_of key m ++ hash_of LayerTag (m ∷ masked m body ∷ [])) (masked m body), length-front key m (masked m body), length-masked m body)
+    omega (
+      arith,
+      length-append (capsule_of key m ++ hash_of LayerTag (m ∷ masked m body ∷ [])) (masked m body),
+      length-front key m
+          (masked m body),
+      length-masked m body,
+    )
 
 layer_capsule : (key m body : List ℕ) → take 2240 (layer_of key m body) ≡ capsule_of key m
 unfolding layer_of
@@ -48,14 +59,17 @@ layer_capsule key m body =
 
 layer_hidden : (key m body : List ℕ) → drop 2272 (layer_of key m body) ≡ masked m body
 unfolding layer_of
-layer_hidden key m body = drop_at (capsule_of key m ++ hash_of LayerTag (m ∷ masked m body ∷ [])) (masked m body) 2272 (length-front key m (masked m body))
+layer_hidden key m body = drop_at (capsule_of key m ++ hash_of LayerTag (m ∷ masked m body ∷ [])) (masked m body) 2272
+    (length-front key m (masked m body))
 
 layer_check : (key m body : List ℕ) → take 32 (drop 2240 (layer_of key m body)) ≡ hash_of LayerTag (m ∷ masked m body ∷ [])
 unfolding layer_of
 layer_check key m body =
-    let rest : drop 2240 (capsule_of key m ++ (hash_of LayerTag (m ∷ masked m body ∷ []) ++ masked m body)) ≡ hash_of LayerTag (m ∷ masked m body ∷ []) ++ masked m body
+    let rest : drop 2240 (capsule_of key m ++ (hash_of LayerTag (m ∷ masked m body ∷ []) ++ masked m body)) ≡ hash_of LayerTag
+    (m ∷ masked m body ∷ []) ++ masked m body
     = drop_at (capsule_of key m) (hash_of LayerTag (m ∷ masked m body ∷ []) ++ masked m body) 2240 (length-capsule_of key m) in
-    rw (append_assoc, rest) (take_at (hash_of LayerTag (m ∷ masked m body ∷ [])) (masked m body) 32 (hash_bytes LayerTag (m ∷ masked m body ∷ [])).0)
+    rw (append_assoc, rest) (take_at (hash_of LayerTag (m ∷ masked m body ∷ [])) (masked m body) 32
+    (hash_bytes LayerTag (m ∷ masked m body ∷ [])).0)
 
 -- ---- peeling is exact
 chosen : (b : Bool) (found p : List ℕ × List ℕ) → cond b (Some found) None ≡ Some p → (b ≡ true) × (found ≡ p)
@@ -64,26 +78,30 @@ chosen false found p e = cc
 
 -- what peeling goes on to do once the capsule is opened
 next : List ℕ → List ℕ → List ℕ → Option (List ℕ × List ℕ)
-next seed layer m = cond (bytes_eq layer (layer_of (key_of_seed seed) m (masked m (drop 2272 layer)))) (Some (m, masked m (drop 2272 layer))) None
+next seed layer m = cond (bytes_eq layer (layer_of (key_of_seed seed) m (masked m (drop 2272 layer))))
+    (Some (m, masked m (drop 2272 layer))) None
 
 peeled_is : (seed layer : List ℕ) → peeled seed layer ≡ option_and_then (next seed layer) (opened seed (take 2240 layer))
 unfolding peeled next
 peeled_is seed layer = refl
 
-opens_next : (seed layer m0 m body : List ℕ) → opened seed (take 2240 layer) ≡ Some m0 → next seed layer m0 ≡ Some (m, body) → Opens seed layer m body
+opens_next : (seed layer m0 m body : List ℕ) → opened seed (take 2240 layer) ≡ Some m0 → next seed layer m0 ≡ Some (m, body)
+    → Opens seed layer m body
 unfolding next
 opens_next seed layer m0 m body is e =
     let found : List ℕ × List ℕ = (m0, masked m0 (drop 2272 layer)) in
     let c = chosen (bytes_eq layer (layer_of (key_of_seed seed) m0 (masked m0 (drop 2272 layer)))) found (m, body) e in
     let first : m0 ≡ m = ap (λ (p : List ℕ × List ℕ). p.0) c.1 in
     let second : masked m0 (drop 2272 layer) ≡ body = ap (λ (p : List ℕ × List ℕ). p.1) c.1 in
-    let same : layer ≡ layer_of (key_of_seed seed) m0 (masked m0 (drop 2272 layer)) = (bytes_eq-Decides layer (layer_of (key_of_seed seed) m0 (masked m0 (drop 2272 layer)))).0 c.0 in
+    let same : layer ≡ layer_of (key_of_seed seed) m0 (masked m0 (drop 2272 layer)) =
+    (bytes_eq-Decides layer (layer_of (key_of_seed seed) m0 (masked m0 (drop 2272 layer)))).0 c.0 in
     record {
       message = subst (λ (x : List ℕ). IsMessage x) first ((opens_exactly seed (take 2240 layer) m0).0 is).0;
       is = same ∙ ap (λ (p : List ℕ × List ℕ). layer_of (key_of_seed seed) p.0 p.1) c.1;
     }
 
-opens_from : (seed layer m body : List ℕ) (o : Option (List ℕ)) → opened seed (take 2240 layer) ≡ o → option_and_then (next seed layer) o ≡ Some (m, body) → Opens seed layer m body
+opens_from : (seed layer m body : List ℕ) (o : Option (List ℕ)) → opened seed (take 2240 layer) ≡ o
+    → option_and_then (next seed layer) o ≡ Some (m, body) → Opens seed layer m body
 opens_from seed layer m body None is e = cc
 opens_from seed layer m body (Some m0) is e = opens_next seed layer m0 m body is e
 
@@ -96,7 +114,8 @@ peels seed layer m body opens =
     let inside : opened seed (take 2240 layer) ≡ Some m = (opens_exactly seed (take 2240 layer) m).1 (opens.message, capsule) in
     let hidden : drop 2272 layer ≡ masked m body = rw is (layer_hidden (key_of_seed seed) m body) in
     let clear : masked m (drop 2272 layer) ≡ body = rw hidden (masked_twice m body) in
-    let test : bytes_eq layer (layer_of (key_of_seed seed) m body) ≡ true = (bytes_eq-Decides layer (layer_of (key_of_seed seed) m body)).1 is in
+    let test : bytes_eq layer (layer_of (key_of_seed seed) m body) ≡ true = (bytes_eq-Decides layer (layer_of (key_of_seed seed) m body)).1
+    is in
     rw (peeled_is seed layer, inside, clear, test) refl
 
 pub peels_exactly : PeelsExactly
@@ -106,19 +125,26 @@ peels_exactly seed layer m body = (
 )
 
 -- ---- seeds of one key
-same_option : (o p : Option (List ℕ × List ℕ)) → ((x : List ℕ × List ℕ) → o ≡ Some x → p ≡ Some x) → ((x : List ℕ × List ℕ) → p ≡ Some x → o ≡ Some x) → o ≡ p
+same_option : (o p : Option (List ℕ × List ℕ)) → ((x : List ℕ × List ℕ) → o ≡ Some x → p ≡ Some x)
+    → ((x : List ℕ × List ℕ) → p ≡ Some x → o ≡ Some x) → o ≡ p
 same_option None None there back = refl
 same_option None (Some y) there back = back y refl
 same_option (Some x) p there back = sym (there x refl)
 
-peels_there : (seed seed' layer : List ℕ) (x : List ℕ × List ℕ) → key_of_seed seed ≡ key_of_seed seed' → peeled seed layer ≡ Some x → peeled seed' layer ≡ Some x
+peels_there : (seed seed' layer : List ℕ) (x : List ℕ × List ℕ) → key_of_seed seed ≡ key_of_seed seed' → peeled seed layer ≡ Some x
+    → peeled seed' layer ≡ Some x
 peels_there seed seed' layer x same e =
     let opens = (peels_exactly seed layer x.0 x.1).0 e in
-    (peels_exactly seed' layer x.0 x.1).1 (record { message = opens.message; is = opens.is ∙ ap (λ (key : List ℕ). layer_of key x.0 x.1) same })
+    (peels_exactly seed' layer x.0 x.1).1 (record {
+      message = opens.message;
+      is = opens.is
+          ∙ ap (λ (key : List ℕ). layer_of key x.0 x.1) same;
+    })
 
 pub key_peels : KeyPeels
 key_peels seed seed' layer same =
-    same_option (peeled seed layer) (peeled seed' layer) (λ x. peels_there seed seed' layer x same) (λ x. peels_there seed' seed layer x (sym same))
+    same_option (peeled seed layer) (peeled seed' layer) (λ x. peels_there seed seed' layer x same)
+    (λ x. peels_there seed' seed layer x (sym same))
 
 -- ---- what the code returns
 none_from : (o : Option (List ℕ × List ℕ)) → ((m body : List ℕ) → o ≡ Some (m, body) → ⊥) → o ≡ None
@@ -126,7 +152,8 @@ none_from None h = refl
 none_from (Some x) h = absurd (h x.0 x.1 refl)
 
 pub returns_no_layer : (seed layer : List ℕ) → ((m body : List ℕ) → Opens seed layer m body → ⊥) → NoLayer ≡ returned (peeled seed layer)
-returns_no_layer seed layer none = ap returned (sym (none_from (peeled seed layer) (λ m body e. none m body ((peels_exactly seed layer m body).0 e))))
+returns_no_layer seed layer none = ap returned (sym (none_from (peeled seed layer)
+    (λ m body e. none m body ((peels_exactly seed layer m body).0 e))))
 
 pub returns_layer : (seed layer m body : List ℕ) → Opens seed layer m body → Layer m body ≡ returned (peeled seed layer)
 returns_layer seed layer m body opens = ap returned (sym ((peels_exactly seed layer m body).1 opens))
@@ -145,14 +172,16 @@ closed_opens_nothing seed layer m body closed opens =
     cc
 
 -- a check value that is another
-pub other_opens_nothing : (seed layer m m0 body check : List ℕ) → opened seed (take 2240 layer) ≡ Some m0 → check ≡ hash_of LayerTag (m0 ∷ drop 2272 layer ∷ [])
+pub other_opens_nothing : (seed layer m m0 body check : List ℕ) → opened seed (take 2240 layer) ≡ Some m0
+    → check ≡ hash_of LayerTag (m0 ∷ drop 2272 layer ∷ [])
     → (check ≡ take 32 (drop 2240 layer) → ⊥) → Opens seed layer m body → ⊥
 other_opens_nothing seed layer m m0 body check opened_to is-check other opens =
     let capsule : take 2240 layer ≡ capsule_of (key_of_seed seed) m = rw opens.is (layer_capsule (key_of_seed seed) m body) in
     let inside : opened seed (take 2240 layer) ≡ Some m = (opens_exactly seed (take 2240 layer) m).1 (opens.message, capsule) in
     let same : m0 ≡ m = cc in
     let hidden : drop 2272 layer ≡ masked m body = rw opens.is (layer_hidden (key_of_seed seed) m body) in
-    let there : take 32 (drop 2240 layer) ≡ hash_of LayerTag (m ∷ masked m body ∷ []) = rw opens.is (layer_check (key_of_seed seed) m body) in
+    let there : take 32 (drop 2240 layer) ≡ hash_of LayerTag (m ∷ masked m body ∷ []) = rw opens.is (layer_check (key_of_seed seed) m body)
+    in
     other (is-check ∙ rw (same, hidden) (sym there))
 
 -- the bytes are put together again
@@ -161,7 +190,8 @@ whole layer long =
     let rest : drop 32 (drop 2240 layer) ≡ drop 2272 layer = drop-drop 32 2240 layer in
     rw (append_assoc, ← rest, take-append-drop 32 (drop 2240 layer), take-append-drop 2240 layer) refl
 
-pub layer_found : (seed layer m body check : List ℕ) → 2272 ≤ length layer → opened seed (take 2240 layer) ≡ Some m → check ≡ hash_of LayerTag (m ∷ drop 2272 layer ∷ [])
+pub layer_found : (seed layer m body check : List ℕ) → 2272 ≤ length layer → opened seed (take 2240 layer) ≡ Some m
+    → check ≡ hash_of LayerTag (m ∷ drop 2272 layer ∷ [])
     → check ≡ take 32 (drop 2240 layer) → body ≡ masked m (drop 2272 layer) → Opens seed layer m body
 unfolding layer_of
 layer_found seed layer m body check long inside is-check is-there is-body =

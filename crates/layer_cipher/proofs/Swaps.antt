@@ -11,12 +11,14 @@ map-swap {X} f (d ∷ ys) i j =
     map-set f (set xs i (get_or xs j d)) j (get_or xs i d)
     ∙ (λ k. set ((map-set f xs i (get_or xs j d) ∙ ap (set (map f xs) i) (sym (get_or-map f xs j d))) k) j (sym (get_or-map f xs i d) k))
 
-pub map-apply_swaps : {X Y : Type 0} (f : X → Y) (xs : List X) (moves : List (ℕ × ℕ)) → map f (apply_swaps xs moves) ≡ apply_swaps (map f xs) moves
+pub map-apply_swaps : {X Y : Type 0} (f : X → Y) (xs : List X) (moves : List (ℕ × ℕ))
+    → map f (apply_swaps xs moves) ≡ apply_swaps (map f xs) moves
 map-apply_swaps f xs [] = refl
 map-apply_swaps f xs (p ∷ ps) = map-swap f (apply_swaps xs ps) p.0 p.1 ∙ ap (λ l. swap l p.0 p.1) (map-apply_swaps f xs ps)
 
 -- what stands in another order before a map is reached from another order of what was mapped
-pub from_mapped : {X Y : Type 0} (f : X → Y) (xs : List X) (ys : List Y) → IsPermutation (map f xs) ys → (zs : List X) × (ys ≡ map f zs) × IsPermutation xs zs
+pub from_mapped : {X Y : Type 0} (f : X → Y) (xs : List X) (ys : List Y) → IsPermutation (map f xs) ys → (zs : List X) × (ys ≡ map f zs)
+    × IsPermutation xs zs
 from_mapped f xs ys p = (
   apply_swaps xs p.moves,
   p.is ∙ sym (map-apply_swaps f xs p.moves),

@@ -22,13 +22,15 @@ through-nil : (entries : List (List ℕ)) → stripped_through [] entries ≡ So
 unfolding stripped_through
 through-nil entries = refl
 
-through-cons : (seed : List ℕ) (seeds entries : List (List ℕ)) → stripped_through (seed ∷ seeds) entries ≡ option_and_then (stripped_through seeds) (stripped seed entries)
+through-cons : (seed : List ℕ) (seeds entries : List (List ℕ)) → stripped_through (seed ∷ seeds) entries ≡ option_and_then
+    (stripped_through seeds) (stripped seed entries)
 unfolding stripped_through
 through-cons seed seeds entries = refl
 
 through_way : (seed : List ℕ) (seeds entries bodies : List (List ℕ)) → stripped_through (seed ∷ seeds) entries ≡ Some bodies
     → Way (stripped_through seeds) (stripped seed entries) bodies
-through_way seed seeds entries bodies e = way_of (stripped_through seeds) (stripped seed entries) bodies (sym (through-cons seed seeds entries) ∙ e)
+through_way seed seeds entries bodies e = way_of (stripped_through seeds) (stripped seed entries) bodies
+    (sym (through-cons seed seeds entries) ∙ e)
 
 same_last : (x y : List (List ℕ) × List ℕ) → Some x ≡ Some y → x.1 ≡ y.1
 same_last x y e = let same : x ≡ y = cc in ap (λ (p : List (List ℕ) × List ℕ). p.1) same
@@ -40,18 +42,21 @@ same_lists x y e = cc
 opened_more : (seed : List ℕ) (seeds : List (List ℕ)) (p : List ℕ × List ℕ) → Option (List (List ℕ) × List ℕ)
 opened_more seed seeds p = option_map (λ (q : List (List ℕ) × List ℕ). (p.0 ∷ q.0, q.1)) (opened_through seeds p.1)
 
-opened-cons : (seed : List ℕ) (seeds : List (List ℕ)) (entry : List ℕ) → opened_through (seed ∷ seeds) entry ≡ option_and_then (opened_more seed seeds) (peeled seed entry)
+opened-cons : (seed : List ℕ) (seeds : List (List ℕ)) (entry : List ℕ)
+    → opened_through (seed ∷ seeds) entry ≡ option_and_then (opened_more seed seeds) (peeled seed entry)
 unfolding opened_through opened_more
 opened-cons seed seeds entry = refl
 
-opens_on : (seed : List ℕ) (seeds : List (List ℕ)) (entry middle body : List ℕ) → HasBody seed entry middle → OpensTo seeds middle body → OpensTo (seed ∷ seeds) entry body
+opens_on : (seed : List ℕ) (seeds : List (List ℕ)) (entry middle body : List ℕ) → HasBody seed entry middle → OpensTo seeds middle body
+    → OpensTo (seed ∷ seeds) entry body
 unfolding opened_more
 opens_on seed seeds entry middle body outer inner =
     let first : peeled seed entry ≡ Some (outer.0, middle) = (peels_exactly seed entry outer.0 middle).1 outer.1 in
     (outer.0 ∷ inner.0, rw (opened-cons seed seeds entry, first, inner.1) refl)
 
 last_found : (m : List ℕ) (o : Option (List (List ℕ) × List ℕ)) (ms : List (List ℕ)) (body : List ℕ)
-    → option_map {U = List (List ℕ) × List ℕ} (λ (q : List (List ℕ) × List ℕ). (m ∷ q.0, q.1)) o ≡ Some (ms, body) → (rest : List (List ℕ)) × (o ≡ Some (rest, body))
+    → option_map {U = List (List ℕ) × List ℕ} (λ (q : List (List ℕ) × List ℕ). (m ∷ q.0, q.1)) o ≡ Some (ms, body) → (rest : List (List ℕ))
+    × (o ≡ Some (rest, body))
 last_found m None ms body e = cc
 last_found m (Some q) ms body e =
     let same : q.1 ≡ body = same_last (m ∷ q.0, q.1) (ms, body) e in
@@ -106,7 +111,8 @@ there : (seeds entries bodies : List (List ℕ)) → stripped_through seeds entr
 there [] entries bodies e = let same = same_lists entries bodies (sym (through-nil entries) ∙ e) in rw same (opens_unsealed bodies)
 there (seed ∷ seeds) entries bodies e =
     let way = through_way seed seeds entries bodies e in
-    joined seed seeds entries way.middle bodies ((strips_exactly seed entries way.middle).0 way.first) (there seeds way.middle bodies way.rest)
+    joined seed seeds entries way.middle bodies ((strips_exactly seed entries way.middle).0 way.first)
+    (there seeds way.middle bodies way.rest)
 
 back : (seeds entries bodies : List (List ℕ)) → AllZip (OpensTo seeds) entries bodies → stripped_through seeds entries ≡ Some bodies
 back [] entries bodies all = through-nil entries ∙ ap Some (unsealed_same entries bodies all)
@@ -151,6 +157,7 @@ pub strips_through_keeps : StripsThroughKeeps
 strips_through_keeps seeds entries bodies entry body e has opens =
     let all = there seeds entries bodies e in
     let long = length_all_zip (OpensTo seeds) entries bodies all in
-    let here : OpensTo seeds (get_or entries has.0 entry) (get_or bodies has.0 body) = AllZip-get_or (OpensTo seeds) entries bodies has.0 entry body all has.1 in
+    let here : OpensTo seeds (get_or entries has.0 entry) (get_or bodies has.0 body) = AllZip-get_or (OpensTo seeds) entries bodies has.0
+    entry body all has.1 in
     let at : OpensTo seeds entry (get_or bodies has.0 body) = rw has.2 at here in
     (has.0, omega (arith, has.1, long), same_body seeds entry (get_or bodies has.0 body) body at opens)

@@ -23,7 +23,8 @@ wrapped_opens [] (m ∷ ms) blob h are = absurd (omega arith)
 wrapped_opens (seed ∷ seeds) [] blob h are = absurd (omega arith)
 wrapped_opens (seed ∷ seeds) (m ∷ ms) blob h are =
     let inside = wrapping_of (map key_of_seed seeds) ms blob in
-    let first : peeled seed (layer_of (key_of_seed seed) m inside) ≡ Some (m, inside) = (peels_exactly seed (layer_of (key_of_seed seed) m inside) m inside).1 (record { message = are.0; is = refl }) in
+    let first : peeled seed (layer_of (key_of_seed seed) m inside) ≡ Some (m, inside) =
+    (peels_exactly seed (layer_of (key_of_seed seed) m inside) m inside).1 (record { message = are.0; is = refl }) in
     let rest : opened_through seeds inside ≡ Some (ms, blob) = wrapped_opens seeds ms blob (omega arith) are.1 in
     rw (first, rest) refl
 
@@ -35,12 +36,15 @@ pub outermost_determined : OutermostDetermined
 unfolding wrapping_of
 outermost_determined seed m m' keys keys' ms ms' blob blob' is is' same =
     let layer = layer_of (key_of_seed seed) m (wrapping_of keys ms blob) in
-    let first : peeled seed layer ≡ Some (m, wrapping_of keys ms blob) = (peels_exactly seed layer m (wrapping_of keys ms blob)).1 (record { message = is; is = refl }) in
-    let second : peeled seed layer ≡ Some (m', wrapping_of keys' ms' blob') = (peels_exactly seed layer m' (wrapping_of keys' ms' blob')).1 (record { message = is'; is = same }) in
+    let first : peeled seed layer ≡ Some (m, wrapping_of keys ms blob) = (peels_exactly seed layer m (wrapping_of keys ms blob)).1
+    (record { message = is; is = refl }) in
+    let second : peeled seed layer ≡ Some (m', wrapping_of keys' ms' blob') = (peels_exactly seed layer m' (wrapping_of keys' ms' blob')).1
+    (record { message = is'; is = same }) in
     same_first (m, wrapping_of keys ms blob) (m', wrapping_of keys' ms' blob') (sym first ∙ second)
 
 -- ---- the loop, from the innermost layer out
-pub wrapping_of-none : (keys ms : List (List ℕ)) (blob : List ℕ) (k : ℕ) → length keys ≤ k → wrapping_of (drop k keys) (drop k ms) blob ≡ blob
+pub wrapping_of-none : (keys ms : List (List ℕ)) (blob : List ℕ) (k : ℕ) → length keys ≤ k
+    → wrapping_of (drop k keys) (drop k ms) blob ≡ blob
 unfolding wrapping_of
 wrapping_of-none keys ms blob k none = rw (drop_all k keys none) refl
 

@@ -40,4 +40,5 @@ wrapping_of _ _ blob = blob
 unfoldable pub opened_through : List (List ℕ) → List ℕ → Option (List (List ℕ) × List ℕ)
 opened_through [] layer = Some ([], layer)
 opened_through (seed ∷ seeds) layer =
-    option_and_then (λ (p : List ℕ × List ℕ). option_map (λ (q : List (List ℕ) × List ℕ). (p.0 ∷ q.0, q.1)) (opened_through seeds p.1)) (peeled seed layer)
+    option_and_then (λ (p : List ℕ × List ℕ). option_map (λ (q : List (List ℕ) × List ℕ). (p.0 ∷ q.0, q.1)) (opened_through seeds p.1))
+    (peeled seed layer)

@@ -9,7 +9,8 @@ use Rattle.layer_cipher.specs.Layer.{Opens, peeled, opened_through}
 unfoldable pub stripped : List ℕ → List (List ℕ) → Option (List (List ℕ))
 stripped seed [] = Some []
 stripped seed (entry ∷ entries) =
-    option_and_then (λ (found : List ℕ × List ℕ). option_map (λ (bodies : List (List ℕ)). found.1 ∷ bodies) (stripped seed entries)) (peeled seed entry)
+    option_and_then (λ (found : List ℕ × List ℕ). option_map (λ (bodies : List (List ℕ)). found.1 ∷ bodies) (stripped seed entries))
+    (peeled seed entry)
 
 -- under the key of the seed, the entry is a layer of this body
 abbrev pub HasBody : List ℕ → List ℕ → List ℕ → Type 0

@@ -22,7 +22,8 @@ head_written block first second third whole l1 l2 l3 =
       ap length (take-append-drop 20 (put_mid 16 4 (first ++ post_of 0 16 block) second)),
       ap length e2,
       length-append first second,
-      length-append (take 20 (put_mid 16 4 (first ++ post_of 0 16 block) second)) (drop 20 (put_mid 16 4 (first ++ post_of 0 16 block) second)),
+      length-append (take 20 (put_mid 16 4 (first ++ post_of 0 16 block) second))
+          (drop 20 (put_mid 16 4 (first ++ post_of 0 16 block) second)),
     ) in
     take-put_mid 20 2 (put_mid 16 4 (first ++ post_of 0 16 block) second) third 22 (omega arith) n2
     ∙ ap (λ (xs : List ℕ). xs ++ third) e2

@@ -17,7 +17,8 @@ chains_to-none : (key : KeyParts) (to : ℕ → ℕ) → chains_to key to 0 ≡ 
 unfolding chains_to
 chains_to-none key to = refl
 
-chains_to-more : (key : KeyParts) (to : ℕ → ℕ) (n : ℕ) (front value : List ℕ) → value ≡ chain key.identifier key.q n 0 (to n) (chain_start key n)
+chains_to-more : (key : KeyParts) (to : ℕ → ℕ) (n : ℕ) (front value : List ℕ)
+    → value ≡ chain key.identifier key.q n 0 (to n) (chain_start key n)
     → front ++ chains_to key to n ++ value ≡ front ++ chains_to key to (n + 1)
 unfolding chains_to
 chains_to-more key to n front value is = append_assoc front (chains_to key to n) value ∙ rw (add-one, is) refl
@@ -26,16 +27,19 @@ pub own_ends-none : (key : KeyParts) (front : List ℕ) → front ++ own_ends ke
 unfolding own_ends
 own_ends-none key front = ap (λ (x : List ℕ). front ++ x) (chains_to-none key (λ i. 2 ^ digit_bits key.width - 1)) ∙ append-nil front
 
-pub own_ends-more : (key : KeyParts) (n : ℕ) (front value : List ℕ) → value ≡ chain key.identifier key.q n 0 (2 ^ digit_bits key.width - 1) (chain_start key n)
+pub own_ends-more : (key : KeyParts) (n : ℕ) (front value : List ℕ)
+    → value ≡ chain key.identifier key.q n 0 (2 ^ digit_bits key.width - 1) (chain_start key n)
     → front ++ own_ends key n ++ value ≡ front ++ own_ends key (n + 1)
 unfolding own_ends
 own_ends-more key n front value is = chains_to-more key (λ i. 2 ^ digit_bits key.width - 1) n front value is
 
 pub own_values-none : (key : KeyParts) (signed front : List ℕ) → front ++ own_values key signed 0 ≡ front
 unfolding own_values
-own_values-none key signed front = ap (λ (x : List ℕ). front ++ x) (chains_to-none key (λ i. coef signed i (digit_bits key.width))) ∙ append-nil front
+own_values-none key signed front = ap (λ (x : List ℕ). front ++ x) (chains_to-none key (λ i. coef signed i (digit_bits key.width)))
+    ∙ append-nil front
 
-pub own_values-more : (key : KeyParts) (signed : List ℕ) (n : ℕ) (front value : List ℕ) → value ≡ chain key.identifier key.q n 0 (coef signed n (digit_bits key.width)) (chain_start key n)
+pub own_values-more : (key : KeyParts) (signed : List ℕ) (n : ℕ) (front value : List ℕ)
+    → value ≡ chain key.identifier key.q n 0 (coef signed n (digit_bits key.width)) (chain_start key n)
     → front ++ own_values key signed n ++ value ≡ front ++ own_values key signed (n + 1)
 unfolding own_values
 own_values-more key signed n front value is = chains_to-more key (λ i. coef signed i (digit_bits key.width)) n front value is
@@ -57,7 +61,12 @@ length-chains_to : (key : KeyParts) (to : ℕ → ℕ) (n : ℕ) → length (cha
 unfolding chains_to
 length-chains_to key to zero = refl
 length-chains_to key to (suc n) =
-    omega (arith, length-append (chains_to key to n) (chain key.identifier key.q n 0 (to n) (chain_start key n)), length-chains_to key to n, length-value key n (to n))
+    omega (
+      arith,
+      length-append (chains_to key to n) (chain key.identifier key.q n 0 (to n) (chain_start key n)),
+      length-chains_to key to n,
+      length-value key n (to n),
+    )
 
 -- ---- what stands where
 
@@ -71,13 +80,15 @@ in_front at xs ys value fits e =
 at_end : (at : ℕ) (xs ys : List ℕ) → at ≡ length xs → length ys ≡ 32 → take 32 (drop at (xs ++ ys)) ≡ ys
 at_end at xs ys is size = ap (take 32) (drop_at xs ys at (sym is)) ∙ take_all 32 ys (omega (arith, size))
 
-value_at : (key : KeyParts) (to : ℕ → ℕ) (n i : ℕ) → i < n → take 32 (drop (32 * i) (chains_to key to n)) ≡ chain key.identifier key.q i 0 (to i) (chain_start key i)
+value_at : (key : KeyParts) (to : ℕ → ℕ) (n i : ℕ) → i < n → take 32 (drop (32 * i) (chains_to key to n)) ≡ chain key.identifier key.q i 0
+    (to i) (chain_start key i)
 unfolding chains_to
 value_at key to zero i inside = absurd (omega (arith, inside))
 value_at key to (suc n) i inside =
     elim (cases_lt i n) [
       | inl lower ↦
-          in_front (32 * i) (chains_to key to n) (chain key.identifier key.q n 0 (to n) (chain_start key n)) (chain key.identifier key.q i 0 (to i) (chain_start key i))
+          in_front (32 * i) (chains_to key to n) (chain key.identifier key.q n 0 (to n) (chain_start key n))
+          (chain key.identifier key.q i 0 (to i) (chain_start key i))
           (omega (arith, length-chains_to key to n, lower)) (value_at key to n i lower)
       | inr least ↦
           let same : n ≡ i = omega (arith, inside, least) in
@@ -93,7 +104,8 @@ record IsLaidOut (sig word c values : List ℕ) (n : ℕ) : Type 0 where
   c_is : randomizer sig ≡ c
   values_are : drop 36 sig ≡ values
 
-laid_out : (word c values : List ℕ) (n : ℕ) → length word ≡ 4 → length c ≡ 32 → length values ≡ 32 * n → IsLaidOut (word ++ c ++ values) word c values n
+laid_out : (word c values : List ℕ) (n : ℕ) → length word ≡ 4 → length c ≡ 32 → length values ≡ 32 * n
+    → IsLaidOut (word ++ c ++ values) word c values n
 laid_out word c values n l1 l2 l3 =
     let grouped : word ++ c ++ values ≡ word ++ (c ++ values) = append_assoc word c values in
     record {
@@ -104,10 +116,12 @@ laid_out word c values n l1 l2 l3 =
     }
 
 signature-laid_out : (key : KeyParts) (message : List ℕ)
-    → IsLaidOut (ots_signature key message) (u32str (type_number key.width)) (own_randomizer key) (own_values key (own_signed_string key message) (chain_count key.width)) (chain_count key.width)
+    → IsLaidOut (ots_signature key message) (u32str (type_number key.width)) (own_randomizer key)
+    (own_values key (own_signed_string key message) (chain_count key.width)) (chain_count key.width)
 unfolding own_values
 signature-laid_out key message =
-    laid_out (u32str (type_number key.width)) (own_randomizer key) (own_values key (own_signed_string key message) (chain_count key.width)) (chain_count key.width)
+    laid_out (u32str (type_number key.width)) (own_randomizer key) (own_values key (own_signed_string key message) (chain_count key.width))
+    (chain_count key.width)
     (length-u32str (type_number key.width)) (length-sha256 (seed_string key.identifier key.q randomizer_place key.seed))
     (length-chains_to key (λ i. coef (own_signed_string key message) i (digit_bits key.width)) (chain_count key.width))
 
@@ -146,7 +160,8 @@ chain_splits identifier q i middle to x inside =
 
 -- the value of chain i in a signature
 own_value : (key : KeyParts) (message : List ℕ) (i : ℕ) → i < chain_count key.width
-    → signature_value (ots_signature key message) i ≡ chain key.identifier key.q i 0 (coef (own_signed_string key message) i (digit_bits key.width)) (chain_start key i)
+    → signature_value (ots_signature key message) i ≡ chain key.identifier key.q i 0
+    (coef (own_signed_string key message) i (digit_bits key.width)) (chain_start key i)
 unfolding own_values
 own_value key message i inside =
     let sig = ots_signature key message in
@@ -155,16 +170,20 @@ own_value key message i inside =
 
 -- the ends of its chains are the key's
 own_chain_ends : (key : KeyParts) (message : List ℕ) (n : ℕ) → n ≤ chain_count key.width
-    → chain_ends key.width key.identifier key.q (own_signed_string key message) (ots_signature key message) n ≡ chains_to key (λ i. 2 ^ digit_bits key.width - 1) n
+    → chain_ends key.width key.identifier key.q (own_signed_string key message) (ots_signature key message) n ≡ chains_to key
+    (λ i. 2 ^ digit_bits key.width - 1) n
 unfolding chain_ends chains_to
 own_chain_ends key message zero inside = refl
 own_chain_ends key message (suc n) inside =
     let last : ℕ = 2 ^ digit_bits key.width - 1 in
     let digit : ℕ = coef (own_signed_string key message) n (digit_bits key.width) in
     let value = own_value key message n (omega (arith, inside)) in
-    let end : chain key.identifier key.q n digit last (signature_value (ots_signature key message) n) ≡ chain key.identifier key.q n 0 last (chain_start key n) =
-    ap (chain key.identifier key.q n digit last) value ∙ chain_splits key.identifier key.q n digit last (chain_start key n) (digit_small key.width (own_signed_string key message) n) in
-    ap (λ (x : List ℕ). x ++ chain key.identifier key.q n digit last (signature_value (ots_signature key message) n)) (own_chain_ends key message n (omega (arith, inside)))
+    let end : chain key.identifier key.q n digit last (signature_value (ots_signature key message) n) ≡ chain key.identifier key.q n 0 last
+    (chain_start key n) =
+    ap (chain key.identifier key.q n digit last) value ∙ chain_splits key.identifier key.q n digit last (chain_start key n)
+    (digit_small key.width (own_signed_string key message) n) in
+    ap (λ (x : List ℕ). x ++ chain key.identifier key.q n digit last (signature_value (ots_signature key message) n))
+    (own_chain_ends key message n (omega (arith, inside)))
     ∙ ap (λ (x : List ℕ). chains_to key (λ i. last) n ++ x) end
 
 -- the candidate of a key's own signature is its K
@@ -173,7 +192,9 @@ pub own_candidate : (key : KeyParts) (message : List ℕ)
 unfolding own_ends
 own_candidate key message =
     let sig = ots_signature key message in
-    ap (λ (c : List ℕ). sha256 (key_string key.identifier key.q (chain_ends key.width key.identifier key.q (signed_string key.width (message_hash key.identifier key.q c message)) sig (chain_count key.width)))) (signature-laid_out key message).c_is
+    ap (λ (c : List ℕ). sha256 (key_string key.identifier key.q
+    (chain_ends key.width key.identifier key.q (signed_string key.width (message_hash key.identifier key.q c message)) sig
+    (chain_count key.width)))) (signature-laid_out key message).c_is
     ∙ ap (λ (x : List ℕ). sha256 (key_string key.identifier key.q x)) (own_chain_ends key message (chain_count key.width) (omega arith))
 
 -- the number of a type fits a word
@@ -184,13 +205,15 @@ type_number_small W4 = omega arith
 type_number_small W8 = omega arith
 
 -- a signature of the right length and type is led to its candidate
-candidate_is : (width : OtsType) (identifier : List ℕ) (q : ℕ) (message sig : List ℕ) → length sig ≡ signature_bytes width → head_word sig ≡ type_number width
+candidate_is : (width : OtsType) (identifier : List ℕ) (q : ℕ) (message sig : List ℕ) → length sig ≡ signature_bytes width
+    → head_word sig ≡ type_number width
     → candidate width identifier q message sig ≡ Ok (ots_candidate width identifier q message sig)
 candidate_is width identifier q message sig long kind = rw (eq-eqb _ _ long, eq-eqb _ _ kind) refl
 
 pub leads_to_key : LeadsToKey
 leads_to_key key message =
-    let kind = head_word-take (ots_signature key message) (type_number key.width) (type_number_small key.width) (word-ots_signature key message) in
+    let kind = head_word-take (ots_signature key message) (type_number key.width) (type_number_small key.width)
+    (word-ots_signature key message) in
     candidate_is key.width key.identifier key.q message (ots_signature key message) (length-ots_signature key message) kind
     ∙ ap (λ (k : List ℕ). ok k) (own_candidate key message)
   where

@@ -61,8 +61,10 @@ pub key_found : (b : List ℕ) (key : LmsPublic) → Some key.lms_type ≡ tree_
     → key.identifier ≡ take 16 (drop 8 b) → key.root ≡ drop 24 b
     → ◌≡◌ {A = Result LmsPublic KeyRefusal} (Ok key) (key_read b)
 key_found b key is_tree is_ots is_identifier is_root =
-    ap (λ (i : List ℕ). let r : Result LmsPublic KeyRefusal = Ok record { lms_type = key.lms_type; ots_type = key.ots_type; identifier = i; root = key.root } in r) is_identifier
-    ∙ ap (λ (i : List ℕ). let r : Result LmsPublic KeyRefusal = Ok record { lms_type = key.lms_type; ots_type = key.ots_type; identifier = take 16 (drop 8 b); root = i } in r) is_root
+    ap (λ (i : List ℕ). let r : Result LmsPublic KeyRefusal = Ok record
+    { lms_type = key.lms_type; ots_type = key.ots_type; identifier = i; root = key.root } in r) is_identifier
+    ∙ ap (λ (i : List ℕ). let r : Result LmsPublic KeyRefusal = Ok record
+    { lms_type = key.lms_type; ots_type = key.ots_type; identifier = take 16 (drop 8 b); root = i } in r) is_root
     ∙ ap (λ (x : Option LmsType). read_types x (Some key.ots_type) b) is_tree
     ∙ ap (λ (y : Option OtsType). read_types (tree_of_number (head_word b)) y b) is_ots
 
@@ -83,7 +85,8 @@ written_as_read b key whole bytes is_tree is_ots is_identifier is_root =
 -- a key is read back from its bytes
 pub read_as_written : (key : LmsPublic) → length key.identifier ≡ 16 → key_read (key_bytes key) ≡ Ok key
 read_as_written key size =
-    let parts : PartsAre (key_bytes key) (u32str (tree_number key.lms_type)) (u32str (type_number key.ots_type)) key.identifier key.root 4 16 =
+    let parts : PartsAre (key_bytes key) (u32str (tree_number key.lms_type)) (u32str (type_number key.ots_type)) key.identifier key.root 4
+    16 =
     of_four_parts (key_bytes key) _ _ _ _ 4 16 refl (length-u32str _) (length-u32str _) size in
     let first : head_word (key_bytes key) ≡ tree_number key.lms_type =
     ap head_word parts.whole

@@ -52,7 +52,8 @@ answer-busy (Blamed conviction) leaves = leaves
 answer-busy Stopped leaves = leaves
 
 -- that of an idle one tells an open round
-pub idle-tells : (taken : Taken) (ending : Ending) → IsOpen ending → (taken ≡ Evidence → ⊥) → (taken ≡ Finished → ⊥) → TellsEnding taken ending
+pub idle-tells : (taken : Taken) (ending : Ending) → IsOpen ending → (taken ≡ Evidence → ⊥) → (taken ≡ Finished → ⊥)
+    → TellsEnding taken ending
 idle-tells taken ending still nobody going = record {
   evidence = (λ e. absurd (nobody e), λ blamed. absurd (open-blamed ending still blamed));
   going = going;
@@ -64,7 +65,8 @@ pub answer-same : (c : Configuration) (a : Actor) (ending : Ending) → IsRunnin
 answer-same c a ending runs shows = by_verdict a.ending ending runs shows
   where
     by_verdict : (v : Verdict) (e : Ending) → IsRunning e
-        → ShowsOutcome e (if is_open v then Waiting a.stand.at (members_missing c a) else outcome_ended c a.stand v) → answer_behind e ≡ answer_by_end v
+        → ShowsOutcome e (if is_open v then Waiting a.stand.at (members_missing c a) else outcome_ended c a.stand v)
+        → answer_behind e ≡ answer_by_end v
     by_verdict Goes Open runs shows = refl
     by_verdict Goes (Done slots) runs shows = absurd shows
     by_verdict Goes (Blamed conviction) runs shows = absurd shows

@@ -54,9 +54,11 @@ get-none (suc n) (suc i) = get-none n i
 pub kept-empty : (shape : Shape) (slot : Slot) → kept_in (empty_log shape) slot ≡ None
 unfolding no_post
 kept-empty shape slot = elim (cases_Bool (is_slot shape slot.stage slot.sender)) [
-  | inl speaks ↦ ap (λ (b : Bool). if b then option_flatten (slice_get (replicate (slot_count shape) no_post) (slot_number shape slot.stage slot.sender)) else None) speaks
+  | inl speaks ↦ ap (λ (b : Bool). if b then option_flatten (slice_get (replicate (slot_count shape) no_post)
+      (slot_number shape slot.stage slot.sender)) else None) speaks
       ∙ get-none (slot_count shape) (slot_number shape slot.stage slot.sender)
-  | inr silent ↦ cond-false (is_slot shape slot.stage slot.sender) (option_flatten (slice_get (replicate (slot_count shape) no_post) (slot_number shape slot.stage slot.sender))) None silent
+  | inr silent ↦ cond-false (is_slot shape slot.stage slot.sender)
+      (option_flatten (slice_get (replicate (slot_count shape) no_post) (slot_number shape slot.stage slot.sender))) None silent
 ]
 
 pub empty-is-log : (shape : Shape) → IsShape shape.version shape.members → IsLog (empty_log shape)
@@ -114,7 +116,8 @@ pub record IsEntry (config : Config) (run : RunState) (log : Log) (secrets : Sec
   pub bytes : IsBytes config.message
   pub leaves_are : run.first + run.left ≤ leaves run.parts
 
-kept-none : (config : Config) (log : Log) (slot : Slot) → log ≡ empty_log (shape_of_roster (roster_of config.roster)) → kept_in log slot ≡ None
+kept-none : (config : Config) (log : Log) (slot : Slot) → log ≡ empty_log (shape_of_roster (roster_of config.roster))
+    → kept_in log slot ≡ None
 kept-none config log slot is = ap (λ (l : Log). kept_in l slot) is ∙ kept-empty (shape_of_roster (roster_of config.roster)) slot
 
 pub entered-sound : (config : Config) (run : RunState) (log : Log) (secrets : Secrets) (seat : Seat) (seen : Seen) (own : Own)
@@ -140,8 +143,10 @@ entered-sound config run log secrets seat seen own is = record {
       most = config.roster.form.most;
     }));
     shape = shape-is;
-    stand = λ stage sender post e. absurd (none-some post (sym (kept-none config log (record { stage = stage; sender = sender }) is.log_is) ∙ e));
-    short = λ stage sender post e. absurd (none-some post (sym (kept-none config log (record { stage = stage; sender = sender }) is.log_is) ∙ e));
+    stand = λ stage sender post e. absurd (none-some post (sym (kept-none config log (record { stage = stage; sender = sender }) is.log_is)
+        ∙ e));
+    short = λ stage sender post e. absurd (none-some post (sym (kept-none config log (record { stage = stage; sender = sender }) is.log_is)
+        ∙ e));
     leaves = (let left = is.left in omega (arith, left));
     handed = omega arith;
     stray = tt;

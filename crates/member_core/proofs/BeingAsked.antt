@@ -29,13 +29,15 @@ asked-other stage other apart = less stage other apart
 pub asked-here : (stage : ℕ) → was_asked stage Spoken stage ≡ true
 asked-here stage = search rules
 
-pub asked-same : (m : Machine) (other : ℕ) → IsToBeAsked m → (other ≡ m.stage → ⊥) → was_asked m.stage Spoken other ≡ was_asked m.stage m.mood other
+pub asked-same : (m : Machine) (other : ℕ) → IsToBeAsked m → (other ≡ m.stage → ⊥)
+    → was_asked m.stage Spoken other ≡ was_asked m.stage m.mood other
 asked-same m other asked apart = asked-other m.stage other apart ∙ ap (λ (mood : Mood). was_asked m.stage mood other) (sym asked.unasked)
 
 -- ---- its secrets
 
 -- so what other stages take is needed as before
-pub needs-other : (m : Machine) (stage : ℕ) → IsToBeAsked m → (stage ≡ m.stage → ⊥) → needs (asked_at (holdings_of m) Spoken) stage ≡ needs (holdings_of m) stage
+pub needs-other : (m : Machine) (stage : ℕ) → IsToBeAsked m → (stage ≡ m.stage → ⊥)
+    → needs (asked_at (holdings_of m) Spoken) stage ≡ needs (holdings_of m) stage
 needs-other m stage asked apart =
     ap (λ (b : Bool). is_going m.ending && (not false && not b)) (asked-same m stage asked apart)
     ∙ ap (λ (mood : Mood). is_going m.ending && (not (is_mute mood) && not (was_asked m.stage m.mood stage))) (sym asked.unasked)
@@ -50,7 +52,8 @@ needs-no_more m = ap (λ (b : Bool). is_going m.ending && (not false && not b)) 
 
 -- where no secret is taken, the same secrets are needed
 pub needed-asked : (m : Machine) (own : Own) → IsToBeAsked m → HoldsNeeded (holdings_of m) → (final_stage m.log.shape 1 ≡ m.stage → ⊥)
-    → (submit_stage m.log.shape 2 ≡ m.stage → ⊥) → (final_stage m.log.shape 2 ≡ m.stage → ⊥) → HoldsNeeded (asked_at (holdings_of (record m { own = own })) Spoken)
+    → (submit_stage m.log.shape 2 ≡ m.stage → ⊥) → (final_stage m.log.shape 2 ≡ m.stage → ⊥)
+    → HoldsNeeded (asked_at (holdings_of (record m { own = own })) Spoken)
 needed-asked m own asked needed first bulk second = record {
   first = needed.first ∙ sym (needs-other m (final_stage m.log.shape 1) asked first);
   bulk = needed.bulk ∙ sym (needs-other m (submit_stage m.log.shape 2) asked bulk);
@@ -67,7 +70,8 @@ needed-bulk m own asked needed at = record {
 }
 
 -- and those of a shuffle
-pub needed-shuffle : (m : Machine) (shuffle : ℕ) → IsToBeAsked m → HoldsNeeded (holdings_of m) → 1 ≤ shuffle → shuffle ≤ 2 → m.stage ≡ final_stage m.log.shape shuffle
+pub needed-shuffle : (m : Machine) (shuffle : ℕ) → IsToBeAsked m → HoldsNeeded (holdings_of m) → 1 ≤ shuffle → shuffle ≤ 2
+    → m.stage ≡ final_stage m.log.shape shuffle
     → HoldsNeeded (asked_at (holdings_of (record m { secrets = without_shuffle m.secrets shuffle })) Spoken)
 needed-shuffle m shuffle asked needed first last at = elim (cases_eq shuffle 1) [
   | inl one ↦
@@ -83,7 +87,8 @@ needed-shuffle m shuffle asked needed first last at = elim (cases_eq shuffle 1) 
       let two : shuffle ≡ 2 = omega arith in
       let here : m.stage ≡ final_stage m.log.shape 2 = at ∙ ap (final_stage m.log.shape) two in
       subst (λ (s : Secrets). HoldsNeeded (asked_at (holdings_of (record m { secrets = s })) Spoken))
-      (sym (cond-false (shuffle == 1) (record m.secrets { first = None }) (record m.secrets { second = None }) (ap (λ (s : ℕ). s == 1) two)))
+      (sym (cond-false (shuffle == 1) (record m.secrets { first = None }) (record m.secrets { second = None })
+      (ap (λ (s : ℕ). s == 1) two)))
       (record {
         first = needed.first ∙ sym (needs-other m (final_stage m.log.shape 1) asked (λ e. omega (arith, e, here)));
         bulk = needed.bulk ∙ sym (needs-other m (submit_stage m.log.shape 2) asked (λ e. omega (arith, e, here)));
@@ -95,7 +100,8 @@ needed-shuffle m shuffle asked needed first last at = elim (cases_eq shuffle 1) 
 pub secrets-bulk : (c : Configuration) (secrets : Secrets) → AreSecretsOf c secrets → AreSecretsOf c (without_bulk secrets)
 secrets-bulk c secrets are = record { first = are.first; bulk = tt; second = are.second }
 
-pub secrets-shuffle : (c : Configuration) (secrets : Secrets) (shuffle : ℕ) → AreSecretsOf c secrets → AreSecretsOf c (without_shuffle secrets shuffle)
+pub secrets-shuffle : (c : Configuration) (secrets : Secrets) (shuffle : ℕ) → AreSecretsOf c secrets
+    → AreSecretsOf c (without_shuffle secrets shuffle)
 secrets-shuffle c secrets shuffle are = by_case (shuffle == 1)
   where
     by_case : (b : Bool) → AreSecretsOf c (if b then record secrets { first = None } else record secrets { second = None })
@@ -105,8 +111,10 @@ secrets-shuffle c secrets shuffle are = by_case (shuffle == 1)
 -- ---- where it stands
 
 -- with other secrets and other of its own, as one that was asked
-pub asked-with : (now after start : Replies) (c : Configuration) (a : Actor) (m : Machine) (secrets : Secrets) (own : Own) → StandsFor now start c a (holdings_of m) → AreSecretsOf c secrets
-    → AnswersBy after start c (past_of m.log 1) (was_asked m.stage Spoken 1) → IsOwnOf start c (asked_at (holdings_of (record m { secrets = secrets; own = own })) Spoken)
+pub asked-with : (now after start : Replies) (c : Configuration) (a : Actor) (m : Machine) (secrets : Secrets) (own : Own)
+    → StandsFor now start c a (holdings_of m) → AreSecretsOf c secrets
+    → AnswersBy after start c (past_of m.log 1) (was_asked m.stage Spoken 1)
+    → IsOwnOf start c (asked_at (holdings_of (record m { secrets = secrets; own = own })) Spoken)
     → StandsAsked after start c a (holdings_of (record m { secrets = secrets; own = own }))
 asked-with now after start c a m secrets own stands are answers keeps = record {
   can_enter = stands.can_enter;
@@ -132,14 +140,17 @@ asked-with now after start c a m secrets own stands are answers keeps = record {
 }
 
 -- its conduct goes on as it did where it was not asked about the descriptor just now
-pub goes-on_as : (now start : Replies) (c : Configuration) (a : Actor) (m : Machine) → IsToBeAsked m → StandsFor now start c a (holdings_of m) → (1 ≡ m.stage → ⊥)
+pub goes-on_as : (now start : Replies) (c : Configuration) (a : Actor) (m : Machine) → IsToBeAsked m
+    → StandsFor now start c a (holdings_of m) → (1 ≡ m.stage → ⊥)
     → AnswersBy now start c (past_of m.log 1) (was_asked m.stage Spoken 1)
 goes-on_as now start c a m asked stands apart =
-    let before : AnswersBy now start c (past_of m.log 1) (was_asked m.stage m.mood 1) = subst (GoesOn now start c (holdings_of m)) asked.unasked stands.conduct in
+    let before : AnswersBy now start c (past_of m.log 1) (was_asked m.stage m.mood 1) = subst (GoesOn now start c (holdings_of m))
+    asked.unasked stands.conduct in
     subst (AnswersBy now start c (past_of m.log 1)) (sym (asked-same m 1 asked apart)) before
 
 -- and what it made of its own is the same where it is not asked at a stage of submissions
-pub own-asked : (now start : Replies) (c : Configuration) (a : Actor) (m : Machine) (secrets : Secrets) → IsToBeAsked m → StandsFor now start c a (holdings_of m) → (1 ≡ m.stage → ⊥)
+pub own-asked : (now start : Replies) (c : Configuration) (a : Actor) (m : Machine) (secrets : Secrets) → IsToBeAsked m
+    → StandsFor now start c a (holdings_of m) → (1 ≡ m.stage → ⊥)
     → (submit_stage m.log.shape 2 ≡ m.stage → ⊥) → IsOwnOf start c (asked_at (holdings_of (record m { secrets = secrets })) Spoken)
 own-asked now start c a m secrets asked stands apart_a apart_b =
     let own : IsOwnOf start c (holdings_of m) = subst (KeepsOwn start c (holdings_of m)) asked.unasked stands.own in

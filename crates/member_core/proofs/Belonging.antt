@@ -75,7 +75,8 @@ of-group m formed =
     }
 
 -- with other secrets and with other that it made of its own
-pub formed-with : (m : Machine) (secrets : Secrets) (own : Own) → IsFormed m → (c : Configuration) × IsMachineOf c (record m { secrets = secrets; own = own })
+pub formed-with : (m : Machine) (secrets : Secrets) (own : Own) → IsFormed m → (c : Configuration)
+    × IsMachineOf c (record m { secrets = secrets; own = own })
     → IsFormed (record m { secrets = secrets; own = own })
 formed-with m secrets own formed entered = record {
   entered = entered;
@@ -104,15 +105,18 @@ pub held-is : {A : Type 0} (o : Option A) (x : A) (P : A → Type 0) → o ≡ S
 held-is o x P is all = subst (λ (q : Option _). IfSome q P) is all
 
 -- those of a shuffle that it holds
-pub secrets-for : (c : Configuration) (secrets : Secrets) (shuffle : ℕ) (held : ShuffleSecrets) → AreSecretsOf c secrets → 1 ≤ shuffle → shuffle ≤ 2
+pub secrets-for : (c : Configuration) (secrets : Secrets) (shuffle : ℕ) (held : ShuffleSecrets) → AreSecretsOf c secrets → 1 ≤ shuffle
+    → shuffle ≤ 2
     → shuffle_secrets secrets shuffle ≡ Some held → AreShuffleSecrets c shuffle held
 secrets-for c secrets shuffle held are first last is = elim (cases_eq shuffle 1) [
   | inl a ↦
-      let one : shuffle_secrets secrets shuffle ≡ secrets.first = cond-true (shuffle == 1) secrets.first secrets.second (eq-eqb shuffle 1 a) in
+      let one : shuffle_secrets secrets shuffle ≡ secrets.first = cond-true (shuffle == 1) secrets.first secrets.second (eq-eqb shuffle 1 a)
+      in
       subst (λ (s : ℕ). AreShuffleSecrets c s held) (sym a) (held-is secrets.first held (AreShuffleSecrets c 1) (sym one ∙ is) are.first)
   | inr other ↦
       let b : shuffle ≡ 2 = omega arith in
-      let two : shuffle_secrets secrets shuffle ≡ secrets.second = cond-false (shuffle == 1) secrets.first secrets.second (ap (λ (s : ℕ). s == 1) b) in
+      let two : shuffle_secrets secrets shuffle ≡ secrets.second = cond-false (shuffle == 1) secrets.first secrets.second
+      (ap (λ (s : ℕ). s == 1) b) in
       subst (λ (s : ℕ). AreShuffleSecrets c s held) (sym b) (held-is secrets.second held (AreShuffleSecrets c 2) (sym two ∙ is) are.second)
 ]
 
@@ -136,7 +140,8 @@ not-less a b le = search rules
 -- a member that was not asked yet needs the secrets that a stage takes which is not before its own
 pub needs-here : (m : Machine) (stage : ℕ) → IsToBeAsked m → m.stage ≤ stage → needs (holdings_of m) stage ≡ true
 needs-here m stage asked le =
-    both-are (is_going m.ending) (is_mute m.mood) (was_asked m.stage m.mood stage) (going-is m.ending asked.going) (ap is_mute asked.unasked)
+    both-are (is_going m.ending) (is_mute m.mood) (was_asked m.stage m.mood stage) (going-is m.ending asked.going)
+    (ap is_mute asked.unasked)
     (ap (λ (mood : Mood). was_asked m.stage mood stage) asked.unasked ∙ not-less stage m.stage le)
 
 pub some-held : {A : Type 0} (o : Option A) → is_some o ≡ true → IsSome o
@@ -150,17 +155,21 @@ holds-first m needed asked le = some-held m.secrets.first (needed.first ∙ need
 pub holds-bulk : (m : Machine) → HoldsNeeded (holdings_of m) → IsToBeAsked m → m.stage ≤ submit_stage m.log.shape 2 → IsSome m.secrets.bulk
 holds-bulk m needed asked le = some-held m.secrets.bulk (needed.bulk ∙ needs-here m (submit_stage m.log.shape 2) asked le)
 
-pub holds-second : (m : Machine) → HoldsNeeded (holdings_of m) → IsToBeAsked m → m.stage ≤ final_stage m.log.shape 2 → IsSome m.secrets.second
+pub holds-second : (m : Machine) → HoldsNeeded (holdings_of m) → IsToBeAsked m → m.stage ≤ final_stage m.log.shape 2
+    → IsSome m.secrets.second
 holds-second m needed asked le = some-held m.secrets.second (needed.second ∙ needs-here m (final_stage m.log.shape 2) asked le)
 
 -- those of a shuffle, up to its end
-pub holds-shuffle : (m : Machine) (shuffle : ℕ) → HoldsNeeded (holdings_of m) → IsToBeAsked m → 1 ≤ shuffle → shuffle ≤ 2 → m.stage ≤ final_stage m.log.shape shuffle
+pub holds-shuffle : (m : Machine) (shuffle : ℕ) → HoldsNeeded (holdings_of m) → IsToBeAsked m → 1 ≤ shuffle → shuffle ≤ 2
+    → m.stage ≤ final_stage m.log.shape shuffle
     → IsSome (shuffle_secrets m.secrets shuffle)
 holds-shuffle m shuffle needed asked first last le = elim (cases_eq shuffle 1) [
-  | inl a ↦ subst (λ (s : ℕ). IsSome (shuffle_secrets m.secrets s)) (sym a) (holds-first m needed asked (omega (arith, le, ap (final_stage m.log.shape) a)))
+  | inl a ↦ subst (λ (s : ℕ). IsSome (shuffle_secrets m.secrets s)) (sym a)
+      (holds-first m needed asked (omega (arith, le, ap (final_stage m.log.shape) a)))
   | inr other ↦
       let b : shuffle ≡ 2 = omega arith in
-      subst (λ (s : ℕ). IsSome (shuffle_secrets m.secrets s)) (sym b) (holds-second m needed asked (omega (arith, le, ap (final_stage m.log.shape) b)))
+      subst (λ (s : ℕ). IsSome (shuffle_secrets m.secrets s)) (sym b)
+      (holds-second m needed asked (omega (arith, le, ap (final_stage m.log.shape) b)))
 ]
 
 -- what is there is not missing
@@ -181,10 +190,12 @@ pub past-is : (log : Log) (stage : ℕ) (posts : List Post) → before log stage
 past-is log stage posts is = ap (λ (o : Option (List Post)). contents_of (unwrap_or o [])) is
 
 -- the keys that were read behind the first stage are those of each later one
-pub keys-here : (log : Log) (stage : ℕ) (keys : GroupKeys) → AreKeysOf log keys → 1 ≤ stage → IsSome (before log stage) → AreGroupKeys log.shape (past_of log stage) keys
+pub keys-here : (log : Log) (stage : ℕ) (keys : GroupKeys) → AreKeysOf log keys → 1 ≤ stage → IsSome (before log stage)
+    → AreGroupKeys log.shape (past_of log stage) keys
 keys-here log stage keys are least complete =
     let reached : AreReached log 1 stage = record { order = least; at = reaches log 1 stage least complete; at_later = complete } in
-    let same : (place : ℕ) → keys_said log.shape (past_of log 1) place ≡ keys_said log.shape (past_of log stage) place = λ place. keys_stay log 1 stage place reached (omega arith) in
+    let same : (place : ℕ) → keys_said log.shape (past_of log 1) place ≡ keys_said log.shape (past_of log stage) place = λ place. keys_stay
+    log 1 stage place reached (omega arith) in
     record {
       first = record { inner = are.said.first.inner ∙ same (inner_place 1); outer = are.said.first.outer ∙ same (outer_place 1) };
       bulk = are.said.bulk ∙ same bulk_place;
@@ -194,32 +205,38 @@ keys-here log stage keys are least complete =
 -- ---- what it carries
 
 -- the items that it carries
-pub carried-items : {A : Type 0} (log : Log) (stage : ℕ) (f : A → List (Option (List ℕ))) (o : Option A) (x : A) → o ≡ Some x → CarriesOpened log stage (option_map f o) → AreItemsOf log (f x)
+pub carried-items : {A : Type 0} (log : Log) (stage : ℕ) (f : A → List (Option (List ℕ))) (o : Option A) (x : A) → o ≡ Some x
+    → CarriesOpened log stage (option_map f o) → AreItemsOf log (f x)
 carried-items log stage f o x is carries = subst (λ (q : Option _). CarriesOpened log stage (option_map f q)) is carries
 
 -- where it carries none, the end of shuffle A is not behind it
-pub carries-late : {A : Type 0} (log : Log) (stage : ℕ) (f : A → List (Option (List ℕ))) (o : Option A) → o ≡ None → CarriesOpened log stage (option_map f o) → stage + 1 ≤ stage_opened log
+pub carries-late : {A : Type 0} (log : Log) (stage : ℕ) (f : A → List (Option (List ℕ))) (o : Option A) → o ≡ None
+    → CarriesOpened log stage (option_map f o) → stage + 1 ≤ stage_opened log
 carries-late log stage f o is carries = subst (λ (q : Option _). CarriesOpened log stage (option_map f q)) is carries
 
 -- the keys that it carries, and that it does where the first stage is behind it
-pub carried-keys : (log : Log) (stage : ℕ) (o : Option GroupKeys) (keys : GroupKeys) → o ≡ Some keys → CarriesKeys log stage o → AreKeysOf log keys
+pub carried-keys : (log : Log) (stage : ℕ) (o : Option GroupKeys) (keys : GroupKeys) → o ≡ Some keys → CarriesKeys log stage o
+    → AreKeysOf log keys
 carried-keys log stage o keys is carries = subst (CarriesKeys log stage) is carries
 
 pub carries-first : (log : Log) (stage : ℕ) (o : Option GroupKeys) → o ≡ None → CarriesKeys log stage o → stage ≡ 0
 carries-first log stage o is carries = subst (CarriesKeys log stage) is carries
 
 -- the slots that it carries, and that it does where the checks are behind it
-pub carried-slots : (log : Log) (stage : ℕ) (o : Option Slots) (slots : Slots) → o ≡ Some slots → CarriesSlots log stage o → AreSlotsOf log slots
+pub carried-slots : (log : Log) (stage : ℕ) (o : Option Slots) (slots : Slots) → o ≡ Some slots → CarriesSlots log stage o
+    → AreSlotsOf log slots
 carried-slots log stage o slots is carries = subst (CarriesSlots log stage) is carries
 
 pub slots-late : (log : Log) (stage : ℕ) (o : Option Slots) → o ≡ None → CarriesSlots log stage o → stage + 1 ≤ stage_found log
 slots-late log stage o is carries = subst (CarriesSlots log stage) is carries
 
 -- the keys of a shuffle are those of the shape of a member's round
-pub shuffle-keys : (c : Configuration) (m : Machine) (past : List (List ℕ)) (shuffle number : ℕ) (keys : ShuffleKeys) → IsFormed m → IsSeatOf c m.seat → number ≡ shuffle
+pub shuffle-keys : (c : Configuration) (m : Machine) (past : List (List ℕ)) (shuffle number : ℕ) (keys : ShuffleKeys) → IsFormed m
+    → IsSeatOf c m.seat → number ≡ shuffle
     → AreShuffleKeys m.log.shape past number keys → AreShuffleKeys (shape_in c) past shuffle keys
 shuffle-keys c m past shuffle number keys formed seat same are =
-    subst (λ (s : ℕ). AreShuffleKeys (shape_in c) past s keys) same (subst (λ (s : Shape). AreShuffleKeys s past number keys) (shape-is c m formed seat) are)
+    subst (λ (s : ℕ). AreShuffleKeys (shape_in c) past s keys) same
+    (subst (λ (s : Shape). AreShuffleKeys s past number keys) (shape-is c m formed seat) are)
 
 -- there is a seed of a pad for each member
 pub seeds-count : (m : Machine) (bulk : BulkSecrets) → IsFormed m → m.secrets.bulk ≡ Some bulk → length bulk.pad_seeds ≡ m.log.shape.members

@@ -42,7 +42,8 @@ heard_so c header post = record { header = header; post = post; content = conten
 -- ---- answers
 
 by-end : (replies : Replies) (c : Configuration) (a : Actor) (bytes : List ℕ) → is_open a.ending ≡ true
-    → answer_to replies c a bytes ≡ unwrap_or (idle_answer c a.log (admission_of_bytes c.roster c.round bytes)) (answer_by_end (actor_behind_delivery replies c a bytes).ending)
+    → answer_to replies c a bytes ≡ unwrap_or (idle_answer c a.log (admission_of_bytes c.roster c.round bytes))
+    (answer_by_end (actor_behind_delivery replies c a bytes).ending)
 unfolding answer_to
 by-end replies c a bytes still = cond-true (is_open a.ending) _ Finished still
 
@@ -51,26 +52,30 @@ idle : (replies : Replies) (c : Configuration) (a : Actor) (bytes : List ℕ) (r
     → answer_to replies c a bytes ≡ taken
 idle replies c a bytes r taken still admits told =
     by-end replies c a bytes still
-    ∙ ap (λ (o : Option Taken). unwrap_or o (answer_by_end (actor_behind_delivery replies c a bytes).ending)) (ap (idle_answer c a.log) admits ∙ told)
+    ∙ ap (λ (o : Option Taken). unwrap_or o (answer_by_end (actor_behind_delivery replies c a bytes).ending))
+    (ap (idle_answer c a.log) admits ∙ told)
 
 busy : (replies : Replies) (c : Configuration) (a : Actor) (bytes : List ℕ) (b : Actor) (r : Result (Header × List ℕ) PostRefusal)
     → is_open a.ending ≡ true → admission_of_bytes c.roster c.round bytes ≡ r → idle_answer c a.log r ≡ None
     → actor_behind_delivery replies c a bytes ≡ b → answer_to replies c a bytes ≡ answer_by_end b.ending
 busy replies c a bytes b r still admits told behind =
     by-end replies c a bytes still
-    ∙ ap (λ (o : Option Taken). unwrap_or o (answer_by_end (actor_behind_delivery replies c a bytes).ending)) (ap (idle_answer c a.log) admits ∙ told)
+    ∙ ap (λ (o : Option Taken). unwrap_or o (answer_by_end (actor_behind_delivery replies c a bytes).ending))
+    (ap (idle_answer c a.log) admits ∙ told)
     ∙ ap (λ (x : Actor). answer_by_end x.ending) behind
 
 -- ---- deliveries that change nothing
 
-pub ended-comes : (replies : Replies) (c : Configuration) (a : Actor) (bytes : List ℕ) → is_open a.ending ≡ false → ComesTo replies c a bytes a Finished
+pub ended-comes : (replies : Replies) (c : Configuration) (a : Actor) (bytes : List ℕ) → is_open a.ending ≡ false
+    → ComesTo replies c a bytes a Finished
 unfolding answer_to
 ended-comes replies c a bytes ended = record {
   behind = ended-delivery replies c a bytes ended;
   answer = cond-false (is_open a.ending) _ Finished ended;
 }
 
-pub unframed-comes : (replies : Replies) (c : Configuration) (a : Actor) (bytes : List ℕ) (at : ℕ) → is_open a.ending ≡ true → frame_of bytes ≡ Err at
+pub unframed-comes : (replies : Replies) (c : Configuration) (a : Actor) (bytes : List ℕ) (at : ℕ) → is_open a.ending ≡ true
+    → frame_of bytes ≡ Err at
     → ComesTo replies c a bytes a (Ignored (Frame at))
 unfolding heard_of
 unframed-comes replies c a bytes at still e = record {
@@ -78,7 +83,8 @@ unframed-comes replies c a bytes at still e = record {
   answer = idle replies c a bytes (Err (Frame at)) (Ignored (Frame at)) still (rw e refl) refl;
 }
 
-pub refused-comes : (replies : Replies) (c : Configuration) (a : Actor) (bytes : List ℕ) (post : Post) (refusal : PostRefusal) → is_open a.ending ≡ true
+pub refused-comes : (replies : Replies) (c : Configuration) (a : Actor) (bytes : List ℕ) (post : Post) (refusal : PostRefusal)
+    → is_open a.ending ≡ true
     → frame_of bytes ≡ Ok post → framed_admission_of c.roster c.round post ≡ Err refusal → ComesTo replies c a bytes a (Ignored refusal)
 unfolding heard_of
 refused-comes replies c a bytes post refusal still spelled e = record {
@@ -87,19 +93,24 @@ refused-comes replies c a bytes post refusal still spelled e = record {
 }
 
 -- the checks pass a post, whoever made it
-admits : (c : Configuration) (bytes : List ℕ) (post : Post) (header : Header) → frame_of bytes ≡ Ok post → framed_admission_of c.roster c.round post ≡ Ok header
+admits : (c : Configuration) (bytes : List ℕ) (post : Post) (header : Header) → frame_of bytes ≡ Ok post
+    → framed_admission_of c.roster c.round post ≡ Ok header
     → admission_of_bytes c.roster c.round bytes ≡ Ok (header, post.content)
 admits c bytes post header spelled e = rw (spelled, e) refl
 
-hears : (c : Configuration) (bytes : List ℕ) (post : Post) (header : Header) → frame_of bytes ≡ Ok post → framed_admission_of c.roster c.round post ≡ Ok header
+hears : (c : Configuration) (bytes : List ℕ) (post : Post) (header : Header) → frame_of bytes ≡ Ok post
+    → framed_admission_of c.roster c.round post ≡ Ok header
     → heard_of c bytes ≡ heard_with c post header
 unfolding heard_of
 hears c bytes post header spelled e = rw (spelled, e) refl
 
-pub own-comes : (replies : Replies) (c : Configuration) (a : Actor) (bytes : List ℕ) (post : Post) (header : Header) → is_open a.ending ≡ true
-    → frame_of bytes ≡ Ok post → framed_admission_of c.roster c.round post ≡ Ok header → (header.sender == c.number) ≡ true → ComesTo replies c a bytes a Own
+pub own-comes : (replies : Replies) (c : Configuration) (a : Actor) (bytes : List ℕ) (post : Post) (header : Header)
+    → is_open a.ending ≡ true
+    → frame_of bytes ≡ Ok post → framed_admission_of c.roster c.round post ≡ Ok header → (header.sender == c.number) ≡ true
+    → ComesTo replies c a bytes a Own
 own-comes replies c a bytes post header still spelled e own = record {
-  behind = nothing-delivered replies c a bytes still (hears c bytes post header spelled e ∙ cond-true (header.sender == c.number) None _ own);
+  behind = nothing-delivered replies c a bytes still (hears c bytes post header spelled e
+      ∙ cond-true (header.sender == c.number) None _ own);
   answer = idle replies c a bytes (Ok (header, post.content)) Own still (admits c bytes post header spelled e)
       (cond-true (header.sender == c.number) (Some Own) _ own);
 }
@@ -118,7 +129,8 @@ new-idle c a header post other apart = cond-false (header.sender == c.number) (S
 
 -- where a fault is shown, it ends the round
 fault-comes : (replies : Replies) (c : Configuration) (a : Actor) (bytes : List ℕ) (header : Header) (post : Post) (verdict : Verdict)
-    → is_open a.ending ≡ true → IsOfAnother c.roster c.round c.number bytes header post → is_content post.content (kept_in a.log (slot_named header)) ≡ false
+    → is_open a.ending ≡ true → IsOfAnother c.roster c.round c.number bytes header post
+    → is_content post.content (kept_in a.log (slot_named header)) ≡ false
     → fault_shown c (kept_in a.log) bytes ≡ Some verdict → answer_by_end verdict ≡ Evidence
     → ComesTo replies c a bytes (record a { ending = verdict }) Evidence
 fault-comes replies c a bytes header post verdict still is apart shown told =
@@ -186,9 +198,11 @@ body-outside shape o content e = elim (cases_Bool (is_ok (content_read (shape) c
     by_slot None f = absurd cc
     by_slot (Some kept) f = absurd cc
 
-pub same-comes : (replies : Replies) (c : Configuration) (a : Actor) (bytes : List ℕ) (header : Header) (post : Post) → is_open a.ending ≡ true
+pub same-comes : (replies : Replies) (c : Configuration) (a : Actor) (bytes : List ℕ) (header : Header) (post : Post)
+    → is_open a.ending ≡ true
     → (LeavesAll (answer_to replies c a bytes) → actor_behind_delivery replies c a bytes ≡ a)
-    → IsOfAnother c.roster c.round c.number bytes header post → found_of (shape_in c) (kept_in a.log (slot_named header)) post.content ≡ Kept
+    → IsOfAnother c.roster c.round c.number bytes header post → found_of (shape_in c) (kept_in a.log (slot_named header)) post.content ≡
+    Kept
     → ComesTo replies c a bytes a Same
 same-comes replies c a bytes header post still steady is found =
     let same = found-kept (shape_in c) (kept_in a.log (slot_named header)) post.content found in
@@ -197,8 +211,10 @@ same-comes replies c a bytes header post still steady is found =
     ∙ cond-true (is_content post.content (kept_in a.log (slot_named header))) (Some Same) None same) in
     record { behind = steady (subst LeavesAll (sym told) tt); answer = told }
 
-pub malformed-comes : (replies : Replies) (c : Configuration) (a : Actor) (bytes : List ℕ) (header : Header) (post : Post) → is_open a.ending ≡ true
-    → IsOfAnother c.roster c.round c.number bytes header post → found_of (shape_in c) (kept_in a.log (slot_named header)) post.content ≡ Malformed
+pub malformed-comes : (replies : Replies) (c : Configuration) (a : Actor) (bytes : List ℕ) (header : Header) (post : Post)
+    → is_open a.ending ≡ true
+    → IsOfAnother c.roster c.round c.number bytes header post → found_of (shape_in c) (kept_in a.log (slot_named header)) post.content ≡
+    Malformed
     → ComesTo replies c a bytes (record a { ending = conviction c.round header.sender Outside (bytes ∷ []) }) Evidence
 malformed-comes replies c a bytes header post still is found =
     let at = not-kept (shape_in c) (kept_in a.log (slot_named header)) post.content Malformed found (λ e. cc) in
@@ -208,10 +224,12 @@ malformed-comes replies c a bytes header post still is found =
     (fault-of c (kept_in a.log) bytes (Some (heard_so c header post)) (heard-so c bytes header post is)
     ∙ first_some-some verdict _ _ (cond-false (is_ok (content_read (shape_in c) post.content)) None (Some verdict) outside)) refl
 
-pub other-comes : (replies : Replies) (c : Configuration) (a : Actor) (bytes : List ℕ) (header : Header) (post first : Post) → is_open a.ending ≡ true
+pub other-comes : (replies : Replies) (c : Configuration) (a : Actor) (bytes : List ℕ) (header : Header) (post first : Post)
+    → is_open a.ending ≡ true
     → IsOfAnother c.roster c.round c.number bytes header post → kept_in a.log (slot_named header) ≡ Some first
     → found_of (shape_in c) (kept_in a.log (slot_named header)) post.content ≡ Other
-    → ComesTo replies c a bytes (record a { ending = conviction c.round header.sender Equivocation (post_spelling first ∷ bytes ∷ []) }) Evidence
+    → ComesTo replies c a bytes (record a { ending = conviction c.round header.sender Equivocation (post_spelling first ∷ bytes ∷ []) })
+    Evidence
 other-comes replies c a bytes header post first still is there found =
     let at = not-kept (shape_in c) (kept_in a.log (slot_named header)) post.content Other found (λ e. cc) in
     let reads = body-reads (shape_in c) (kept_in a.log (slot_named header)) post.content Other at.body (λ e. cc) in
@@ -239,7 +257,8 @@ found-new shape o content found =
     by_slot (Some kept) f = absurd cc
 
 -- the slot of another content keeps a post
-pub found-other : (shape : Shape) (o : Option Post) (content : List ℕ) → found_of shape o content ≡ Other → (first : Post) × (o ≡ Some first)
+pub found-other : (shape : Shape) (o : Option Post) (content : List ℕ) → found_of shape o content ≡ Other → (first : Post)
+    × (o ≡ Some first)
 found-other shape o content found =
     let at = not-kept shape o content Other found (λ e. cc) in
     by_slot o (body-reads shape o content Other at.body (λ e. cc)).1
@@ -248,7 +267,8 @@ found-other shape o content found =
     by_slot (Some kept) f = (kept, refl)
     by_slot None f = absurd cc
 
-pub new-comes : (replies : Replies) (c : Configuration) (a : Actor) (bytes : List ℕ) (header : Header) (post : Post) → is_open a.ending ≡ true
+pub new-comes : (replies : Replies) (c : Configuration) (a : Actor) (bytes : List ℕ) (header : Header) (post : Post)
+    → is_open a.ending ≡ true
     → IsOfAnother c.roster c.round c.number bytes header post → found_of (shape_in c) (kept_in a.log (slot_named header)) post.content ≡ New
     → let b = actor_behind_steps replies c (actor_behind_repeat replies c (actor_with_heard a (heard_so c header post)) a.mood) in
     ComesTo replies c a bytes b (answer_by_end b.ending)

@@ -27,7 +27,8 @@ use Rattle.member_core.specs.Stands.{ShowsOutcome, Stands, StandsFor}
 
 -- ---- what has ended the round
 
-pub has-ended : (ending : Ending) → ((slots : List SlotState) × (ending ≡ Done slots)) ⊎ ((conviction : Conviction) × (ending ≡ Blamed conviction))
+pub has-ended : (ending : Ending) → ((slots : List SlotState) × (ending ≡ Done slots))
+    ⊎ ((conviction : Conviction) × (ending ≡ Blamed conviction))
     → HasEnded ending
 has-ended ending (inl done) = subst HasEnded (sym done.1) tt
 has-ended ending (inr blamed) = subst HasEnded (sym blamed.1) tt
@@ -73,7 +74,8 @@ closed-by (Blamed conviction) c a Goes is shows = absurd shows
 closed-by Stopped c a Goes is shows = absurd is
 
 -- where it has ended, so has that of the pure machine
-pub ended-closed : {A : Type 0} (replies_of : A → Replies) (start : Replies) (c : Configuration) (delivered : List (List ℕ)) (m : Membership A)
+pub ended-closed : {A : Type 0} (replies_of : A → Replies) (start : Replies) (c : Configuration) (delivered : List (List ℕ))
+    (m : Membership A)
     → Stands replies_of start c delivered m → HasEnded m.holds.ending → is_open (actor_after start c delivered).ending ≡ false
 ended-closed replies_of start c delivered m stands is =
     closed-by m.holds.ending c (actor_after start c delivered) (actor_after start c delivered).ending is stands.stands.at.ending
@@ -84,7 +86,8 @@ stopped-shows (BlamedBy transcript) shows = shows
 stopped-shows (DoneWith states) shows = shows
 
 -- a member that is stopped stands for nothing
-pub stopped-stands : {A : Type 0} (replies_of : A → Replies) (start : Replies) (c : Configuration) (delivered : List (List ℕ)) (m : Membership A)
+pub stopped-stands : {A : Type 0} (replies_of : A → Replies) (start : Replies) (c : Configuration) (delivered : List (List ℕ))
+    (m : Membership A)
     → Stands replies_of start c delivered m → IsOutOfMemory m.holds.ending → ⊥
 stopped-stands replies_of start c delivered m stands is = by_ending m.holds.ending is stands.stands.at.ending
   where
@@ -109,19 +112,23 @@ more-bytes : (delivered : List (List ℕ)) (bytes : List ℕ) → All IsBytes de
 more-bytes delivered bytes all are = All-append IsBytes delivered (bytes ∷ []) all (one-bytes bytes are)
 
 -- behind a delivery that was taken a member stands for the deliveries with this one
-pub taken-stands : {A : Type 0} (replies_of : A → Replies) (start : Replies) (c : Configuration) (delivered : List (List ℕ)) (bytes : List ℕ)
+pub taken-stands : {A : Type 0} (replies_of : A → Replies) (start : Replies) (c : Configuration) (delivered : List (List ℕ))
+    (bytes : List ℕ)
     (taken : Taken) (new : Membership A)
     → All IsBytes delivered → IsBytes bytes → TakesAs (replies_of new.conduct) start c delivered bytes new.holds taken
     → Stands replies_of start c (delivered ++ bytes ∷ []) new
 taken-stands replies_of start c delivered bytes taken new all are takes = record {
   strings = more-bytes delivered bytes all are;
-  stands = subst (λ (a : Actor). StandsFor (replies_of new.conduct) start c a new.holds) (sym (one-more start c delivered bytes)) takes.stands;
+  stands = subst (λ (a : Actor). StandsFor (replies_of new.conduct) start c a new.holds) (sym (one-more start c delivered bytes))
+      takes.stands;
 }
 
 -- and so it does where its round had ended, which changes nothing
-pub ended-stands : {A : Type 0} (replies_of : A → Replies) (start : Replies) (c : Configuration) (delivered : List (List ℕ)) (bytes : List ℕ)
+pub ended-stands : {A : Type 0} (replies_of : A → Replies) (start : Replies) (c : Configuration) (delivered : List (List ℕ))
+    (bytes : List ℕ)
     (m : Membership A)
-    → IsBytes bytes → HasEnded m.holds.ending → Stands replies_of start c delivered m → Stands replies_of start c (delivered ++ bytes ∷ []) m
+    → IsBytes bytes → HasEnded m.holds.ending → Stands replies_of start c delivered m
+    → Stands replies_of start c (delivered ++ bytes ∷ []) m
 ended-stands replies_of start c delivered bytes m are is stands = record {
   strings = more-bytes delivered bytes stands.strings are;
   stands = subst (λ (a : Actor). StandsFor (replies_of m.conduct) start c a m.holds)
@@ -129,7 +136,8 @@ ended-stands replies_of start c delivered bytes m are is stands = record {
       (ended-closed replies_of start c delivered m stands is))) stands.stands;
 }
 
-pub ended-answer : {A : Type 0} (replies_of : A → Replies) (start : Replies) (c : Configuration) (delivered : List (List ℕ)) (bytes : List ℕ)
+pub ended-answer : {A : Type 0} (replies_of : A → Replies) (start : Replies) (c : Configuration) (delivered : List (List ℕ))
+    (bytes : List ℕ)
     (m : Membership A)
     → HasEnded m.holds.ending → Stands replies_of start c delivered m → Finished ≡ answer_to start c (actor_after start c delivered) bytes
 unfolding answer_to

@@ -54,7 +54,13 @@ kept-few log number =
 made-few : (h : Holdings) → IsLog h.log → length (posts_made h) ≤ 27
 made-few h is =
     let most = is.shape.most in
-    omega (arith, length-append (own_posts_kept h.log h.number) (option_to_list h.stray), kept-few h.log h.number, one-at-most h.stray, most)
+    omega (
+      arith,
+      length-append (own_posts_kept h.log h.number) (option_to_list h.stray),
+      kept-few h.log h.number,
+      one-at-most h.stray,
+      most,
+    )
 
 -- the number of those that were handed out is small
 pub handed-small : (m : Machine) (post : Post) → IsFormed m → slice_get (posts_made (holdings_of m)) m.handed ≡ Some post → m.handed < 27
@@ -189,7 +195,8 @@ for-handed now start c a h n is = record {
   own = own-handed start c h n h.mood is.own;
 }
 
-pub stands-handed : {A B : Type 0} (replies_of : A → Replies) (start : Replies) (c : Configuration) (delivered : List (List ℕ)) (m : Membership A)
+pub stands-handed : {A B : Type 0} (replies_of : A → Replies) (start : Replies) (c : Configuration) (delivered : List (List ℕ))
+    (m : Membership A)
     (post : B)
     → Stands replies_of start c delivered m → Stands replies_of start c delivered (handed_next m (Some post))
 stands-handed replies_of start c delivered m post is =
@@ -201,14 +208,17 @@ abbrev pub next_made : {A : Type 0} → Membership A → Option Post
 next_made m = slice_get (posts_made m.holds) m.holds.handed
 
 -- the next of its posts is the next of those that the deliveries ask for
-pub next-plain : {A : Type 0} (replies_of : A → Replies) (start : Replies) (c : Configuration) (delivered : List (List ℕ)) (m : Membership A)
+pub next-plain : {A : Type 0} (replies_of : A → Replies) (start : Replies) (c : Configuration) (delivered : List (List ℕ))
+    (m : Membership A)
     (o : Option (List ℕ))
     → o ≡ option_map post_spelling (next_made m) → Stands replies_of start c delivered m → IsPlain start
     → o ≡ option_map post_spelling (slice_get (posts_of c delivered) m.holds.handed)
 next-plain replies_of start c delivered m o e stands plain =
-    e ∙ ap (λ (posts : List Post). option_map post_spelling (slice_get posts m.holds.handed)) (plain-made replies_of start c delivered m stands plain)
+    e ∙ ap (λ (posts : List Post). option_map post_spelling (slice_get posts m.holds.handed))
+    (plain-made replies_of start c delivered m stands plain)
 
-pub next-said : {A : Type 0} (replies_of : A → Replies) (c : Configuration) (delivered : List (List ℕ)) (m : Membership A) (o : Option (List ℕ))
+pub next-said : {A : Type 0} (replies_of : A → Replies) (c : Configuration) (delivered : List (List ℕ)) (m : Membership A)
+    (o : Option (List ℕ))
     → o ≡ option_map post_spelling (next_made m) → IsPlainMember replies_of c delivered m
     → o ≡ option_map post_spelling (slice_get (posts_said (run_after c delivered)) m.holds.handed)
 next-said replies_of c delivered m o e is =

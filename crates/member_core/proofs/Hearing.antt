@@ -62,9 +62,11 @@ use Rattle.member_core.proofs.Shown.{goes-on}
 
 -- ---- the post
 
-pub content-small : (roster : Roster) (round number : ℕ) (bytes : List ℕ) (header : Header) (post : Post) → IsOfAnother roster round number bytes header post
+pub content-small : (roster : Roster) (round number : ℕ) (bytes : List ℕ) (header : Header) (post : Post)
+    → IsOfAnother roster round number bytes header post
     → length post.content < 2 ^ 32
-content-small roster round number bytes header post is = (let frame = framed-fits bytes post is.framed in let most = frame.most in omega (arith, most))
+content-small roster round number bytes header post is = (let frame = framed-fits bytes post is.framed in let most = frame.most in omega
+    (arith, most))
 
 admitted-of : (roster : Roster) (round number : ℕ) (bytes : List ℕ) (header : Header) (post : Post) → IsBytes bytes
     → IsOfAnother roster round number bytes header post → Admitted roster round post header
@@ -117,7 +119,8 @@ sender-of m bytes header post f are is =
     record { least = first; most = omega (arith, last, most) }
 
 -- what it found, of the pure machine
-found-so : (now start : Replies) (c : Configuration) (a : Actor) (m : Machine) (header : Header) (content : List ℕ) (found : Found) → IsFormed m
+found-so : (now start : Replies) (c : Configuration) (a : Actor) (m : Machine) (header : Header) (content : List ℕ) (found : Found)
+    → IsFormed m
     → StandsFor now start c a (holdings_of m) → found_in m header content ≡ found
     → found_of (shape_in c) (kept_in a.log (slot_named header)) content ≡ found
 found-so now start c a m header content found f s e =
@@ -169,7 +172,8 @@ storable m bytes header post f are is found =
     new = found-new (shape_of m.seat.shape) (kept_in m.log (slot_named header)) post.content found
 
     content_is : (content : Content) × (content_read m.log.shape post.content ≡ Ok content)
-    content_is = ok-read (content_read m.log.shape post.content) (ap (λ (shape : Shape). is_ok (content_read shape post.content)) f.shape ∙ new.reads)
+    content_is = ok-read (content_read m.log.shape post.content)
+        (ap (λ (shape : Shape). is_ok (content_read shape post.content)) f.shape ∙ new.reads)
 
     stands : StandsIn m.log.shape (slot_named header) post.content
     stands =
@@ -178,35 +182,43 @@ storable m bytes header post f are is found =
         let same : content.header ≡ header = ok_same content.header header (sym (content-header m.log.shape post.content content read)
         ∙ (admitted-of (roster_of m.roster) m.seat.round m.seat.number bytes header post are is).reads) in
         subst (λ (h : Header). StandsIn m.log.shape (slot_named h) post.content) same
-        (stand-read m.log.shape post.content content (content-bytes (roster_of m.roster) m.seat.round m.seat.number bytes header post are is) read)
+        (stand-read m.log.shape post.content content (content-bytes (roster_of m.roster) m.seat.round m.seat.number bytes header post are
+        is) read)
 
 -- behind it the member stands for the pure machine
-pub takes-new : (now later start : Replies) (c : Configuration) (delivered : List (List ℕ)) (m : Machine) (bytes : List ℕ) (header : Header) (post : Post)
-    (behind : Holdings) (taken : Taken) → IsFormed m → IsOpen m.ending → IsOfAnother (roster_of m.roster) m.seat.round m.seat.number bytes header post
+pub takes-new : (now later start : Replies) (c : Configuration) (delivered : List (List ℕ)) (m : Machine) (bytes : List ℕ) (header : Header)
+    (post : Post)
+    (behind : Holdings) (taken : Taken) → IsFormed m → IsOpen m.ending
+    → IsOfAnother (roster_of m.roster) m.seat.round m.seat.number bytes header post
     → found_in m header post.content ≡ New → StandsFor now start c (actor_after start c delivered) (holdings_of m)
     → IsRunning behind.ending → taken ≡ answer_behind behind.ending
     → ((a : Actor) → StandsFor now start c a (holdings_of m)
-    → StandsFor later start c (actor_behind_steps start c (actor_behind_repeat start c (record a { log = filled a.log (slot_named header) post }) a.mood)) behind)
+    → StandsFor later start c (actor_behind_steps start c (actor_behind_repeat start c
+    (record a { log = filled a.log (slot_named header) post }) a.mood)) behind)
     → TakesAs later start c delivered bytes behind taken
 takes-new now later start c delivered m bytes header post behind taken f going is found s runs told goes =
     let a : Actor = actor_after start c delivered in
-    let comes = new-comes start c a bytes header post (goes-on c a (holdings_of m) s.at going) (another-so now start c a m bytes header post s is)
+    let comes = new-comes start c a bytes header post (goes-on c a (holdings_of m) s.at going)
+    (another-so now start c a m bytes header post s is)
     (found-so now start c a m header post.content New f s found) in
     let stands = goes a s in
-    let b : Actor = actor_behind_steps start c (actor_behind_repeat start c (record a { log = filled a.log (slot_named header) post }) a.mood) in
+    let b : Actor = actor_behind_steps start c (actor_behind_repeat start c (record a { log = filled a.log (slot_named header) post })
+    a.mood) in
     record {
       stands = subst (λ (x : Actor). StandsFor later start c x behind) (sym comes.behind) stands;
       answer = told ∙ answer-same c b behind.ending runs stands.at.ending ∙ sym comes.answer;
     }
 
 -- it is not idle
-pub new-busy : (now start : Replies) (c : Configuration) (delivered : List (List ℕ)) (m : Machine) (bytes : List ℕ) (header : Header) (post : Post)
+pub new-busy : (now start : Replies) (c : Configuration) (delivered : List (List ℕ)) (m : Machine) (bytes : List ℕ) (header : Header)
+    (post : Post)
     → IsFormed m → IsOpen m.ending → IsOfAnother (roster_of m.roster) m.seat.round m.seat.number bytes header post
     → found_in m header post.content ≡ New → StandsFor now start c (actor_after start c delivered) (holdings_of m)
     → LeavesAll (answer_to start c (actor_after start c delivered) bytes) → ⊥
 new-busy now start c delivered m bytes header post f going is found s leaves =
     let a : Actor = actor_after start c delivered in
-    let comes = new-comes start c a bytes header post (goes-on c a (holdings_of m) s.at going) (another-so now start c a m bytes header post s is)
+    let comes = new-comes start c a bytes header post (goes-on c a (holdings_of m) s.at going)
+    (another-so now start c a m bytes header post s is)
     (found-so now start c a m header post.content New f s found) in
     by_verdict _ (subst LeavesAll comes.answer leaves)
   where
@@ -217,7 +229,8 @@ new-busy now start c delivered m bytes header post f going is found s leaves =
 
 -- ---- a content that is kept
 
-pub takes-same : (now start : Replies) (c : Configuration) (delivered : List (List ℕ)) (m : Machine) (bytes : List ℕ) (header : Header) (post : Post)
+pub takes-same : (now start : Replies) (c : Configuration) (delivered : List (List ℕ)) (m : Machine) (bytes : List ℕ) (header : Header)
+    (post : Post)
     → IsFormed m → IsOpen m.ending → IsOfAnother (roster_of m.roster) m.seat.round m.seat.number bytes header post
     → found_in m header post.content ≡ Kept → StandsFor now start c (actor_after start c delivered) (holdings_of m)
     → TakesAs now start c delivered bytes (holdings_of m) Same
@@ -235,12 +248,14 @@ shown-alone round header bytes None = refl
 shown-alone round header bytes (Some first) = refl
 
 -- what ends the round for the pure machine
-blame-comes : (now start : Replies) (c : Configuration) (delivered : List (List ℕ)) (m : Machine) (bytes : List ℕ) (header : Header) (post : Post)
+blame-comes : (now start : Replies) (c : Configuration) (delivered : List (List ℕ)) (m : Machine) (bytes : List ℕ) (header : Header)
+    (post : Post)
     (found : Found) → (found ≡ Malformed) ⊎ (found ≡ Other) → IsFormed m → IsOpen m.ending
     → IsOfAnother (roster_of m.roster) m.seat.round m.seat.number bytes header post
     → found_in m header post.content ≡ found → StandsFor now start c (actor_after start c delivered) (holdings_of m)
     → let a = actor_after start c delivered in
-    ComesTo start c a bytes (record a { ending = verdict_shown m.seat.round header bytes (kept_in m.log (slot_named header)) found }) Evidence
+    ComesTo start c a bytes (record a { ending = verdict_shown m.seat.round header bytes (kept_in m.log (slot_named header)) found })
+    Evidence
 blame-comes now start c delivered m bytes header post found kind f going is told s = elim kind [
   | inl alone ↦
       let e : found_in m header post.content ≡ Malformed = told ∙ alone in
@@ -252,8 +267,10 @@ blame-comes now start c delivered m bytes header post found kind f going is told
   | inr beside ↦
       let e : found_in m header post.content ≡ Other = told ∙ beside in
       let first = found-other (shape_of m.seat.shape) (kept_in m.log (slot_named header)) post.content e in
-      let there : kept_in a.log (slot_named header) ≡ Some first.0 = ap (λ (log : Log). kept_in log (slot_named header)) (sym s.at.log) ∙ first.1 in
-      let comes = other-comes start c a bytes header post first.0 still heard there (found-so now start c a m header post.content Other f s e) in
+      let there : kept_in a.log (slot_named header) ≡ Some first.0 = ap (λ (log : Log). kept_in log (slot_named header)) (sym s.at.log)
+      ∙ first.1 in
+      let comes = other-comes start c a bytes header post first.0 still heard there
+      (found-so now start c a m header post.content Other f s e) in
       subst (λ (v : Verdict). ComesTo start c a bytes (record a { ending = v }) Evidence)
       (ap (λ (round : ℕ). verdict_shown round header bytes (Some first.0) Other) (sym s.entered.round)
       ∙ sym (ap (λ (o : Option Post). verdict_shown m.seat.round header bytes o Other) first.1)
@@ -274,7 +291,19 @@ pub formed-ended : (m : Machine) (ending : Ending) → IsFormed m → IsFormed (
 formed-ended m ending f =
     let e : IsMachineOf f.entered.0 m = f.entered.1 in
     record {
-      entered = (f.entered.0, record { roster = e.roster; seat = e.seat; message = e.message; secrets = no-secrets-of f.entered.0; hidden = e.hidden; hidden_short = e.hidden_short; pad = e.pad });
+      entered = (
+        f.entered.0,
+        record {
+          roster = e.roster;
+          seat = e.seat;
+          message = e.message;
+          secrets = no-secrets-of f.entered.0;
+          hidden =
+              e.hidden;
+          hidden_short = e.hidden_short;
+          pad = e.pad;
+        },
+      );
       message = f.message;
       log = f.log;
       shape = f.shape;
@@ -324,7 +353,8 @@ stands-blamed now start c a m verdict shown told s = record {
   own = keeps m.mood s.own;
 }
   where
-    goes_on : (mood : Mood) → GoesOn now start c (holdings_of m) mood → GoesOn now start c (holdings_of (machine_ended m (Blamed shown))) mood
+    goes_on : (mood : Mood) → GoesOn now start c (holdings_of m) mood
+        → GoesOn now start c (holdings_of (machine_ended m (Blamed shown))) mood
     goes_on Unasked e = e
     goes_on (PutOff bytes) e = e
     goes_on Spoken e = e
@@ -339,7 +369,8 @@ stands-blamed now start c a m verdict shown told s = record {
     keeps Spoken o = own_is o
     keeps Mute o = o
 
-pub takes-blame : (now start : Replies) (c : Configuration) (delivered : List (List ℕ)) (m behind : Machine) (bytes : List ℕ) (header : Header) (post : Post)
+pub takes-blame : (now start : Replies) (c : Configuration) (delivered : List (List ℕ)) (m behind : Machine) (bytes : List ℕ)
+    (header : Header) (post : Post)
     (found : Found) → (found ≡ Malformed) ⊎ (found ≡ Other) → IsFormed m → IsOpen m.ending
     → IsOfAnother (roster_of m.roster) m.seat.round m.seat.number bytes header post
     → found_in m header post.content ≡ found → StandsFor now start c (actor_after start c delivered) (holdings_of m)
@@ -356,7 +387,8 @@ takes-blame now start c delivered m behind bytes header post found kind f going 
       answer = sym comes.answer;
     }
 
-pub blame-busy : (now start : Replies) (c : Configuration) (delivered : List (List ℕ)) (m : Machine) (bytes : List ℕ) (header : Header) (post : Post)
+pub blame-busy : (now start : Replies) (c : Configuration) (delivered : List (List ℕ)) (m : Machine) (bytes : List ℕ) (header : Header)
+    (post : Post)
     (found : Found) → (found ≡ Malformed) ⊎ (found ≡ Other) → IsFormed m → IsOpen m.ending
     → IsOfAnother (roster_of m.roster) m.seat.round m.seat.number bytes header post
     → found_in m header post.content ≡ found → StandsFor now start c (actor_after start c delivered) (holdings_of m)
@@ -366,7 +398,8 @@ blame-busy now start c delivered m bytes header post found kind f going is told 
 
 -- ---- what is no checked post of another
 
-pub takes-unframed : (now start : Replies) (c : Configuration) (delivered : List (List ℕ)) (m : Machine) (bytes : List ℕ) (at : ℕ) → IsOpen m.ending
+pub takes-unframed : (now start : Replies) (c : Configuration) (delivered : List (List ℕ)) (m : Machine) (bytes : List ℕ) (at : ℕ)
+    → IsOpen m.ending
     → frame_of bytes ≡ Err at → StandsFor now start c (actor_after start c delivered) (holdings_of m)
     → TakesAs now start c delivered bytes (holdings_of m) (Ignored (Frame at))
 takes-unframed now start c delivered m bytes at going e s =
@@ -382,7 +415,8 @@ admission-so now start c a m post answer s e =
     ∙ ap (λ (round : ℕ). framed_admission_of c.roster round post) s.entered.round) ∙ sym e
 
 pub takes-refused : (now start : Replies) (c : Configuration) (delivered : List (List ℕ)) (m : Machine) (bytes : List ℕ) (post : Post)
-    (refusal : PostRefusal) → IsOpen m.ending → frame_of bytes ≡ Ok post → Err refusal ≡ framed_admission_of (roster_of m.roster) m.seat.round post
+    (refusal : PostRefusal) → IsOpen m.ending → frame_of bytes ≡ Ok post
+    → Err refusal ≡ framed_admission_of (roster_of m.roster) m.seat.round post
     → StandsFor now start c (actor_after start c delivered) (holdings_of m)
     → TakesAs now start c delivered bytes (holdings_of m) (Ignored refusal)
 takes-refused now start c delivered m bytes post refusal going framed e s =
@@ -391,7 +425,8 @@ takes-refused now start c delivered m bytes post refusal going framed e s =
     (admission-so now start c a m post (Err refusal) s e) in
     record { stands = subst (λ (b : Actor). StandsFor now start c b (holdings_of m)) (sym comes.behind) s; answer = sym comes.answer }
 
-pub takes-own : (now start : Replies) (c : Configuration) (delivered : List (List ℕ)) (m : Machine) (bytes : List ℕ) (header : Header) (post : Post)
+pub takes-own : (now start : Replies) (c : Configuration) (delivered : List (List ℕ)) (m : Machine) (bytes : List ℕ) (header : Header)
+    (post : Post)
     → IsOpen m.ending → frame_of bytes ≡ Ok post → Ok header ≡ framed_admission_of (roster_of m.roster) m.seat.round post
     → header.sender ≡ m.seat.number → StandsFor now start c (actor_after start c delivered) (holdings_of m)
     → TakesAs now start c delivered bytes (holdings_of m) Own

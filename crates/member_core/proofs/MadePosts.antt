@@ -14,7 +14,8 @@ unfoldable pub posts_from : Log → ℕ → Option Post → ℕ → List Post
 posts_from log number stray stage =
     filter_map (own_kept log number) (range_with_len stage (stage_count log.shape - stage)) ++ option_to_list stray
 
-pub from-first : (log : Log) (number : ℕ) (stray : Option Post) → own_posts_kept log number ++ option_to_list stray ≡ posts_from log number stray 0
+pub from-first : (log : Log) (number : ℕ) (stray : Option Post) → own_posts_kept log number
+    ++ option_to_list stray ≡ posts_from log number stray 0
 unfolding posts_from own_posts_kept
 from-first log number stray =
     let all : stage_count log.shape ≡ stage_count log.shape - 0 = omega arith in
@@ -31,7 +32,8 @@ from-next log number stray stage lt =
     let n : ℕ = stage_count log.shape in
     let split : n - stage ≡ suc (n - (stage + 1)) = omega (arith, lt) in
     ap (λ (k : ℕ). filter_map (own_kept log number) (range_with_len stage k) ++ option_to_list stray) split
-    ∙ cons-more (own_kept log number stage) (filter_map (own_kept log number) (range_with_len (stage + 1) (n - (stage + 1)))) (option_to_list stray)
+    ∙ cons-more (own_kept log number stage) (filter_map (own_kept log number) (range_with_len (stage + 1) (n - (stage + 1))))
+    (option_to_list stray)
 
 pub from-last : (log : Log) (number : ℕ) (stray : Option Post) (stage : ℕ) → stage_count log.shape ≤ stage
     → posts_from log number stray stage ≡ option_to_list stray

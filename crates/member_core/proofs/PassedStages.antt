@@ -43,7 +43,8 @@ use Rattle.member_core.proofs.Passing.{asked-behind, machine_past, spoken-or-sil
 -- ---- the pure machine
 
 -- it passes a stage whose posts are all there
-pub passes-step : (start : Replies) (c : Configuration) (a : Actor) (posts : List Post) → is_open a.ending ≡ true → a.stand.at < stage_count (shape_in c)
+pub passes-step : (start : Replies) (c : Configuration) (a : Actor) (posts : List Post) → is_open a.ending ≡ true
+    → a.stand.at < stage_count (shape_in c)
     → all_some (posts_in a.log a.stand.at) ≡ Some posts
     → actor_behind_step start c a ≡ actor_behind_stage c a (stand_behind c a.stand posts)
 passes-step start c a posts still within here = open-step start c a (Some posts) still (posts-within c a within ∙ here)
@@ -54,18 +55,23 @@ pub verdict-is : (c : Configuration) (a : Actor) (h : Holdings) (posts : List Po
     → verdict_of (closing_of c (a.stand.past ++ posts) a.stand.at) ≡ verdict_in (completed_of h)
 verdict-is c a h posts entered at next =
     let all : List Post = a.stand.past ++ posts in
-    sym (ap (λ (r : Roster). verdict_of (record { roster = r; round = h.round; posts = posts_before h.log (h.stage + 1); stage = h.stage })) entered.roster
-    ∙ ap (λ (n : ℕ). verdict_of (record { roster = c.roster; round = n; posts = posts_before h.log (h.stage + 1); stage = h.stage })) entered.round
-    ∙ ap (λ (ps : List Post). verdict_of (record { roster = c.roster; round = c.round; posts = ps; stage = h.stage })) (posts-are h.log (h.stage + 1) all next)
+    sym (ap (λ (r : Roster). verdict_of (record { roster = r; round = h.round; posts = posts_before h.log (h.stage + 1); stage = h.stage }))
+    entered.roster
+    ∙ ap (λ (n : ℕ). verdict_of (record { roster = c.roster; round = n; posts = posts_before h.log (h.stage + 1); stage = h.stage }))
+    entered.round
+    ∙ ap (λ (ps : List Post). verdict_of (record { roster = c.roster; round = c.round; posts = ps; stage = h.stage }))
+    (posts-are h.log (h.stage + 1) all next)
     ∙ ap (λ (n : ℕ). verdict_of (record { roster = c.roster; round = c.round; posts = all; stage = n })) at.stage)
 
 -- what it shows behind the stage, by the verdict
 abbrev pub outcome_past : Configuration → Actor → List Post → Verdict → Outcome
 outcome_past c a posts v =
-    if is_open v then WaitingFor (stand_behind c a.stand posts).at (members_missing c (actor_behind_stage c a (stand_behind c a.stand posts)))
+    if is_open v then WaitingFor (stand_behind c a.stand posts).at
+    (members_missing c (actor_behind_stage c a (stand_behind c a.stand posts)))
     else outcome_ended c (stand_behind c a.stand posts) v
 
-pub outcome-is : (c : Configuration) (a : Actor) (posts : List Post) (v : Verdict) → verdict_of (closing_of c (a.stand.past ++ posts) a.stand.at) ≡ v
+pub outcome-is : (c : Configuration) (a : Actor) (posts : List Post) (v : Verdict)
+    → verdict_of (closing_of c (a.stand.past ++ posts) a.stand.at) ≡ v
     → outcome_of c (actor_behind_stage c a (stand_behind c a.stand posts)) ≡ outcome_past c a posts v
 unfolding stand_behind
 outcome-is c a posts v e = ap (outcome_past c a posts) e
@@ -81,20 +87,23 @@ asks-by now start c h Spoken is which = is
 asks-by now start c h Mute is (inl e) = absurd cc
 asks-by now start c h Mute is (inr e) = absurd cc
 
-owns-by : (start : Replies) (c : Configuration) (h : Holdings) (mood : Mood) → KeepsOwn start c h mood → ((mood ≡ Spoken) ⊎ (mood ≡ Unasked)) → IsOwnOf start c h
+owns-by : (start : Replies) (c : Configuration) (h : Holdings) (mood : Mood) → KeepsOwn start c h mood
+    → ((mood ≡ Spoken) ⊎ (mood ≡ Unasked)) → IsOwnOf start c h
 owns-by start c h Unasked is which = is
 owns-by start c h (PutOff bytes) is which = is
 owns-by start c h Spoken is which = is
 owns-by start c h Mute is (inl e) = absurd cc
 owns-by start c h Mute is (inr e) = absurd cc
 
-pub stands-past : (m : Machine) (keys : Option GroupKeys) (seen : Seen) (secrets : Secrets) (opened : Option (Vec (Option (List ℕ)) Global)) (slots : Option Slots)
+pub stands-past : (m : Machine) (keys : Option GroupKeys) (seen : Seen) (secrets : Secrets) (opened : Option (Vec (Option (List ℕ)) Global))
+    (slots : Option Slots)
     (ending : Ending) → IsFormed m → IsReady m → IsSome (before m.log (m.stage + 1))
     → ((c : Configuration) → AreSecretsOf c m.secrets → AreSecretsOf c secrets)
     → (now start : Replies) (c : Configuration) (a : Actor) (posts : List Post) → StandsFor now start c a (holdings_of m)
     → before m.log (m.stage + 1) ≡ Some (a.stand.past ++ posts)
     → ShowsOutcome ending (outcome_of c (actor_behind_stage c a (stand_behind c a.stand posts)))
-    → StandsFor now start c (actor_behind_stage c a (stand_behind c a.stand posts)) (holdings_of (machine_past m keys seen secrets opened slots ending))
+    → StandsFor now start c (actor_behind_stage c a (stand_behind c a.stand posts))
+    (holdings_of (machine_past m keys seen secrets opened slots ending))
 unfolding stand_behind
 stands-past m keys seen secrets opened slots ending formed ready there left now start c a posts is next shows = record {
   can_enter = is.can_enter;
@@ -128,7 +137,8 @@ stands-past m keys seen secrets opened slots ending formed ready there left now 
     group = of-group m formed
 
     first-same : was_asked (m.stage + 1) Unasked 1 ≡ was_asked m.stage m.mood 1
-    first-same = asked-behind m 1 formed ready there (submit-slot m.log.shape 1 m.seat.number (omega arith) (omega arith) group.first group.last)
+    first-same = asked-behind m 1 formed ready there (submit-slot m.log.shape 1 m.seat.number (omega arith) (omega arith) group.first
+        group.last)
 
     second-same : was_asked (m.stage + 1) Unasked (submit_stage m.log.shape 2) ≡ was_asked m.stage m.mood (submit_stage m.log.shape 2)
     second-same = asked-behind m (submit_stage m.log.shape 2) formed ready there

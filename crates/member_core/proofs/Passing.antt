@@ -43,7 +43,8 @@ pub record NextPast (log : Log) (stage : ℕ) (past : List Post) : Type 0 where
 some-same : {A : Type 0} (x y : A) → (let some : A → Option A = λ z. Some z in some x ≡ some y) → x ≡ y
 some-same x y e = cc
 
-pub next-past : (log : Log) (stage : ℕ) (past : List Post) → before log stage ≡ Some past → is_complete log stage ≡ true → NextPast log stage past
+pub next-past : (log : Log) (stage : ℕ) (past : List Post) → before log stage ≡ Some past → is_complete log stage ≡ true
+    → NextPast log stage past
 next-past log stage past e full =
     let a : ℕ = slots_before log.shape stage in
     let b : ℕ = slots_before log.shape (stage + 1) in
@@ -55,7 +56,8 @@ next-past log stage past e full =
       posts = slice_range posts a b;
       here = ap all_some (posts_in-past log stage (stage + 1) posts (omega arith) all.1) ∙ all_some-map (slice_range posts a b);
       next = before-front log (stage + 1) (stage + 1) posts (omega arith) all.1
-          ∙ ap (λ (ps : List Post). Some ps) (front-next posts a b rises ∙ ap (λ (ps : List Post). ps ++ slice_range posts a b) (sym past-is));
+          ∙ ap (λ (ps : List Post). Some ps) (front-next posts a b rises
+          ∙ ap (λ (ps : List Post). ps ++ slice_range posts a b) (sym past-is));
     }
   where
     all : (posts : List Post) × (before log (stage + 1) ≡ Some posts)
@@ -73,11 +75,13 @@ spoken-or-silent m formed ready there = by_mood m.mood refl ready.mood
   where
     empty : is_slot m.log.shape m.stage m.seat.number ≡ true → IsEmptyFrom m.log m.seat.number m.stage → ⊥
     empty speaks none =
-        let kept = kept-post m.log (m.stage + 1) (record { stage = m.stage; sender = m.seat.number }) formed.log there speaks (omega arith) in
+        let kept = kept-post m.log (m.stage + 1) (record { stage = m.stage; sender = m.seat.number }) formed.log there speaks (omega arith)
+        in
         let both : None ≡ Some kept.0 = sym (none m.stage (omega arith)) ∙ kept.1 in
         cc
 
-    by_mood : (mood : Mood) → m.mood ≡ mood → IsMoodOf m mood → (m.mood ≡ Spoken) ⊎ ((m.mood ≡ Unasked) × (is_slot m.log.shape m.stage m.seat.number ≡ false))
+    by_mood : (mood : Mood) → m.mood ≡ mood → IsMoodOf m mood → (m.mood ≡ Spoken)
+        ⊎ ((m.mood ≡ Unasked) × (is_slot m.log.shape m.stage m.seat.number ≡ false))
     by_mood Spoken e is = inl e
     by_mood Unasked e is = elim (cases_Bool (is_slot m.log.shape m.stage m.seat.number)) [
       | inl speaks ↦ absurd (empty speaks is.0)
@@ -95,23 +99,27 @@ less-next a b apart = elim (cases_lt a b) [
 ]
 
 -- it was asked at the same stages at which it speaks, once this one is passed
-pub asked-behind : (m : Machine) (other : ℕ) → IsFormed m → IsReady m → IsSome (before m.log (m.stage + 1)) → is_slot m.log.shape other m.seat.number ≡ true
+pub asked-behind : (m : Machine) (other : ℕ) → IsFormed m → IsReady m → IsSome (before m.log (m.stage + 1))
+    → is_slot m.log.shape other m.seat.number ≡ true
     → was_asked (m.stage + 1) Unasked other ≡ was_asked m.stage m.mood other
 asked-behind m other formed ready there speaks = elim (spoken-or-silent m formed ready there) [
   | inl spoken ↦ sym (ap (λ (mood : Mood). was_asked m.stage mood other) spoken)
   | inr silent ↦
-      less-next other m.stage (λ same. (let both : true ≡ false = sym speaks ∙ ap (λ (s : ℕ). is_slot m.log.shape s m.seat.number) same ∙ silent.1 in cc))
+      less-next other m.stage (λ same. (let both : true ≡ false = sym speaks ∙ ap (λ (s : ℕ). is_slot m.log.shape s m.seat.number) same
+      ∙ silent.1 in cc))
       ∙ sym (ap (λ (mood : Mood). was_asked m.stage mood other) silent.0)
 ]
 
 pub not-mute : (m : Machine) → IsFormed m → IsReady m → IsSome (before m.log (m.stage + 1)) → is_mute m.mood ≡ false
-not-mute m formed ready there = elim (spoken-or-silent m formed ready there) [ inl spoken ↦ ap is_mute spoken | inr silent ↦ ap is_mute silent.0 ]
+not-mute m formed ready there = elim (spoken-or-silent m formed ready there)
+    [ inl spoken ↦ ap is_mute spoken | inr silent ↦ ap is_mute silent.0 ]
 
 -- ---- behind the stage
 
 -- what it holds behind the stage, with these keys, what was seen, the secrets that are left, what it carries, and what ended
 -- the round
-abbrev pub machine_past : Machine → Option GroupKeys → Seen → Secrets → Option (Vec (Option (List ℕ)) Global) → Option Slots → Ending → Machine
+abbrev pub machine_past : Machine → Option GroupKeys → Seen → Secrets → Option (Vec (Option (List ℕ)) Global) → Option Slots → Ending
+    → Machine
 machine_past m keys seen secrets opened slots ending = record m {
   keys = keys;
   seen = seen;
@@ -123,7 +131,8 @@ machine_past m keys seen secrets opened slots ending = record m {
   ending = ending;
 }
 
-pub formed-past : (m : Machine) (keys : Option GroupKeys) (seen : Seen) (secrets : Secrets) (opened : Option (Vec (Option (List ℕ)) Global)) (slots : Option Slots)
+pub formed-past : (m : Machine) (keys : Option GroupKeys) (seen : Seen) (secrets : Secrets) (opened : Option (Vec (Option (List ℕ)) Global))
+    (slots : Option Slots)
     (ending : Ending) → IsFormed m → ((c : Configuration) → AreSecretsOf c m.secrets → AreSecretsOf c secrets)
     → IsFormed (machine_past m keys seen secrets opened slots ending)
 formed-past m keys seen secrets opened slots ending formed left = record {
@@ -150,7 +159,8 @@ formed-past m keys seen secrets opened slots ending formed left = record {
 }
 
 -- what it is to carry, where the round goes on
-pub record AreCarried (m : Machine) (keys : Option GroupKeys) (seen : Seen) (opened : Option (Vec (Option (List ℕ)) Global)) (slots : Option Slots) : Type 0 where
+pub record AreCarried (m : Machine) (keys : Option GroupKeys) (seen : Seen) (opened : Option (Vec (Option (List ℕ)) Global))
+    (slots : Option Slots) : Type 0 where
   pub seen_is : HasSeen m.log.shape (past_of m.log (m.stage + 1)) (m.stage + 1) seen
   pub keys_are : CarriesKeys m.log (m.stage + 1) keys
   pub opened_is : CarriesOpened m.log (m.stage + 1) (option_map (λ items. items.items) opened)
@@ -158,7 +168,8 @@ pub record AreCarried (m : Machine) (keys : Option GroupKeys) (seen : Seen) (ope
   pub slots_are : CarriesSlots m.log (m.stage + 1) slots
   pub slots_behind : IsSome slots → stage_found m.log ≤ m.stage + 1
 
-pub ready-past : (m : Machine) (keys : Option GroupKeys) (seen : Seen) (secrets : Secrets) (opened : Option (Vec (Option (List ℕ)) Global)) (slots : Option Slots)
+pub ready-past : (m : Machine) (keys : Option GroupKeys) (seen : Seen) (secrets : Secrets) (opened : Option (Vec (Option (List ℕ)) Global))
+    (slots : Option Slots)
     (ending : Ending) → IsFormed m → IsReady m → m.stage < stage_count m.log.shape → IsSome (before m.log (m.stage + 1))
     → AreCarried m keys seen opened slots → IsReady (machine_past m keys seen secrets opened slots ending)
 ready-past m keys seen secrets opened slots ending formed ready within there carried = record {
@@ -183,14 +194,16 @@ ready-past m keys seen secrets opened slots ending formed ready within there car
 
 -- ---- its secrets
 
-same-need : (m : Machine) (other : ℕ) → IsFormed m → IsReady m → IsSome (before m.log (m.stage + 1)) → is_slot m.log.shape other m.seat.number ≡ true
+same-need : (m : Machine) (other : ℕ) → IsFormed m → IsReady m → IsSome (before m.log (m.stage + 1))
+    → is_slot m.log.shape other m.seat.number ≡ true
     → needs (holdings_of m) other ≡ (is_going m.ending && (not (is_mute Unasked) && not (was_asked (m.stage + 1) Unasked other)))
 same-need m other formed ready there speaks =
     ap (λ (b : Bool). is_going m.ending && (not b && not (was_asked m.stage m.mood other))) (not-mute m formed ready there)
     ∙ ap (λ (b : Bool). is_going m.ending && (not false && not b)) (sym (asked-behind m other formed ready there speaks))
 
 -- those that it needed before are needed as long as the round goes on
-pub needed-past : (m : Machine) (keys : Option GroupKeys) (seen : Seen) (opened : Option (Vec (Option (List ℕ)) Global)) (slots : Option Slots)
+pub needed-past : (m : Machine) (keys : Option GroupKeys) (seen : Seen) (opened : Option (Vec (Option (List ℕ)) Global))
+    (slots : Option Slots)
     → IsFormed m → IsReady m → IsSome (before m.log (m.stage + 1)) → HoldsNeeded (holdings_of m)
     → HoldsNeeded (holdings_of (machine_past m keys seen m.secrets opened slots m.ending))
 needed-past m keys seen opened slots formed ready there needed =

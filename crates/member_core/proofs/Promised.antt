@@ -39,7 +39,12 @@ configured c enters key = record { enter = enters; key = key }
 
 waits-for : (c : Configuration) (delivered : List (List ℕ)) (stage : ℕ) (named : List ℕ) → CanEnter c → All IsBytes delivered
     → result_of c delivered ≡ WaitingFor stage named → WaitsIfOpen c delivered (state_of (WaitingFor stage named))
-waits-for c delivered stage named enters are e = record { named = named; bits_are = refl; names = open_names c delivered stage named enters are e }
+waits-for c delivered stage named enters are e = record {
+  named = named;
+  bits_are = refl;
+  names = open_names c delivered stage named enters
+      are e;
+}
 
 convicts : (c : Configuration) (delivered : List (List ℕ)) (t : Transcript) → IsConfiguration c → All IsBytes delivered
     → result_of c delivered ≡ BlamedBy t → ConvictsFaulty c delivered (transcript_spelling t) t.accused t.claim
@@ -92,7 +97,8 @@ shown-slots c delivered slots e = by_result (result_of c delivered) refl e
     by_result (WaitingFor stage named) is shown = absurd cc
     by_result (BlamedBy t) is shown = absurd cc
 
-pub holds-messages : (c : Configuration) (delivered : List (List ℕ)) (slots : List SlotState) → Some slots ≡ slots_shown (result_of c delivered)
+pub holds-messages : (c : Configuration) (delivered : List (List ℕ)) (slots : List SlotState)
+    → Some slots ≡ slots_shown (result_of c delivered)
     → HoldsMessages c delivered slots
 holds-messages c delivered slots shown runs among distinct = done_has_messages c delivered runs slots among distinct
     (shown-slots c delivered slots shown)
@@ -103,11 +109,13 @@ one-list c delivered slots shown other others_delivered runs others_slots among 
     same_list c other delivered others_delivered runs slots others_slots among others distinct (shown-slots c delivered slots shown) done
 
 -- the bytes that are shown are those of the transcript of the result
-pub shown-evidence : (c : Configuration) (delivered : List (List ℕ)) (state : State) (bytes : List ℕ) → IsConfiguration c → All IsBytes delivered
+pub shown-evidence : (c : Configuration) (delivered : List (List ℕ)) (state : State) (bytes : List ℕ) → IsConfiguration c
+    → All IsBytes delivered
     → state ≡ state_of (result_of c delivered) → Some bytes ≡ evidence_shown (result_of c delivered) → IsEvidence c delivered state bytes
 shown-evidence c delivered state bytes is are state_is shown = by_result (result_of c delivered) refl state_is shown
   where
-    by_result : (o : Outcome) → result_of c delivered ≡ o → state ≡ state_of o → Some bytes ≡ evidence_shown o → IsEvidence c delivered state bytes
+    by_result : (o : Outcome) → result_of c delivered ≡ o → state ≡ state_of o → Some bytes ≡ evidence_shown o
+        → IsEvidence c delivered state bytes
     by_result (BlamedBy t) e s b = record {
       accused = t.accused;
       claim = t.claim;
@@ -182,6 +190,7 @@ plain-start replies_of start c m plain stands = record { start = start; plain = 
 pub plain-goes-on : {A : Type 0} (replies_of : A → Replies) (old new : Membership A) (more : List (List ℕ) → List (List ℕ))
     → ((start : Replies) (c : Configuration) (delivered : List (List ℕ)) → Stands replies_of start c delivered old
     → Stands replies_of start c (more delivered) new)
-    → (c : Configuration) (delivered : List (List ℕ)) → IsPlainMember replies_of c delivered old → IsPlainMember replies_of c (more delivered) new
+    → (c : Configuration) (delivered : List (List ℕ)) → IsPlainMember replies_of c delivered old
+    → IsPlainMember replies_of c (more delivered) new
 plain-goes-on replies_of old new more stands c delivered is =
     record { start = is.start; plain = is.plain; stands = stands is.start c delivered is.stands }

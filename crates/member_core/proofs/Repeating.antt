@@ -23,7 +23,18 @@ pub formed-mood : (m : Machine) (mood : Mood) → IsFormed m → IsFormed (with_
 formed-mood m mood f =
     let e : IsMachineOf f.entered.0 m = f.entered.1 in
     record {
-      entered = (f.entered.0, record { roster = e.roster; seat = e.seat; message = e.message; secrets = e.secrets; hidden = e.hidden; hidden_short = e.hidden_short; pad = e.pad });
+      entered = (
+        f.entered.0,
+        record {
+          roster = e.roster;
+          seat = e.seat;
+          message = e.message;
+          secrets = e.secrets;
+          hidden = e.hidden;
+          hidden_short = e.hidden_short;
+          pad = e.pad;
+        },
+      );
       message = f.message;
       log = f.log;
       shape = f.shape;
@@ -80,7 +91,8 @@ speakable-again m bytes e going r n =
 
 -- ---- the pure machine
 
-pub stands-again : (now start : Replies) (c : Configuration) (a : Actor) (h : Holdings) (bytes : List ℕ) → h.mood ≡ PutOff bytes → StandsFor now start c a h
+pub stands-again : (now start : Replies) (c : Configuration) (a : Actor) (h : Holdings) (bytes : List ℕ) → h.mood ≡ PutOff bytes
+    → StandsFor now start c a h
     → StandsAsked now start c a (asked_at h Unasked)
 stands-again now start c a h bytes e s = record {
   can_enter = s.can_enter;

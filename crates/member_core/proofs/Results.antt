@@ -18,6 +18,7 @@ if-both P Q R (Ok x) step p q = step x p q
 if-both P Q R (Err e) step p q = p
 
 -- and of three
-pub if-three : {A E : Type 0} (P Q R S : A → Type 0) (r : Result A E) → ((x : A) → P x → Q x → R x → S x) → IfOk r P → IfOk r Q → IfOk r R → IfOk r S
+pub if-three : {A E : Type 0} (P Q R S : A → Type 0) (r : Result A E) → ((x : A) → P x → Q x → R x → S x) → IfOk r P → IfOk r Q → IfOk r R
+    → IfOk r S
 if-three P Q R S (Ok x) step p q r' = step x p q r'
 if-three P Q R S (Err e) step p q r' = p

@@ -51,20 +51,26 @@ use Rattle.honest_say.proofs.PastLemmas.{IsSaid, said-stands}
 use Rattle.honest_say.proofs.StageLemmas.{submit-kind, submit-slot, turn-kind, turn-slot}
 
 -- a body of the kind of its stage is of the grammar there
-of-kind : (shape : Shape) (stage : ℕ) (kind : StageKind) (body : Body) → kind_of_stage shape stage ≡ Some kind → IsBodyAt shape (slots_before shape stage) kind body → IsBody shape stage body
+of-kind : (shape : Shape) (stage : ℕ) (kind : StageKind) (body : Body) → kind_of_stage shape stage ≡ Some kind
+    → IsBodyAt shape (slots_before shape stage) kind body → IsBody shape stage body
 of-kind shape stage kind body at is = (bodies_are_of_kinds shape stage kind body at).1 is
 
 -- ---- keys and votes
 
 pub keys-fit : (c : Configuration) (shape : Shape) (stage : ℕ) → kind_of_stage shape stage ≡ Some Keys → IsBody shape stage (keys_row c)
 unfolding keys_row
-keys-fit c shape stage at = of-kind shape stage Keys (KeysBody (map (λ place. key_of_seed (own_key_seed c place)) (range_with_len 0 5))) at
-    (all-map IsPublicKey (λ place. key_of_seed (own_key_seed c place)) (range_with_len 0 5) (λ place. key_is_public_key (own_key_seed c place)), refl)
+keys-fit c shape stage at = of-kind shape stage Keys (KeysBody (map (λ place. key_of_seed (own_key_seed c place)) (range_with_len 0 5))) at (
+  all-map IsPublicKey (λ place. key_of_seed (own_key_seed c place)) (range_with_len 0 5)
+      (λ place. key_is_public_key (own_key_seed c place)),
+  refl,
+)
 
-pub go-fits : (shape : Shape) (stage shuffle : ℕ) (yes_vote : Bool) → kind_of_stage shape stage ≡ Some (Go shuffle) → IsBody shape stage (GoBody yes_vote)
+pub go-fits : (shape : Shape) (stage shuffle : ℕ) (yes_vote : Bool) → kind_of_stage shape stage ≡ Some (Go shuffle)
+    → IsBody shape stage (GoBody yes_vote)
 go-fits shape stage shuffle yes_vote at = of-kind shape stage (Go shuffle) (GoBody yes_vote) at tt
 
-pub check-fits : (shape : Shape) (stage : ℕ) (yes_vote : Bool) → kind_of_stage shape stage ≡ Some Check → IsBody shape stage (CheckBody yes_vote)
+pub check-fits : (shape : Shape) (stage : ℕ) (yes_vote : Bool) → kind_of_stage shape stage ≡ Some Check
+    → IsBody shape stage (CheckBody yes_vote)
 check-fits shape stage yes_vote at = of-kind shape stage Check (CheckBody yes_vote) at tt
 
 -- ---- submissions
@@ -76,7 +82,8 @@ item_size members shuffle = if shuffle == 1 then 36 + 2272 * members else 34
 layers-count : (c : Configuration) (shuffle side : ℕ) → length (own_layer_seeds c shuffle side) ≡ (shape_in c).members
 layers-count c shuffle side = (seeds_are_messages (own_opening c shuffle side) c.round shuffle side c.number (shape_in c).members).0
 
-submission-long : (c : Configuration) (own : List ℕ) (past : List (List ℕ)) (shuffle : ℕ) → length (own_item c own past shuffle) ≡ item_size (shape_in c).members shuffle
+submission-long : (c : Configuration) (own : List ℕ) (past : List (List ℕ)) (shuffle : ℕ)
+    → length (own_item c own past shuffle) ≡ item_size (shape_in c).members shuffle
     → length (own_submission c own past shuffle).ciphertext ≡ level (shape_in c).members shuffle 0
 unfolding own_submission
 submission-long c own past shuffle long =
@@ -86,18 +93,21 @@ submission-long c own past shuffle long =
     let item : List ℕ = own_item c own past shuffle in
     let inner_count = keys-count (shape_in c) past (inner_place shuffle) in
     let outer_count = keys-count (shape_in c) past (outer_place shuffle) in
-    let adds = submission_adds inner outer (own_layer_seeds c shuffle 1) (own_layer_seeds c shuffle 2) item (inner_count ∙ sym (layers-count c shuffle 1)) (outer_count ∙ sym (layers-count c shuffle 2)) in
+    let adds = submission_adds inner outer (own_layer_seeds c shuffle 1) (own_layer_seeds c shuffle 2) item
+    (inner_count ∙ sym (layers-count c shuffle 1)) (outer_count ∙ sym (layers-count c shuffle 2)) in
     by_size n (item_size (shape_in c).members shuffle) (length item) (length inner) (length outer) _ long inner_count outer_count adds.1
   where
     by_size : (n size item inner outer whole : ℕ) → item ≡ size → inner ≡ n → outer ≡ n → whole ≡ item + 2272 * (inner + outer)
         → whole ≡ size + 2272 * (2 * n - 0)
     by_size n size item inner outer whole is first second e = omega (arith, is, first, second, e)
 
-pub submission-fits : (c : Configuration) (own : List ℕ) (past : List (List ℕ)) (stage shuffle : ℕ) → kind_of_stage (shape_in c) stage ≡ Some (Submit shuffle)
+pub submission-fits : (c : Configuration) (own : List ℕ) (past : List (List ℕ)) (stage shuffle : ℕ)
+    → kind_of_stage (shape_in c) stage ≡ Some (Submit shuffle)
     → length (own_item c own past shuffle) ≡ item_size (shape_in c).members shuffle
     → IsBody (shape_in c) stage (SubmitBody (own_submission c own past shuffle).ciphertext)
 submission-fits c own past stage shuffle at long =
-    of-kind (shape_in c) stage (Submit shuffle) (SubmitBody (own_submission c own past shuffle).ciphertext) at (submission-long c own past shuffle long)
+    of-kind (shape_in c) stage (Submit shuffle) (SubmitBody (own_submission c own past shuffle).ciphertext) at
+    (submission-long c own past shuffle long)
 
 -- ---- turns
 
@@ -106,20 +116,28 @@ record AreLong (many size : ℕ) (entries : List (List ℕ)) : Type 0 where
   pub long : AllByRecursion (λ entry. length entry ≡ size) entries
   pub count : length entries ≡ many
 
-submitted-long : (shape : Shape) (slots shuffle : ℕ) (body : Body) → IsBodyAt shape slots (Submit shuffle) body → length (ciphertext_of body) ≡ level shape.members shuffle 0
+submitted-long : (shape : Shape) (slots shuffle : ℕ) (body : Body) → IsBodyAt shape slots (Submit shuffle) body
+    → length (ciphertext_of body) ≡ level shape.members shuffle 0
 submitted-long shape slots shuffle (SubmitBody ciphertext) is = is
 submitted-long shape slots shuffle _ is = absurd is
 
-list-long : (shape : Shape) (slots shuffle k : ℕ) (body : Body) (list : List (List ℕ)) → IsBodyAt shape slots (Shuffle shuffle k) body → list_of body ≡ Some list
+list-long : (shape : Shape) (slots shuffle k : ℕ) (body : Body) (list : List (List ℕ)) → IsBodyAt shape slots (Shuffle shuffle k) body
+    → list_of body ≡ Some list
     → AreLong shape.members (level shape.members shuffle k) list
 list-long shape slots shuffle k (Shuffled entries) list is e =
-    let same : entries ≡ list = cc in subst (AreLong shape.members (level shape.members shuffle k)) same (record { long = is.0; count = is.1 })
+    let same : entries ≡ list = cc in subst (AreLong shape.members (level shape.members shuffle k)) same
+    (record { long = is.0; count = is.1 })
 list-long shape slots shuffle k Abort list is e = absurd cc
 list-long shape slots shuffle k _ list is e = absurd is
 
-all-range : {A : Type 0} (P : A → Type 0) (f : ℕ → A) (a n : ℕ) → ((k : ℕ) → a ≤ k → k < a + n → P (f k)) → AllByRecursion P (map f (range_with_len a n))
+all-range : {A : Type 0} (P : A → Type 0) (f : ℕ → A) (a n : ℕ) → ((k : ℕ) → a ≤ k → k < a + n → P (f k))
+    → AllByRecursion P (map f (range_with_len a n))
 all-range P f a zero each = tt
-all-range P f a (suc n) each = (each a (omega arith) (omega arith), all-range P f (a + 1) n (λ k least most. each k (omega (arith, least)) (omega (arith, most))))
+all-range P f a (suc n) each = (
+  each a (omega arith) (omega arith),
+  all-range P f (a + 1) n
+      (λ k least most. each k (omega (arith, least)) (omega (arith, most))),
+)
 
 -- a log behind a stage of submissions
 pub record IsBehind (log : Log) (stage shuffle : ℕ) : Type 0 where
@@ -129,12 +147,15 @@ pub record IsBehind (log : Log) (stage shuffle : ℕ) : Type 0 where
   pub first : 1 ≤ shuffle
   pub last : shuffle ≤ 2
 
-submission-is : (log : Log) (stage shuffle member : ℕ) → IsBehind log stage shuffle → submit_stage log.shape shuffle < stage → 1 ≤ member → member ≤ log.shape.members
-    → length (ciphertext_of (said_in log.shape (past_of log stage) (submit_stage log.shape shuffle) member)) ≡ level log.shape.members shuffle 0
+submission-is : (log : Log) (stage shuffle member : ℕ) → IsBehind log stage shuffle → submit_stage log.shape shuffle < stage → 1 ≤ member
+    → member ≤ log.shape.members
+    → length (ciphertext_of (said_in log.shape (past_of log stage) (submit_stage log.shape shuffle) member)) ≡ level log.shape.members
+    shuffle 0
 submission-is log stage shuffle member is lt least most =
     let at : ℕ = submit_stage log.shape shuffle in
     let said : IsSaid log.shape (past_of log stage) at member
-    = said-stands log stage (record { stage = at; sender = member }) is.form is.complete (submit-slot log.shape shuffle member is.first is.last least most) lt (is.stand at) in
+    = said-stands log stage (record { stage = at; sender = member }) is.form is.complete
+    (submit-slot log.shape shuffle member is.first is.last least most) lt (is.stand at) in
     ap (λ (b : Body). length (ciphertext_of b)) said.said
     ∙ submitted-long log.shape (slots_before log.shape at) shuffle said.content.body
     ((bodies_are_of_kinds log.shape at (Submit shuffle) said.content.body (submit-kind log.shape shuffle is.first is.last)).0 said.body)
@@ -153,40 +174,48 @@ list-is log stage shuffle zero entries is most lt e =
 list-is log stage shuffle (suc turn) entries is most lt e =
     let at : ℕ = submit_stage log.shape shuffle + suc turn in
     let said : IsSaid log.shape (past_of log stage) at (suc turn)
-    = said-stands log stage (record { stage = at; sender = suc turn }) is.form is.complete (turn-slot log.shape shuffle (suc turn) is.first is.last (omega arith) most) lt (is.stand at) in
+    = said-stands log stage (record { stage = at; sender = suc turn }) is.form is.complete
+    (turn-slot log.shape shuffle (suc turn) is.first is.last (omega arith) most) lt (is.stand at) in
     list-long log.shape (slots_before log.shape at) shuffle (suc turn) said.content.body entries
-    ((bodies_are_of_kinds log.shape at (Shuffle shuffle (suc turn)) said.content.body (turn-kind log.shape shuffle (suc turn) is.first is.last (omega arith) most)).0 said.body)
+    ((bodies_are_of_kinds log.shape at (Shuffle shuffle (suc turn)) said.content.body
+    (turn-kind log.shape shuffle (suc turn) is.first is.last (omega arith) most)).0 said.body)
     (sym (ap list_of said.said) ∙ e)
 
 -- entries in another order
-order-entries : (count size : ℕ) (seed : List ℕ) (entries : List (List ℕ)) → count ≤ 8 → AreLong count size entries → AreLong count size (in_drawn_order seed entries)
+order-entries : (count size : ℕ) (seed : List ℕ) (entries : List (List ℕ)) → count ≤ 8 → AreLong count size entries
+    → AreLong count size (in_drawn_order seed entries)
 order-entries count size seed entries few are =
     let moved = entries_are_permuted seed entries (omega (arith, few, are.count)) in
     let P : List ℕ → Type 0 = λ entry. length entry ≡ size in
     record {
-      long = all-items P (in_drawn_order seed entries) (All-permutation P entries (in_drawn_order seed entries) moved (all-places P entries are.long));
+      long = all-items P (in_drawn_order seed entries) (All-permutation P entries (in_drawn_order seed entries) moved
+          (all-places P entries are.long));
       count = length_permutation entries (in_drawn_order seed entries) moved ∙ are.count;
     }
 
 -- their bodies
-stripped-entries : (count size : ℕ) (seed : List ℕ) (entries bodies : List (List ℕ)) → AreLong count (size + 2272) entries → stripped seed entries ≡ Some bodies → AreLong count size bodies
+stripped-entries : (count size : ℕ) (seed : List ℕ) (entries bodies : List (List ℕ)) → AreLong count (size + 2272) entries
+    → stripped seed entries ≡ Some bodies → AreLong count size bodies
 stripped-entries count size seed entries bodies are e = record {
   long = bodies-long seed size entries bodies ((strips_exactly seed entries bodies).0 e) are.long;
   count = strips_all seed entries bodies e ∙ are.count;
 }
 
 -- what a turn says
-turn-cases : (seed order : List ℕ) (entries : List (List ℕ)) → (turn_of seed order entries ≡ Abort) ⊎ ((list : List (List ℕ)) × (turn_of seed order entries ≡ Shuffled list))
+turn-cases : (seed order : List ℕ) (entries : List (List ℕ)) → (turn_of seed order entries ≡ Abort)
+    ⊎ ((list : List (List ℕ)) × (turn_of seed order entries ≡ Shuffled list))
 unfolding turn_of
 turn-cases seed order entries = elim (cases_Bool (has_equal entries)) [
   | inl twice ↦ inl (cond-true (has_equal entries) Abort (list_or_abort (option_map (in_drawn_order order) (stripped seed entries))) twice)
-  | inr apart ↦ by_list (option_map (in_drawn_order order) (stripped seed entries)) (cond-false (has_equal entries) Abort (list_or_abort (option_map (in_drawn_order order) (stripped seed entries))) apart)
+  | inr apart ↦ by_list (option_map (in_drawn_order order) (stripped seed entries))
+      (cond-false (has_equal entries) Abort (list_or_abort (option_map (in_drawn_order order) (stripped seed entries))) apart)
 ]
   where
     by_list : (o : Option (List (List ℕ)))
         → (if has_equal entries then Abort else list_or_abort (option_map (in_drawn_order order) (stripped seed entries))) ≡ list_or_abort o
         → ((if has_equal entries then Abort else list_or_abort (option_map (in_drawn_order order) (stripped seed entries))) ≡ Abort)
-        ⊎ ((list : List (List ℕ)) × ((if has_equal entries then Abort else list_or_abort (option_map (in_drawn_order order) (stripped seed entries))) ≡ Shuffled list))
+        ⊎ ((list : List (List ℕ)) × ((if has_equal entries then Abort else list_or_abort
+        (option_map (in_drawn_order order) (stripped seed entries))) ≡ Shuffled list))
     by_list None e = inl e
     by_list (Some list) e = inr (list, e)
 
@@ -198,33 +227,44 @@ level-next n shuffle k lt = by_item (if shuffle == 1 then 36 + 2272 * n else 34)
     by_item item = omega (arith, lt)
 
 turn-is : (shape : Shape) (slots shuffle k : ℕ) (seed order : List ℕ) (entries : List (List ℕ)) → shape.members ≤ 8 → k < shape.members
-    → AreLong shape.members (level shape.members shuffle k) entries → IsBodyAt shape slots (Shuffle shuffle (suc k)) (turn_of seed order entries)
+    → AreLong shape.members (level shape.members shuffle k) entries
+    → IsBodyAt shape slots (Shuffle shuffle (suc k)) (turn_of seed order entries)
 turn-is shape slots shuffle k seed order entries few lt are = elim (turn-cases seed order entries) [
   | inl abort ↦ subst (IsBodyAt shape slots (Shuffle shuffle (suc k))) (sym abort) tt
   | inr list ↦
       let said = turn_says_bodies seed order entries list.0 list.1 in
       let size : ℕ = level shape.members shuffle (suc k) in
-      let bodies = stripped-entries shape.members size seed entries said.1.0 (subst (λ (n : ℕ). AreLong shape.members n entries) (level-next shape.members shuffle k lt) are) said.1.1 in
-      let made : AreLong shape.members size list.0 = subst (AreLong shape.members size) (sym said.1.2) (order-entries shape.members size order said.1.0 few bodies) in
+      let bodies = stripped-entries shape.members size seed entries said.1.0
+      (subst (λ (n : ℕ). AreLong shape.members n entries) (level-next shape.members shuffle k lt) are) said.1.1 in
+      let made : AreLong shape.members size list.0 = subst (AreLong shape.members size) (sym said.1.2)
+      (order-entries shape.members size order said.1.0 few bodies) in
       subst (IsBodyAt shape slots (Shuffle shuffle (suc k))) (sym list.1) (made.long, made.count)
 ]
 
 over-is : (c : Configuration) (shape : Shape) (slots shuffle k : ℕ) (o : Option (List (List ℕ))) → shape.members ≤ 8 → k < shape.members
-    → ((entries : List (List ℕ)) → o ≡ Some entries → AreLong shape.members (level shape.members shuffle k) entries) → IsBodyAt shape slots (Shuffle shuffle (suc k)) (turn_over c shuffle o)
+    → ((entries : List (List ℕ)) → o ≡ Some entries → AreLong shape.members (level shape.members shuffle k) entries)
+    → IsBodyAt shape slots (Shuffle shuffle (suc k)) (turn_over c shuffle o)
 over-is c shape slots shuffle k None few lt each = tt
-over-is c shape slots shuffle k (Some entries) few lt each = turn-is shape slots shuffle k (own_key_seed c (outer_place shuffle)) (own_order_seed c shuffle) entries few lt (each entries refl)
+over-is c shape slots shuffle k (Some entries) few lt each = turn-is shape slots shuffle k (own_key_seed c (outer_place shuffle))
+    (own_order_seed c shuffle) entries few lt (each entries refl)
 
-pub turn-fits : (c : Configuration) (log : Log) (stage shuffle k : ℕ) → IsBehind log stage shuffle → log.shape ≡ shape_in c → c.number ≡ k → 1 ≤ k → k ≤ log.shape.members → log.shape.members ≤ 8
-    → stage ≡ submit_stage log.shape shuffle + k → kind_of_stage log.shape stage ≡ Some (Shuffle shuffle k) → IsBody log.shape stage (turn_row c (past_of log stage) shuffle)
+pub turn-fits : (c : Configuration) (log : Log) (stage shuffle k : ℕ) → IsBehind log stage shuffle → log.shape ≡ shape_in c → c.number ≡ k
+    → 1 ≤ k → k ≤ log.shape.members → log.shape.members ≤ 8
+    → stage ≡ submit_stage log.shape shuffle + k → kind_of_stage log.shape stage ≡ Some (Shuffle shuffle k)
+    → IsBody log.shape stage (turn_row c (past_of log stage) shuffle)
 unfolding turn_row
 turn-fits c log stage shuffle k is same number least most few at kind =
     let past : List (List ℕ) = past_of log stage in
     let back : suc (c.number - 1) ≡ k = omega (arith, number, least) in
-    let said : list_said log.shape past shuffle (c.number - 1) ≡ list_said (shape_in c) past shuffle (c.number - 1) = ap (λ (s : Shape). list_said s past shuffle (c.number - 1)) same in
+    let said : list_said log.shape past shuffle (c.number - 1) ≡ list_said (shape_in c) past shuffle (c.number - 1) = ap
+    (λ (s : Shape). list_said s past shuffle (c.number - 1)) same in
     of-kind log.shape stage (Shuffle shuffle k) (turn_over c shuffle (list_said (shape_in c) past shuffle (c.number - 1))) kind
-    (subst (λ (j : ℕ). IsBodyAt log.shape (slots_before log.shape stage) (Shuffle shuffle j) (turn_over c shuffle (list_said (shape_in c) past shuffle (c.number - 1)))) back
-    (over-is c log.shape (slots_before log.shape stage) shuffle (c.number - 1) (list_said (shape_in c) past shuffle (c.number - 1)) few (omega (arith, number, least, most))
-    (λ entries e. list-is log stage shuffle (c.number - 1) entries is (omega (arith, number, most)) (omega (arith, at, number, least)) (said ∙ e))))
+    (subst (λ (j : ℕ). IsBodyAt log.shape (slots_before log.shape stage) (Shuffle shuffle j)
+    (turn_over c shuffle (list_said (shape_in c) past shuffle (c.number - 1)))) back
+    (over-is c log.shape (slots_before log.shape stage) shuffle (c.number - 1) (list_said (shape_in c) past shuffle (c.number - 1)) few
+    (omega (arith, number, least, most))
+    (λ entries e. list-is log stage shuffle (c.number - 1) entries is (omega (arith, number, most)) (omega (arith, at, number, least))
+    (said ∙ e))))
 
 -- ---- pads
 
@@ -239,9 +279,11 @@ found-pad d member seed pad few e = by_seed _ e
     by_seed None e = absurd (none-some pad e)
     by_seed (Some s) e = elim (cases_Bool (bytes_eq (hash_of_pad (pad_of s d.length)) (pad_hash_for d member))) [
       | inl is ↦
-          let same = pad-same (pad_of s d.length) pad (sym (cond-true (bytes_eq (hash_of_pad (pad_of s d.length)) (pad_hash_for d member)) (Some (pad_of s d.length)) None is) ∙ e) in
+          let same = pad-same (pad_of s d.length) pad (sym (cond-true (bytes_eq (hash_of_pad (pad_of s d.length)) (pad_hash_for d member))
+          (Some (pad_of s d.length)) None is) ∙ e) in
           omega (arith, few, length-pad_of s d.length, ap length same)
-      | inr not_it ↦ absurd (none-some pad (sym (cond-false (bytes_eq (hash_of_pad (pad_of s d.length)) (pad_hash_for d member)) (Some (pad_of s d.length)) None not_it) ∙ e))
+      | inr not_it ↦ absurd (none-some pad (sym (cond-false (bytes_eq (hash_of_pad (pad_of s d.length)) (pad_hash_for d member))
+          (Some (pad_of s d.length)) None not_it) ∙ e))
     ]
 
 read-short : (n : ℕ) (entry : List ℕ) (d : Description) → descriptor_read n entry ≡ Some d → d.length ≤ 65536
@@ -258,25 +300,35 @@ other-pad n member seed entry (Some d) e = by_pad (pad_found d member seed) refl
     by_pad None is = omega arith
     by_pad (Some pad) is = found-pad d member seed pad (read-short n entry d e) is
 
-row-pad : (n : ℕ) (own kept : List ℕ) (member : ℕ) (seed entry : List ℕ) → length kept ≤ 65536 → length (pad_row n own kept member seed entry) ≤ 65536
+row-pad : (n : ℕ) (own kept : List ℕ) (member : ℕ) (seed entry : List ℕ) → length kept ≤ 65536
+    → length (pad_row n own kept member seed entry) ≤ 65536
 unfolding pad_row
 row-pad n own kept member seed entry is = elim (cases_Bool (bytes_eq entry own)) [
-  | inl same ↦ subst (λ (pad : List ℕ). length pad ≤ 65536) (sym (cond-true (bytes_eq entry own) kept (unwrap_or (option_and_then (λ d. pad_found d member seed) (descriptor_read n entry)) []) same)) is
-  | inr other ↦ subst (λ (pad : List ℕ). length pad ≤ 65536) (sym (cond-false (bytes_eq entry own) kept (unwrap_or (option_and_then (λ d. pad_found d member seed) (descriptor_read n entry)) []) other)) (other-pad n member seed entry (descriptor_read n entry) refl)
+  | inl same ↦ subst (λ (pad : List ℕ). length pad ≤ 65536) (sym
+      (cond-true (bytes_eq entry own) kept (unwrap_or (option_and_then (λ d. pad_found d member seed) (descriptor_read n entry)) []) same))
+      is
+  | inr other ↦ subst (λ (pad : List ℕ). length pad ≤ 65536) (sym
+      (cond-false (bytes_eq entry own) kept (unwrap_or (option_and_then (λ d. pad_found d member seed) (descriptor_read n entry)) [])
+      other)) (other-pad n member seed entry (descriptor_read n entry) refl)
 ]
 
 sent-pad : (c : Configuration) (own : List ℕ) (entry : Option (List ℕ)) → length c.message ≤ 65536 → length (pad_for c own entry) ≤ 65536
 sent-pad c own None short = omega arith
-sent-pad c own (Some entry) short = row-pad (shape_in c).members own (own_pad (own_pad_seeds c) c.number c.message) c.number (own_key_seed c bulk_place) entry
+sent-pad c own (Some entry) short = row-pad (shape_in c).members own (own_pad (own_pad_seeds c) c.number c.message) c.number
+    (own_key_seed c bulk_place) entry
     (omega (arith, short, length-own_pad (own_pad_seeds c) c.number c.message))
 
-pub pads-fit : (c : Configuration) (own : List ℕ) (past : List (List ℕ)) (stage : ℕ) → kind_of_stage (shape_in c) stage ≡ Some Pad → length c.message ≤ 65536
+pub pads-fit : (c : Configuration) (own : List ℕ) (past : List (List ℕ)) (stage : ℕ) → kind_of_stage (shape_in c) stage ≡ Some Pad
+    → length c.message ≤ 65536
     → length (items_opened (shape_in c) past 1) ≡ (shape_in c).members → IsBody (shape_in c) stage (pads_row c own past)
 unfolding pads_row
 pads-fit c own past stage at short count =
     let opened : List (Option (List ℕ)) = items_opened (shape_in c) past 1 in
-    of-kind (shape_in c) stage Pad (Pads (map (pad_for c own) (items_opened (shape_in c) past 1))) at
-    (all-map (λ pad. length pad ≤ 65536) (pad_for c own) opened (λ entry. sent-pad c own entry short), length-map opened (pad_for c own) ∙ count)
+    of-kind (shape_in c) stage Pad (Pads (map (pad_for c own) (items_opened (shape_in c) past 1))) at (
+      all-map (λ pad. length pad ≤ 65536) (pad_for c own) opened (λ entry. sent-pad c own entry short),
+      length-map opened (pad_for c own)
+          ∙ count,
+    )
 
 -- ---- closing contents
 
@@ -285,13 +337,16 @@ pub record AreShort (shape : Shape) (stage : ℕ) (posts : List Post) : Type 0 w
   pub whole : length posts ≡ slots_before shape stage
   pub short : AllByRecursion (λ post. length (post_spelling post) < 2 ^ 32) posts
 
-stage-posts : (P : List ℕ → Type 0) (shape : Shape) (posts : List Post) (stage : ℕ) → AllByRecursion (λ post. P (post_spelling post)) posts → AllByRecursion P (written (posts_at shape posts stage))
+stage-posts : (P : List ℕ → Type 0) (shape : Shape) (posts : List Post) (stage : ℕ) → AllByRecursion (λ post. P (post_spelling post)) posts
+    → AllByRecursion P (written (posts_at shape posts stage))
 stage-posts P shape posts stage all =
-    all-map-from P post_spelling (posts_at shape posts stage) (all-take (λ post. P (post_spelling post)) (slots_before shape (stage + 1) - slots_before shape stage) (drop (slots_before shape stage) posts)
+    all-map-from P post_spelling (posts_at shape posts stage) (all-take (λ post. P (post_spelling post))
+    (slots_before shape (stage + 1) - slots_before shape stage) (drop (slots_before shape stage) posts)
     (all-drop (λ post. P (post_spelling post)) (slots_before shape stage) posts all))
 
 -- as many votes as members stand before a closing stage
-votes-count : (shape : Shape) (posts : List Post) (stage : ℕ) (kind vote : StageKind) → kind_of_stage shape stage ≡ Some kind → vote_of kind ≡ Some vote → senders_of shape vote ≡ shape.members
+votes-count : (shape : Shape) (posts : List Post) (stage : ℕ) (kind vote : StageKind) → kind_of_stage shape stage ≡ Some kind
+    → vote_of kind ≡ Some vote → senders_of shape vote ≡ shape.members
     → length posts ≡ slots_before shape stage → length (written (posts_at shape posts (stage - 1))) ≡ shape.members
 votes-count shape posts stage kind vote at closes all whole =
     let follows = closing-follows shape stage kind vote at closes in
@@ -305,23 +360,46 @@ votes-count shape posts stage kind vote at closes all whole =
     ∙ length-take-le (b - a) (drop a posts) (omega (arith, whole, end, next, length-drop a posts))
     ∙ omega (arith, next, all)
 
-pub final-fits : (shape : Shape) (stage shuffle : ℕ) (posts : List Post) (inner outer opening : List ℕ) → AreShort shape stage posts → kind_of_stage shape stage ≡ Some (Final shuffle)
+pub final-fits : (shape : Shape) (stage shuffle : ℕ) (posts : List Post) (inner outer opening : List ℕ) → AreShort shape stage posts
+    → kind_of_stage shape stage ≡ Some (Final shuffle)
     → length inner ≡ 32 → length outer ≡ 32 → length opening ≡ 32 → IsBody shape stage (final_row shape posts stage inner outer opening)
 unfolding final_row
-final-fits shape stage shuffle posts inner outer opening are at i o p = of-kind shape stage (Final shuffle) (if votes_agree shape (contents_of posts) stage then Reveal (written (posts_at shape posts (stage - 1))) inner else Dispute (written posts) outer opening) at
+final-fits shape stage shuffle posts inner outer opening are at i o p = of-kind shape stage (Final shuffle)
+    (if votes_agree shape (contents_of posts) stage then Reveal (written (posts_at shape posts (stage - 1))) inner else Dispute
+    (written posts) outer opening) at
     (elim (cases_Bool (votes_agree shape (contents_of posts) stage)) [
-      | inl agree ↦ subst (IsBodyAt shape (slots_before shape stage) (Final shuffle)) (sym (cond-true (votes_agree shape (contents_of posts) stage) (Reveal (written (posts_at shape posts (stage - 1))) inner) (Dispute (written posts) outer opening) agree))
-          ((stage-posts (λ item. length item < 2 ^ 32) shape posts (stage - 1) are.short, votes-count shape posts stage (Final shuffle) (Go shuffle) at refl refl are.whole), i)
-      | inr differ ↦ subst (IsBodyAt shape (slots_before shape stage) (Final shuffle)) (sym (cond-false (votes_agree shape (contents_of posts) stage) (Reveal (written (posts_at shape posts (stage - 1))) inner) (Dispute (written posts) outer opening) differ))
+      | inl agree ↦ subst (IsBodyAt shape (slots_before shape stage) (Final shuffle))
+          (sym (cond-true (votes_agree shape (contents_of posts) stage) (Reveal (written (posts_at shape posts (stage - 1))) inner)
+          (Dispute (written posts) outer opening) agree)) (
+            (
+              stage-posts (λ item. length item < 2 ^ 32) shape posts (stage - 1) are.short,
+              votes-count shape posts stage (Final shuffle)
+                  (Go shuffle) at refl refl are.whole,
+            ),
+            i,
+          )
+      | inr differ ↦ subst (IsBodyAt shape (slots_before shape stage) (Final shuffle))
+          (sym (cond-false (votes_agree shape (contents_of posts) stage) (Reveal (written (posts_at shape posts (stage - 1))) inner)
+          (Dispute (written posts) outer opening) differ))
           ((all-map-from (λ item. length item < 2 ^ 32) post_spelling posts are.short, length-map posts post_spelling ∙ are.whole), o, p)
     ])
 
-pub confirm-fits : (shape : Shape) (stage : ℕ) (posts : List Post) → AreShort shape stage posts → kind_of_stage shape stage ≡ Some Confirm → IsBody shape stage (confirm_row shape posts stage)
+pub confirm-fits : (shape : Shape) (stage : ℕ) (posts : List Post) → AreShort shape stage posts → kind_of_stage shape stage ≡ Some Confirm
+    → IsBody shape stage (confirm_row shape posts stage)
 unfolding confirm_row
-confirm-fits shape stage posts are at = of-kind shape stage Confirm (if votes_agree shape (contents_of posts) stage then ConfirmBody (written (posts_at shape posts (stage - 1))) else Differ (written posts)) at
+confirm-fits shape stage posts are at = of-kind shape stage Confirm
+    (if votes_agree shape (contents_of posts) stage then ConfirmBody (written (posts_at shape posts (stage - 1))) else Differ
+    (written posts)) at
     (elim (cases_Bool (votes_agree shape (contents_of posts) stage)) [
-      | inl agree ↦ subst (IsBodyAt shape (slots_before shape stage) Confirm) (sym (cond-true (votes_agree shape (contents_of posts) stage) (ConfirmBody (written (posts_at shape posts (stage - 1)))) (Differ (written posts)) agree))
-          (stage-posts (λ item. length item < 2 ^ 32) shape posts (stage - 1) are.short, votes-count shape posts stage Confirm Check at refl refl are.whole)
-      | inr differ ↦ subst (IsBodyAt shape (slots_before shape stage) Confirm) (sym (cond-false (votes_agree shape (contents_of posts) stage) (ConfirmBody (written (posts_at shape posts (stage - 1)))) (Differ (written posts)) differ))
+      | inl agree ↦ subst (IsBodyAt shape (slots_before shape stage) Confirm)
+          (sym (cond-true (votes_agree shape (contents_of posts) stage) (ConfirmBody (written (posts_at shape posts (stage - 1))))
+          (Differ (written posts)) agree)) (
+            stage-posts (λ item. length item < 2 ^ 32) shape posts (stage - 1) are.short,
+            votes-count shape posts stage Confirm Check at refl
+                refl are.whole,
+          )
+      | inr differ ↦ subst (IsBodyAt shape (slots_before shape stage) Confirm)
+          (sym (cond-false (votes_agree shape (contents_of posts) stage) (ConfirmBody (written (posts_at shape posts (stage - 1))))
+          (Differ (written posts)) differ))
           (all-map-from (λ item. length item < 2 ^ 32) post_spelling posts are.short, length-map posts post_spelling ∙ are.whole)
     ])

@@ -53,14 +53,17 @@ IsPlain _ = Unit {0}
 
 level-most : (n shuffle k : ℕ) → n ≤ 8 → level n shuffle k ≤ 54564
 level-most n shuffle k few = elim (cases_Bool (shuffle == 1)) [
-  | inl a ↦ (let item = cond-true (shuffle == 1) (36 + 2272 * n) 34 a in layers (if shuffle == 1 then 36 + 2272 * n else 34) (omega (arith, item, few)))
-  | inr b ↦ (let item = cond-false (shuffle == 1) (36 + 2272 * n) 34 b in layers (if shuffle == 1 then 36 + 2272 * n else 34) (omega (arith, item, few)))
+  | inl a ↦ (let item = cond-true (shuffle == 1) (36 + 2272 * n) 34 a in layers (if shuffle == 1 then 36 + 2272 * n else 34)
+      (omega (arith, item, few)))
+  | inr b ↦ (let item = cond-false (shuffle == 1) (36 + 2272 * n) 34 b in layers (if shuffle == 1 then 36 + 2272 * n else 34)
+      (omega (arith, item, few)))
 ]
   where
     layers : (item : ℕ) → item ≤ 18212 → item + 2272 * (2 * n - k) ≤ 54564
     layers item small = omega (arith, small, few)
 
-open-long : (shape : Shape) (x : Content) (kind : StageKind) → 1 ≤ shape.members → shape.members ≤ 8 → OfGrammar shape x → kind_of_stage shape x.header.stage ≡ Some kind → IsPlain kind
+open-long : (shape : Shape) (x : Content) (kind : StageKind) → 1 ≤ shape.members → shape.members ≤ 8 → OfGrammar shape x
+    → kind_of_stage shape x.header.stage ≡ Some kind → IsPlain kind
     → length (content_text x) ≤ POST_LIMIT
 open-long shape x Keys some few is at plain = omega (arith, fixed-length shape x Keys is at (omega arith))
 open-long shape x (Submit shuffle) some few is at plain =
@@ -71,7 +74,12 @@ open-long shape x (Submit shuffle) some few is at plain =
     layers item = omega (arith, some)
 open-long shape x (Shuffle shuffle k) some few is at plain = elim (turn-length shape x shuffle k is at) [
   | inl abort ↦ omega (arith, abort.1)
-  | inr list ↦ omega (arith, list, mul-le shape.members (level shape.members shuffle k) 8 54564 few (level-most shape.members shuffle k few))
+  | inr list ↦ omega (
+    arith,
+    list,
+    mul-le shape.members (level shape.members shuffle k) 8 54564 few
+        (level-most shape.members shuffle k few),
+  )
 ]
 open-long shape x (Go shuffle) some few is at plain = omega (arith, fixed-length shape x (Go shuffle) is at (omega arith))
 open-long shape x Pad some few is at plain = omega (arith, pads-length shape x is at, few)
@@ -80,14 +88,33 @@ open-long shape x (Final shuffle) some few is at plain = absurd plain
 open-long shape x Confirm some few is at plain = absurd plain
 
 -- a body of such a stage leaves room for its content
-pub plain-short : (shape : Shape) (stage sender : ℕ) (kind : StageKind) (body : Body) → 1 ≤ shape.members → shape.members ≤ 8 → is_slot shape stage sender ≡ true
+pub plain-short : (shape : Shape) (stage sender : ℕ) (kind : StageKind) (body : Body) → 1 ≤ shape.members → shape.members ≤ 8
+    → is_slot shape stage sender ≡ true
     → kind_of_stage shape stage ≡ Some kind → IsPlain kind → IsBody shape stage body → 76 + length (body_text body) ≤ POST_LIMIT
 plain-short shape stage sender kind body some few speaks at plain is =
     let nothing : ℕ = 0 in
-    let header : Header = record { version = shape.version; group = replicate 32 nothing; round = 0; stage = stage; sender = sender; view = replicate 32 nothing } in
+    let header : Header = record {
+      version = shape.version;
+      group = replicate 32 nothing;
+      round = 0;
+      stage = stage;
+      sender = sender;
+      view =
+          replicate 32 nothing;
+    } in
     let long : length (replicate 32 nothing) ≡ 32 = length-replicate 32 nothing in
     let x : Content = record { header = header; body = body } in
-    let grammar : OfGrammar shape x = (record { version_is = refl; group_long = long; round_small = omega arith; slot_is = speaks; view_long = long }, is) in
+    let grammar : OfGrammar shape x = (
+      record {
+        version_is = refl;
+        group_long = long;
+        round_small = omega arith;
+        slot_is = speaks;
+        view_long
+            = long;
+      },
+      is,
+    ) in
     omega (arith, content-long shape x grammar, open-long shape x kind some few grammar at plain)
 
 -- ---- a list of which a few places are long
@@ -110,12 +137,22 @@ elsewhere place size k never = search rules
 sum-before : (place size a n : ℕ) → place < a → sum_to (at_place place size) a n ≡ 0
 unfolding sum_to
 sum-before place size a zero lt = refl
-sum-before place size a (suc n) lt = omega (arith, elsewhere place size a (λ (e : a ≡ place). omega (arith, e, lt)), sum-before place size (a + 1) n (omega arith))
+sum-before place size a (suc n) lt = omega (
+  arith,
+  elsewhere place size a (λ (e : a ≡ place). omega (arith, e, lt)),
+  sum-before place size
+      (a + 1) n (omega arith),
+)
 
 sum-behind : (place size a n : ℕ) → a + n ≤ place → sum_to (at_place place size) a n ≡ 0
 unfolding sum_to
 sum-behind place size a zero le = refl
-sum-behind place size a (suc n) le = omega (arith, elsewhere place size a (λ (e : a ≡ place). omega (arith, e, le)), sum-behind place size (a + 1) n (omega (arith, le)))
+sum-behind place size a (suc n) le = omega (
+  arith,
+  elsewhere place size a (λ (e : a ≡ place). omega (arith, e, le)),
+  sum-behind place size
+      (a + 1) n (omega (arith, le)),
+)
 
 sum-most : (place size a n : ℕ) → sum_to (at_place place size) a n ≤ size
 unfolding sum_to
@@ -126,21 +163,32 @@ sum-most place size a (suc n) = elim (cases_eq a place) [
 ]
 
 -- of a number for each place, and more at two places
-sum-parts : (w p q x y a n : ℕ) → sum_to (λ k. w + at_place p x k + at_place q y k) a n ≡ n * w + sum_to (at_place p x) a n + sum_to (at_place q y) a n
+sum-parts : (w p q x y a n : ℕ) → sum_to (λ k. w + at_place p x k + at_place q y k) a n ≡ n * w + sum_to (at_place p x) a n + sum_to
+    (at_place q y) a n
 unfolding sum_to
 sum-parts w p q x y a zero = omega arith
 sum-parts w p q x y a (suc n) = (let e : suc n * w ≡ w + n * w = grind arith in omega (arith, e, sum-parts w p q x y (a + 1) n))
 
 -- so long are items with their lengths, of which each has at most so many bytes with its own
-items-most : (f : ℕ → ℕ) (a : ℕ) (items : List (List ℕ)) → ((k : ℕ) (item : List ℕ) → slice_get items k ≡ Some item → 4 + length item ≤ f (a + k))
+items-most : (f : ℕ → ℕ) (a : ℕ) (items : List (List ℕ)) → ((k : ℕ) (item : List ℕ) → slice_get items k ≡ Some item
+    → 4 + length item ≤ f (a + k))
     → length (flat_map prefixed items) ≤ sum_to f a (length items)
 unfolding sum_to
 items-most f a [] each = omega arith
 items-most f a (item ∷ items) each =
     let first : 4 + length item ≤ f (a + 0) = each 0 item refl in
     let same : a + 0 ≡ a = omega arith in
-    let rest = items-most f (a + 1) items (λ k x at. (let e : a + suc k ≡ a + 1 + k = omega arith in subst (λ (j : ℕ). 4 + length x ≤ f j) e (each (suc k) x at))) in
-    omega (arith, first, ap f same, length-append (prefixed item) (flat_map prefixed items), length-append (to_be_bytes w32 (length item)) item, rest)
+    let rest = items-most f (a + 1) items (λ k x at. (let e : a + suc k ≡ a + 1 + k = omega arith in subst (λ (j : ℕ). 4 + length x ≤ f j) e
+    (each (suc k) x at))) in
+    omega (
+      arith,
+      first,
+      ap f same,
+      length-append (prefixed item) (flat_map prefixed items),
+      length-append (to_be_bytes w32 (length item))
+          item,
+      rest,
+    )
 
 -- ---- the posts before a stage
 
@@ -151,13 +199,15 @@ record StandsAt (log : Log) (stage number : ℕ) (post : Post) : Type 0 where
   pub earlier : slot.stage < stage
   pub kept : kept_in log slot ≡ Some post
 
-stands-at : (log : Log) (stage number : ℕ) (post : Post) → IsLog log → IsSome (before log stage) → slice_get (posts_before log stage) number ≡ Some post → StandsAt log stage number post
+stands-at : (log : Log) (stage number : ℕ) (post : Post) → IsLog log → IsSome (before log stage)
+    → slice_get (posts_before log stage) number ≡ Some post → StandsAt log stage number post
 stands-at log stage number post is complete at =
     let past : List Post = posts_before log stage in
     let whole = complete-posts log stage complete in
     let within = slice_get_within past number post at in
     let long = past-length log stage past is whole in
-    let slot = there (slots_of log.shape) number (omega (arith, within, long, slots_before-most log.shape stage, length-slots_of log.shape)) in
+    let slot = there (slots_of log.shape) number (omega (arith, within, long, slots_before-most log.shape stage, length-slots_of log.shape))
+    in
     let is_there = slot_at-is log.shape number slot.0 slot.1 in
     let inside = slot_number-within log.shape slot.0.stage slot.0.sender is_there.0 in
     let number_is = is_there.1 in
@@ -184,27 +234,34 @@ abbrev room_at : Shape → ℕ → ℕ → ℕ
 room_at shape number k =
     16786548 + at_place (first_end shape number) 536870912 k + at_place (checks_end shape number) 1476395008 k
 
-limit-at : (log : Log) (stage k number : ℕ) (post : Post) → stage ≤ final_stage log.shape 2 → IsShortLog number log → StandsAt log stage k post
+limit-at : (log : Log) (stage k number : ℕ) (post : Post) → stage ≤ final_stage log.shape 2 → IsShortLog number log
+    → StandsAt log stage k post
     → 4 + length (post_spelling post) ≤ room_at log.shape number k
 limit-at log stage k number post most short stands =
     let slot : Slot = stands.slot in
-    let few : length (post_spelling post) ≤ most_in log.shape number slot.stage slot.sender = short slot.stage slot.sender post stands.kept in
+    let few : length (post_spelling post) ≤ most_in log.shape number slot.stage slot.sender = short slot.stage slot.sender post stands.kept
+    in
     let number_is : slot_number log.shape slot.stage slot.sender ≡ k = (slot_at-is log.shape k slot stands.at).1 in
     elim (cases_eq slot.sender number) [
       | inl own ↦
-          let limit : most_in log.shape number slot.stage slot.sender ≡ own_limit (kind_of_stage log.shape slot.stage) + (4 + LONGEST_SIGNATURE)
-          = cond-true (slot.sender == number) (own_limit (kind_of_stage log.shape slot.stage) + (4 + LONGEST_SIGNATURE)) POST_LIMIT (eq-eqb slot.sender number own) in
+          let limit : most_in log.shape number slot.stage slot.sender ≡ own_limit (kind_of_stage log.shape slot.stage) +
+          (4 + LONGEST_SIGNATURE)
+          = cond-true (slot.sender == number) (own_limit (kind_of_stage log.shape slot.stage) + (4 + LONGEST_SIGNATURE)) POST_LIMIT
+          (eq-eqb slot.sender number own) in
           let same : slot_number log.shape slot.stage number ≡ k = ap (slot_number log.shape slot.stage) (sym own) ∙ number_is in
-          by_kind (kind_of_stage log.shape slot.stage) slot.stage (length (post_spelling post)) refl (omega (arith, few, limit)) stands.earlier same
+          by_kind (kind_of_stage log.shape slot.stage) slot.stage (length (post_spelling post)) refl (omega (arith, few, limit))
+          stands.earlier same
       | inr other ↦
-          let limit : most_in log.shape number slot.stage slot.sender ≡ POST_LIMIT = others (own_limit (kind_of_stage log.shape slot.stage) + (4 + LONGEST_SIGNATURE)) slot.sender other in
+          let limit : most_in log.shape number slot.stage slot.sender ≡ POST_LIMIT = others
+          (own_limit (kind_of_stage log.shape slot.stage) + (4 + LONGEST_SIGNATURE)) slot.sender other in
           omega (arith, few, limit)
     ]
   where
     others : (size sender : ℕ) → (sender ≡ number → ⊥) → (if sender == number then size else POST_LIMIT) ≡ POST_LIMIT
     others size sender never = search rules
 
-    by_kind : (o : Option StageKind) (at long : ℕ) → kind_of_stage log.shape at ≡ o → long ≤ own_limit o + (4 + LONGEST_SIGNATURE) → at < stage → slot_number log.shape at number ≡ k
+    by_kind : (o : Option StageKind) (at long : ℕ) → kind_of_stage log.shape at ≡ o → long ≤ own_limit o + (4 + LONGEST_SIGNATURE)
+        → at < stage → slot_number log.shape at number ≡ k
         → 4 + long ≤ room_at log.shape number k
     by_kind None at long e less lt same = omega (arith, less)
     by_kind (Some Keys) at long e less lt same = omega (arith, less)
@@ -221,7 +278,8 @@ limit-at log stage k number post most short stands =
         let placed : IsPlaced log.shape at (Final shuffle) = kind-place log.shape at (Final shuffle) e in
         elim (cases_eq shuffle 1) [
           | inl is ↦
-              let limit : own_limit (Some (Final shuffle)) ≡ 33 * POST_LIMIT = cond-true (shuffle == 1) (33 * POST_LIMIT) (209 * POST_LIMIT) (eq-eqb shuffle 1 is) in
+              let limit : own_limit (Some (Final shuffle)) ≡ 33 * POST_LIMIT = cond-true (shuffle == 1) (33 * POST_LIMIT) (209 * POST_LIMIT)
+              (eq-eqb shuffle 1 is) in
               let stage_is : at ≡ final_stage log.shape 1 = placed.at ∙ ap (final_stage log.shape) is in
               let number_is : k ≡ first_end log.shape number = sym same ∙ ap (λ (s : ℕ). slot_number log.shape s number) stage_is in
               omega (arith, less, limit, here (first_end log.shape number) 536870912 k number_is)
@@ -237,12 +295,14 @@ past-long : (log : Log) (stage number : ℕ) → IsLog log → IsSome (before lo
     → length (flat_map prefixed (written (posts_before log stage))) ≤ sum_to (room_at log.shape number) 0 (slots_before log.shape stage)
 past-long log stage number is complete most short =
     let past : List Post = posts_before log stage in
-    let count : length (written past) ≡ slots_before log.shape stage = length-map past post_spelling ∙ past-length log stage past is (complete-posts log stage complete) in
+    let count : length (written past) ≡ slots_before log.shape stage = length-map past post_spelling
+    ∙ past-length log stage past is (complete-posts log stage complete) in
     subst (λ (n : ℕ). length (flat_map prefixed (written past)) ≤ sum_to (room_at log.shape number) 0 n) count
     (items-most (room_at log.shape number) 0 (written past) (λ k item at. (
     let within = slice_get_within (written past) k item at in
     let post = there past k (omega (arith, within, length-map past post_spelling)) in
-    let same : item ≡ post_spelling post.0 = item-same item (post_spelling post.0) (sym at ∙ slice_get-map post_spelling past k ∙ ap (option_map post_spelling) post.1) in
+    let same : item ≡ post_spelling post.0 = item-same item (post_spelling post.0)
+    (sym at ∙ slice_get-map post_spelling past k ∙ ap (option_map post_spelling) post.1) in
     let place : k ≡ 0 + k = omega arith in
     let few = limit-at log stage k number post.0 most short (stands-at log stage k post.0 is complete post.1) in
     subst (λ (j : ℕ). 4 + length item ≤ room_at log.shape number j) place (omega (arith, few, ap length same)))))
@@ -251,7 +311,8 @@ past-long log stage number is complete most short =
     item-same a b e = cc
 
 -- each post has its length in four bytes
-pub posts-short : (log : Log) (stage number : ℕ) → IsLog log → IsSome (before log stage) → stage ≤ final_stage log.shape 2 → IsShortLog number log → AreShort log.shape stage (posts_before log stage)
+pub posts-short : (log : Log) (stage number : ℕ) → IsLog log → IsSome (before log stage) → stage ≤ final_stage log.shape 2
+    → IsShortLog number log → AreShort log.shape stage (posts_before log stage)
 posts-short log stage number is complete most short =
     let past : List Post = posts_before log stage in
     record {
@@ -298,7 +359,17 @@ before-checks shape =
     let checks_at : pad_stage shape + 1 ≡ n + 5 = omega arith in
     let checks = slots_next shape (n + 5) Check (check_is shape (n + 5) refl) in
     let at : n + 5 + 1 ≡ n + 6 = omega arith in
-    omega (arith, before-first shape, ends, ap (slots_before shape) pads_at, pads, ap (slots_before shape) checks_at, checks, ap (slots_before shape) at)
+    omega (
+      arith,
+      before-first shape,
+      ends,
+      ap (slots_before shape) pads_at,
+      pads,
+      ap (slots_before shape) checks_at,
+      checks,
+      ap
+          (slots_before shape) at,
+    )
 
 before-second : (shape : Shape) → slots_before shape (final_stage shape 2) ≡ 11 * shape.members
 before-second shape =
@@ -318,7 +389,13 @@ pub record IsClosedBy (log : Log) (stage number : ℕ) : Type 0 where
   pub last : number ≤ log.shape.members
 
 sum-first : (w p q x y n : ℕ) → n ≤ p → n ≤ q → sum_to (λ k. w + at_place p x k + at_place q y k) 0 n ≤ n * w
-sum-first w p q x y n before_p before_q = omega (arith, sum-parts w p q x y 0 n, sum-behind p x 0 n (omega (arith, before_p)), sum-behind q y 0 n (omega (arith, before_q)))
+sum-first w p q x y n before_p before_q = omega (
+  arith,
+  sum-parts w p q x y 0 n,
+  sum-behind p x 0 n (omega (arith, before_p)),
+  sum-behind q
+      y 0 n (omega (arith, before_q)),
+)
 
 sum-checks : (w p q x y n : ℕ) → n ≤ q → sum_to (λ k. w + at_place p x k + at_place q y k) 0 n ≤ n * w + x
 sum-checks w p q x y n before_q = omega (arith, sum-parts w p q x y 0 n, sum-most p x 0 n, sum-behind q y 0 n (omega (arith, before_q)))
@@ -326,15 +403,20 @@ sum-checks w p q x y n before_q = omega (arith, sum-parts w p q x y 0 n, sum-mos
 sum-second : (w p q x y n : ℕ) → sum_to (λ k. w + at_place p x k + at_place q y k) 0 n ≤ n * w + x + y
 sum-second w p q x y n = omega (arith, sum-parts w p q x y 0 n, sum-most p x 0 n, sum-most q y 0 n)
 
-first-behind : (shape : Shape) (number : ℕ) → 1 ≤ number → number ≤ shape.members → slots_before shape (final_stage shape 1) ≤ first_end shape number
-first-behind shape number first last = (slot_number-within shape (final_stage shape 1) number (final-slot shape 1 number (omega arith) (omega arith) first last)).0
+first-behind : (shape : Shape) (number : ℕ) → 1 ≤ number → number ≤ shape.members
+    → slots_before shape (final_stage shape 1) ≤ first_end shape number
+first-behind shape number first last = (slot_number-within shape (final_stage shape 1) number
+    (final-slot shape 1 number (omega arith) (omega arith) first last)).0
 
-checks-behind : (shape : Shape) (number : ℕ) → 1 ≤ number → number ≤ shape.members → slots_before shape (shape.members + 6) ≤ checks_end shape number
+checks-behind : (shape : Shape) (number : ℕ) → 1 ≤ number → number ≤ shape.members
+    → slots_before shape (shape.members + 6) ≤ checks_end shape number
 checks-behind shape number first last =
-    (slot_number-within shape (shape.members + 6) number (ap (λ (o : Option StageKind). speaks shape o number) (confirm_is shape (shape.members + 6) refl) ∙ member-there shape.members number first last)).0
+    (slot_number-within shape (shape.members + 6) number (ap (λ (o : Option StageKind). speaks shape o number)
+    (confirm_is shape (shape.members + 6) refl) ∙ member-there shape.members number first last)).0
 
 -- so long are all posts before it, as they are embedded
-posts-first : (log : Log) (stage number : ℕ) → IsClosedBy log stage number → stage ≡ final_stage log.shape 1 → length (flat_map prefixed (written (posts_before log stage))) + 140 ≤ 33 * POST_LIMIT
+posts-first : (log : Log) (stage number : ℕ) → IsClosedBy log stage number → stage ≡ final_stage log.shape 1
+    → length (flat_map prefixed (written (posts_before log stage))) + 140 ≤ 33 * POST_LIMIT
 posts-first log stage number is at =
     let n : ℕ = slots_before log.shape stage in
     let few = is.few in
@@ -343,20 +425,24 @@ posts-first log stage number is at =
     let own = first-behind log.shape number is.first is.last in
     let later = checks-behind log.shape number is.first is.last in
     let rises = slots_before-rises log.shape (final_stage log.shape 1) (log.shape.members + 6) (omega arith) in
-    let whole = sum-first 16786548 (first_end log.shape number) (checks_end log.shape number) 536870912 1476395008 n (omega (arith, same, own)) (omega (arith, same, rises, later)) in
+    let whole = sum-first 16786548 (first_end log.shape number) (checks_end log.shape number) 536870912 1476395008 n
+    (omega (arith, same, own)) (omega (arith, same, rises, later)) in
     omega (arith, whole, count, few, past-long log stage number is.form is.complete (omega (arith, at)) is.short)
 
-posts-checks : (log : Log) (stage number : ℕ) → IsClosedBy log stage number → stage ≡ log.shape.members + 6 → length (flat_map prefixed (written (posts_before log stage))) + 140 ≤ 89 * POST_LIMIT
+posts-checks : (log : Log) (stage number : ℕ) → IsClosedBy log stage number → stage ≡ log.shape.members + 6
+    → length (flat_map prefixed (written (posts_before log stage))) + 140 ≤ 89 * POST_LIMIT
 posts-checks log stage number is at =
     let n : ℕ = slots_before log.shape stage in
     let few = is.few in
     let count : n ≡ 7 * log.shape.members = ap (slots_before log.shape) at ∙ before-checks log.shape in
     let same = ap (slots_before log.shape) at in
     let later = checks-behind log.shape number is.first is.last in
-    let whole = sum-checks 16786548 (first_end log.shape number) (checks_end log.shape number) 536870912 1476395008 n (omega (arith, same, later)) in
+    let whole = sum-checks 16786548 (first_end log.shape number) (checks_end log.shape number) 536870912 1476395008 n
+    (omega (arith, same, later)) in
     omega (arith, whole, count, few, past-long log stage number is.form is.complete (omega (arith, at)) is.short)
 
-posts-second : (log : Log) (stage number : ℕ) → IsClosedBy log stage number → stage ≡ final_stage log.shape 2 → length (flat_map prefixed (written (posts_before log stage))) + 140 ≤ 209 * POST_LIMIT
+posts-second : (log : Log) (stage number : ℕ) → IsClosedBy log stage number → stage ≡ final_stage log.shape 2
+    → length (flat_map prefixed (written (posts_before log stage))) + 140 ≤ 209 * POST_LIMIT
 posts-second log stage number is at =
     let n : ℕ = slots_before log.shape stage in
     let few = is.few in
@@ -369,53 +455,88 @@ drop-less zero items = omega arith
 drop-less (suc n) [] = omega arith
 drop-less (suc n) (item ∷ items) = omega (arith, length-append (prefixed item) (flat_map prefixed items), drop-less n items)
 
-part-less : (shape : Shape) (posts : List Post) (stage : ℕ) → length (flat_map prefixed (written (posts_at shape posts stage))) ≤ length (flat_map prefixed (written posts))
+part-less : (shape : Shape) (posts : List Post) (stage : ℕ) → length (flat_map prefixed (written (posts_at shape posts stage))) ≤ length
+    (flat_map prefixed (written posts))
 part-less shape posts stage =
     let a : ℕ = slots_before shape stage in
     let b : ℕ = slots_before shape (stage + 1) in
-    let same : written (posts_at shape posts stage) ≡ take (b - a) (drop a (written posts)) = sym (ap (take (b - a)) (drop-map post_spelling a posts) ∙ take-map post_spelling (b - a) (drop a posts)) in
-    omega (arith, ap (λ (items : List (List ℕ)). length (flat_map prefixed items)) same, take-less (b - a) (drop a (written posts)), drop-less a (written posts))
+    let same : written (posts_at shape posts stage) ≡ take (b - a) (drop a (written posts)) = sym
+    (ap (take (b - a)) (drop-map post_spelling a posts) ∙ take-map post_spelling (b - a) (drop a posts)) in
+    omega (
+      arith,
+      ap (λ (items : List (List ℕ)). length (flat_map prefixed items)) same,
+      take-less (b - a) (drop a (written posts)),
+      drop-less a (written posts),
+    )
 
 -- what a body that embeds posts has besides
-final-extra : (shape : Shape) (past : List Post) (stage : ℕ) (inner outer opening : List ℕ) → length inner ≡ 32 → length outer ≡ 32 → length opening ≡ 32
+final-extra : (shape : Shape) (past : List Post) (stage : ℕ) (inner outer opening : List ℕ) → length inner ≡ 32 → length outer ≡ 32
+    → length opening ≡ 32
     → length (body_text (final_row shape past stage inner outer opening)) ≤ length (flat_map prefixed (written past)) + 64
 unfolding final_row
 final-extra shape past stage inner outer opening i o p = elim (cases_Bool (votes_agree shape (contents_of past) stage)) [
   | inl agree ↦
-      let row = cond-true (votes_agree shape (contents_of past) stage) (Reveal (written (posts_at shape past (stage - 1))) inner) (Dispute (written past) outer opening) agree in
-      omega (arith, ap (λ (b : Body). length (body_text b)) row, length-append (flat_map prefixed (written (posts_at shape past (stage - 1)))) inner, i, part-less shape past (stage - 1))
+      let row = cond-true (votes_agree shape (contents_of past) stage) (Reveal (written (posts_at shape past (stage - 1))) inner)
+      (Dispute (written past) outer opening) agree in
+      omega (
+        arith,
+        ap (λ (b : Body). length (body_text b)) row,
+        length-append
+            (flat_map prefixed (written (posts_at shape past (stage - 1)))) inner,
+        i,
+        part-less shape past (stage - 1),
+      )
   | inr differ ↦
-      let row = cond-false (votes_agree shape (contents_of past) stage) (Reveal (written (posts_at shape past (stage - 1))) inner) (Dispute (written past) outer opening) differ in
-      omega (arith, ap (λ (b : Body). length (body_text b)) row, length-append (flat_map prefixed (written past)) (outer ++ opening), length-append outer opening, o, p)
+      let row = cond-false (votes_agree shape (contents_of past) stage) (Reveal (written (posts_at shape past (stage - 1))) inner)
+      (Dispute (written past) outer opening) differ in
+      omega (
+        arith,
+        ap (λ (b : Body). length (body_text b)) row,
+        length-append (flat_map prefixed (written past)) (outer ++ opening),
+        length-append outer opening,
+        o,
+        p,
+      )
 ]
 
-confirm-extra : (shape : Shape) (past : List Post) (stage : ℕ) → length (body_text (confirm_row shape past stage)) ≤ length (flat_map prefixed (written past)) + 64
+confirm-extra : (shape : Shape) (past : List Post) (stage : ℕ) → length (body_text (confirm_row shape past stage)) ≤ length
+    (flat_map prefixed (written past)) + 64
 unfolding confirm_row
 confirm-extra shape past stage = elim (cases_Bool (votes_agree shape (contents_of past) stage)) [
   | inl agree ↦
-      let row = cond-true (votes_agree shape (contents_of past) stage) (ConfirmBody (written (posts_at shape past (stage - 1)))) (Differ (written past)) agree in
+      let row = cond-true (votes_agree shape (contents_of past) stage) (ConfirmBody (written (posts_at shape past (stage - 1))))
+      (Differ (written past)) agree in
       omega (arith, ap (λ (b : Body). length (body_text b)) row, part-less shape past (stage - 1))
   | inr differ ↦
-      let row = cond-false (votes_agree shape (contents_of past) stage) (ConfirmBody (written (posts_at shape past (stage - 1)))) (Differ (written past)) differ in
+      let row = cond-false (votes_agree shape (contents_of past) stage) (ConfirmBody (written (posts_at shape past (stage - 1))))
+      (Differ (written past)) differ in
       omega (arith, ap (λ (b : Body). length (body_text b)) row)
 ]
 
-pub final-short : (log : Log) (stage shuffle number : ℕ) (inner outer opening : List ℕ) → IsClosedBy log stage number → IsPlaced log.shape stage (Final shuffle)
+pub final-short : (log : Log) (stage shuffle number : ℕ) (inner outer opening : List ℕ) → IsClosedBy log stage number
+    → IsPlaced log.shape stage (Final shuffle)
     → length inner ≡ 32 → length outer ≡ 32 → length opening ≡ 32
     → 76 + length (body_text (final_row log.shape (posts_before log stage) stage inner outer opening)) ≤ own_limit (Some (Final shuffle))
 final-short log stage shuffle number inner outer opening is placed i o p =
     let extra = final-extra log.shape (posts_before log stage) stage inner outer opening i o p in
     elim (cases_eq shuffle 1) [
       | inl first ↦
-          let limit : own_limit (Some (Final shuffle)) ≡ 33 * POST_LIMIT = cond-true (shuffle == 1) (33 * POST_LIMIT) (209 * POST_LIMIT) (eq-eqb shuffle 1 first) in
+          let limit : own_limit (Some (Final shuffle)) ≡ 33 * POST_LIMIT = cond-true (shuffle == 1) (33 * POST_LIMIT) (209 * POST_LIMIT)
+          (eq-eqb shuffle 1 first) in
           omega (arith, extra, limit, posts-first log stage number is (placed.at ∙ ap (final_stage log.shape) first))
       | inr other ↦
           let within = placed.kind_in in
           let second : shuffle ≡ 2 = omega (arith, within.0, within.1) in
-          let limit : own_limit (Some (Final shuffle)) ≡ 209 * POST_LIMIT = cond-false (shuffle == 1) (33 * POST_LIMIT) (209 * POST_LIMIT) (ap (λ (s : ℕ). s == 1) second) in
+          let limit : own_limit (Some (Final shuffle)) ≡ 209 * POST_LIMIT = cond-false (shuffle == 1) (33 * POST_LIMIT) (209 * POST_LIMIT)
+          (ap (λ (s : ℕ). s == 1) second) in
           omega (arith, extra, limit, posts-second log stage number is (placed.at ∙ ap (final_stage log.shape) second))
     ]
 
 pub confirm-short : (log : Log) (stage number : ℕ) → IsClosedBy log stage number → stage ≡ log.shape.members + 6
     → 76 + length (body_text (confirm_row log.shape (posts_before log stage) stage)) ≤ own_limit (Some Confirm)
-confirm-short log stage number is at = omega (arith, confirm-extra log.shape (posts_before log stage) stage, posts-checks log stage number is at)
+confirm-short log stage number is at = omega (
+  arith,
+  confirm-extra log.shape (posts_before log stage) stage,
+  posts-checks log stage number
+      is at,
+)

@@ -32,7 +32,8 @@ open-by c a Goes shows = refl
 open-by c a DoneVerdict shows = absurd shows
 open-by c a (Convicts transcript) shows = absurd shows
 
-open-shown : (ending : Ending) (c : Configuration) (a : Actor) → IsOpen ending → ShowsOutcome ending (outcome_of c a) → is_open a.ending ≡ true
+open-shown : (ending : Ending) (c : Configuration) (a : Actor) → IsOpen ending → ShowsOutcome ending (outcome_of c a)
+    → is_open a.ending ≡ true
 open-shown Open c a going shows = open-by c a a.ending shows
 open-shown (Done slots) c a going shows = absurd going
 open-shown (Blamed conviction) c a going shows = absurd going
@@ -121,27 +122,32 @@ evidence-when Stopped o shows = absurd (stopped-shown o shows)
 -- ---- of a plain conduct
 
 -- what a member comes to that stands for deliveries with a plain conduct
-pub stands-comes : {A : Type 0} (replies_of : A → Replies) (start : Replies) (c : Configuration) (delivered : List (List ℕ)) (m : Membership A)
+pub stands-comes : {A : Type 0} (replies_of : A → Replies) (start : Replies) (c : Configuration) (delivered : List (List ℕ))
+    (m : Membership A)
     → Stands replies_of start c delivered m → IsPlain start → ComesTo c delivered (actor_after start c delivered)
 stands-comes replies_of start c delivered m is plain = plain_comes_to_result start c delivered plain is.stands.can_enter is.strings
 
-pub plain-state : {A : Type 0} (replies_of : A → Replies) (start : Replies) (c : Configuration) (delivered : List (List ℕ)) (m : Membership A)
+pub plain-state : {A : Type 0} (replies_of : A → Replies) (start : Replies) (c : Configuration) (delivered : List (List ℕ))
+    (m : Membership A)
     → Stands replies_of start c delivered m → IsPlain start → state_by m.holds m.holds.ending ≡ state_of (result_of c delivered)
 plain-state replies_of start c delivered m is plain =
     state-shown start c delivered m.holds is.stands.at ∙ ap state_of (stands-comes replies_of start c delivered m is plain).outcome
 
-pub plain-slots : {A : Type 0} (replies_of : A → Replies) (start : Replies) (c : Configuration) (delivered : List (List ℕ)) (m : Membership A)
+pub plain-slots : {A : Type 0} (replies_of : A → Replies) (start : Replies) (c : Configuration) (delivered : List (List ℕ))
+    (m : Membership A)
     → Stands replies_of start c delivered m → IsPlain start → slots_held m.holds.ending ≡ slots_shown (result_of c delivered)
 plain-slots replies_of start c delivered m is plain =
     slots-when m.holds.ending (outcome_of c (actor_after start c delivered)) is.stands.at.ending
     ∙ ap slots_shown (stands-comes replies_of start c delivered m is plain).outcome
 
-pub plain-evidence : {A : Type 0} (replies_of : A → Replies) (start : Replies) (c : Configuration) (delivered : List (List ℕ)) (m : Membership A)
+pub plain-evidence : {A : Type 0} (replies_of : A → Replies) (start : Replies) (c : Configuration) (delivered : List (List ℕ))
+    (m : Membership A)
     → Stands replies_of start c delivered m → IsPlain start → evidence_held m.holds.ending ≡ evidence_shown (result_of c delivered)
 plain-evidence replies_of start c delivered m is plain =
     evidence-when m.holds.ending (outcome_of c (actor_after start c delivered)) is.stands.at.ending
     ∙ ap evidence_shown (stands-comes replies_of start c delivered m is plain).outcome
 
-pub plain-made : {A : Type 0} (replies_of : A → Replies) (start : Replies) (c : Configuration) (delivered : List (List ℕ)) (m : Membership A)
+pub plain-made : {A : Type 0} (replies_of : A → Replies) (start : Replies) (c : Configuration) (delivered : List (List ℕ))
+    (m : Membership A)
     → Stands replies_of start c delivered m → IsPlain start → posts_made m.holds ≡ posts_of c delivered
 plain-made replies_of start c delivered m is plain = is.stands.at.made ∙ (stands-comes replies_of start c delivered m is plain).posts

@@ -32,8 +32,10 @@ pub record IsPlaced (shape : Shape) (stage : ℕ) (kind : StageKind) : Type 0 wh
   pub kind_in : IsKindIn shape kind
   pub at : stage ≡ place_of shape kind
 
-placed : (shape : Shape) (stage : ℕ) (o : Option StageKind) (known kind : StageKind) → o ≡ Some known → o ≡ Some kind → IsPlaced shape stage known → IsPlaced shape stage kind
-placed shape stage o known kind e f is = (let both : Some known ≡ Some kind = sym e ∙ f in let same : known ≡ kind = cc in subst (IsPlaced shape stage) same is)
+placed : (shape : Shape) (stage : ℕ) (o : Option StageKind) (known kind : StageKind) → o ≡ Some known → o ≡ Some kind
+    → IsPlaced shape stage known → IsPlaced shape stage kind
+placed shape stage o known kind e f is = (let both : Some known ≡ Some kind = sym e
+    ∙ f in let same : known ≡ kind = cc in subst (IsPlaced shape stage) same is)
 
 pub kind-place : (shape : Shape) (stage : ℕ) (kind : StageKind) → kind_of_stage shape stage ≡ Some kind → IsPlaced shape stage kind
 kind-place shape stage kind e =
@@ -57,12 +59,14 @@ kind-place shape stage kind e =
       ]
     ]
   where
-    latest : (shape : Shape) (stage : ℕ) (kind : StageKind) → kind_of_stage shape stage ≡ Some kind → shape.members + 7 < stage → IsPlaced shape stage kind
+    latest : (shape : Shape) (stage : ℕ) (kind : StageKind) → kind_of_stage shape stage ≡ Some kind → shape.members + 7 < stage
+        → IsPlaced shape stage kind
     latest shape stage kind e least =
         let by : (known : StageKind) → kind_of_stage shape stage ≡ Some known → IsPlaced shape stage known → IsPlaced shape stage kind
         = λ known is. placed shape stage (kind_of_stage shape stage) known kind is e in
         elim (cases_lt stage (shape.members + shape.members + 8)) [
-          | inl lt ↦ by (Shuffle 2 (stage - (shape.members + 7))) (turn_b shape stage (stage - (shape.members + 7)) (omega arith) (omega arith) (omega arith))
+          | inl lt ↦ by (Shuffle 2 (stage - (shape.members + 7)))
+              (turn_b shape stage (stage - (shape.members + 7)) (omega arith) (omega arith) (omega arith))
               (record { kind_in = (omega arith, omega arith, omega arith, omega arith); at = omega arith })
           | inr le ↦ elim (cases_eq stage (shape.members + shape.members + 8)) [
             | inl at ↦ by (Go 2) (go_b_is shape stage at) (record { kind_in = (omega arith, omega arith); at = omega arith })
@@ -73,7 +77,8 @@ kind-place shape stage kind e =
           ]
         ]
 
-    later : (shape : Shape) (stage : ℕ) (kind : StageKind) → kind_of_stage shape stage ≡ Some kind → shape.members + 3 < stage → IsPlaced shape stage kind
+    later : (shape : Shape) (stage : ℕ) (kind : StageKind) → kind_of_stage shape stage ≡ Some kind → shape.members + 3 < stage
+        → IsPlaced shape stage kind
     later shape stage kind e least =
         let by : (known : StageKind) → kind_of_stage shape stage ≡ Some known → IsPlaced shape stage known → IsPlaced shape stage kind
         = λ known is. placed shape stage (kind_of_stage shape stage) known kind is e in
@@ -92,13 +97,16 @@ kind-place shape stage kind e =
         ]
 
 -- who speaks at a turn is the member whose turn it is
-pub turn-own : (shape : Shape) (stage sender shuffle k : ℕ) → kind_of_stage shape stage ≡ Some (Shuffle shuffle k) → is_slot shape stage sender ≡ true → sender ≡ k
+pub turn-own : (shape : Shape) (stage sender shuffle k : ℕ) → kind_of_stage shape stage ≡ Some (Shuffle shuffle k)
+    → is_slot shape stage sender ≡ true → sender ≡ k
 turn-own shape stage sender shuffle k e there = eqb-true sender k (sym (ap (λ (o : Option StageKind). speaks shape o sender) e) ∙ there)
 
 -- the end of a shuffle is no stage of submissions
-pub final-apart : (shape : Shape) (stage shuffle : ℕ) → IsPlaced shape stage (Final shuffle) → (1 < stage) × (submit_stage shape 2 ≡ stage → ⊥)
+pub final-apart : (shape : Shape) (stage shuffle : ℕ) → IsPlaced shape stage (Final shuffle) → (1 < stage)
+    × (submit_stage shape 2 ≡ stage → ⊥)
 final-apart shape stage shuffle placed = elim (cases_eq shuffle 1) [
-  | inl one ↦ (let here : stage ≡ final_stage shape 1 = placed.at ∙ ap (final_stage shape) one in (omega (arith, here), λ e. omega (arith, e, here)))
+  | inl one ↦ (let here : stage ≡ final_stage shape 1 = placed.at
+      ∙ ap (final_stage shape) one in (omega (arith, here), λ e. omega (arith, e, here)))
   | inr other ↦ (
       let within = placed.kind_in in
       let two : shuffle ≡ 2 = omega (arith, within.0, within.1) in

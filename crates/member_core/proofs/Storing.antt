@@ -73,7 +73,8 @@ flatten-some (Some None) x e = absurd cc
 flatten-some None x e = absurd cc
 
 -- slots of two senders have two numbers
-numbers-apart : (shape : Shape) (slot other : Slot) → is_slot shape slot.stage slot.sender ≡ true → is_slot shape other.stage other.sender ≡ true
+numbers-apart : (shape : Shape) (slot other : Slot) → is_slot shape slot.stage slot.sender ≡ true
+    → is_slot shape other.stage other.sender ≡ true
     → (slot.sender ≡ other.sender → ⊥) → slot_number shape other.stage other.sender ≡ slot_number shape slot.stage slot.sender → ⊥
 numbers-apart shape slot other speaks there apart same =
     let at : Some other ≡ Some slot = sym (slot_at-number shape other.stage other.sender there) ∙ ap (slot_at shape) same
@@ -98,7 +99,8 @@ pub made-stays : (log : Log) (number : ℕ) (slot : Slot) (post : Post) → IsOt
     → own_posts_kept (filled log slot post) number ≡ own_posts_kept log number
 unfolding own_posts_kept
 made-stays log number slot post is = filter-in (λ stage. kept_in (filled log slot post) (record { stage = stage; sender = number }))
-    (λ stage. kept_in log (record { stage = stage; sender = number })) 0 (stage_count log.shape) (λ x le lt. own-stays log number slot post x is)
+    (λ stage. kept_in log (record { stage = stage; sender = number })) 0 (stage_count log.shape)
+    (λ x le lt. own-stays log number slot post x is)
 
 -- a post that is kept was kept before, or fills the slot
 kept-filled : (log : Log) (slot other : Slot) (post kept : Post) → kept_in (filled log slot post) other ≡ Some kept
@@ -108,9 +110,12 @@ kept-filled log slot other post kept e = elim (cases_Bool (is_slot log.shape oth
   | inl speaks ↦
       let number : ℕ = slot_number log.shape other.stage other.sender in
       let k : ℕ = slot_number log.shape slot.stage slot.sender in
-      let entry = sym (cond-true (is_slot log.shape other.stage other.sender) (option_flatten (slice_get (slice_set log.posts k (Some post)) number)) None speaks) ∙ e in
-      elim (get-set log.posts k number (Some post) (Some kept) (flatten-some (slice_get (slice_set log.posts k (Some post)) number) kept entry)) [
-        | inl old ↦ inl (cond-true (is_slot log.shape other.stage other.sender) (option_flatten (slice_get log.posts number)) None speaks ∙ ap option_flatten old)
+      let entry = sym (cond-true (is_slot log.shape other.stage other.sender)
+      (option_flatten (slice_get (slice_set log.posts k (Some post)) number)) None speaks) ∙ e in
+      elim (get-set log.posts k number (Some post) (Some kept) (flatten-some (slice_get (slice_set log.posts k (Some post)) number) kept
+      entry)) [
+        | inl old ↦ inl (cond-true (is_slot log.shape other.stage other.sender) (option_flatten (slice_get log.posts number)) None speaks
+            ∙ ap option_flatten old)
         | inr new ↦ inr (told_same kept post new)
       ]
 ]
@@ -131,12 +136,14 @@ stays-before log number slot post stage later is complete le =
     let front = before-front log stage later past.0 le past.1 in
     before-stays log number slot post stage _ is front ∙ sym front
 
-pub past-stays : (log : Log) (number : ℕ) (slot : Slot) (post : Post) (stage later : ℕ) → IsOthers log number slot → IsSome (before log later)
+pub past-stays : (log : Log) (number : ℕ) (slot : Slot) (post : Post) (stage later : ℕ) → IsOthers log number slot
+    → IsSome (before log later)
     → stage ≤ later → past_of (filled log slot post) stage ≡ past_of log stage
 past-stays log number slot post stage later is complete le =
     ap (λ (o : Option (List Post)). contents_of (unwrap_or o [])) (stays-before log number slot post stage later is complete le)
 
-pub posts-stay : (log : Log) (number : ℕ) (slot : Slot) (post : Post) (stage later : ℕ) → IsOthers log number slot → IsSome (before log later)
+pub posts-stay : (log : Log) (number : ℕ) (slot : Slot) (post : Post) (stage later : ℕ) → IsOthers log number slot
+    → IsSome (before log later)
     → stage ≤ later → posts_before (filled log slot post) stage ≡ posts_before log stage
 posts-stay log number slot post stage later is complete le =
     ap (λ (o : Option (List Post)). unwrap_or o []) (stays-before log number slot post stage later is complete le)
@@ -159,8 +166,10 @@ own-least (Some Confirm) = omega arith
 
 most-least : (shape : Shape) (number stage sender : ℕ) → POST_LIMIT ≤ most_in shape number stage sender
 most-least shape number stage sender = elim (cases_Bool (sender == number)) [
-  | inl own ↦ (let told = cond-true (sender == number) (own_limit (kind_of_stage shape stage) + (4 + LONGEST_SIGNATURE)) POST_LIMIT own in let least = own-least (kind_of_stage shape stage) in omega (arith, told, least))
-  | inr other ↦ (let told = cond-false (sender == number) (own_limit (kind_of_stage shape stage) + (4 + LONGEST_SIGNATURE)) POST_LIMIT other in omega (arith, told))
+  | inl own ↦ (let told = cond-true (sender == number) (own_limit (kind_of_stage shape stage) + (4 + LONGEST_SIGNATURE)) POST_LIMIT own in
+      let least = own-least (kind_of_stage shape stage) in omega (arith, told, least))
+  | inr other ↦ (let told = cond-false (sender == number) (own_limit (kind_of_stage shape stage) + (4 + LONGEST_SIGNATURE)) POST_LIMIT other
+      in omega (arith, told))
 ]
 
 own-most : (kind : Option StageKind) → own_limit kind ≤ 209 * POST_LIMIT
@@ -181,7 +190,8 @@ most-below : (shape : Shape) (number stage sender : ℕ) → most_in shape numbe
 most-below shape number stage sender = elim (cases_Bool (sender == number)) [
   | inl own ↦ (let told = cond-true (sender == number) (own_limit (kind_of_stage shape stage) + (4 + LONGEST_SIGNATURE)) POST_LIMIT own in
       let most = own-most (kind_of_stage shape stage) in omega (arith, told, most))
-  | inr other ↦ (let told = cond-false (sender == number) (own_limit (kind_of_stage shape stage) + (4 + LONGEST_SIGNATURE)) POST_LIMIT other in omega (arith, told))
+  | inr other ↦ (let told = cond-false (sender == number) (own_limit (kind_of_stage shape stage) + (4 + LONGEST_SIGNATURE)) POST_LIMIT other
+      in omega (arith, told))
 ]
 
 -- the length of a kept post can be written in four bytes
@@ -194,13 +204,14 @@ kept-short number log slot post short e =
 
 short-stays : (log : Log) (number : ℕ) (slot : Slot) (post : Post) → length (post_spelling post) ≤ POST_LIMIT → IsShortLog number log
     → IsShortLog number (filled log slot post)
-short-stays log number slot post small short stage sender kept e = elim (kept-filled log slot (record { stage = stage; sender = sender }) post kept e) [
-  | inl old ↦ short stage sender kept old
-  | inr new ↦
-      let least = most-least log.shape number stage sender in
-      let same = ap (λ (p : Post). length (post_spelling p)) new in
-      omega (arith, least, same, small)
-]
+short-stays log number slot post small short stage sender kept e = elim
+    (kept-filled log slot (record { stage = stage; sender = sender }) post kept e) [
+      | inl old ↦ short stage sender kept old
+      | inr new ↦
+          let least = most-least log.shape number stage sender in
+          let same = ap (λ (p : Post). length (post_spelling p)) new in
+          omega (arith, least, same, small)
+    ]
 
 -- ---- the code
 
@@ -209,7 +220,8 @@ abbrev pub with_post : Machine → Slot → Post → Machine
 with_post m slot post = record m { log = filled m.log slot post }
 
 -- the posts that it made
-posts-made : (h : Holdings) (slot : Slot) (post : Post) → IsOthers h.log h.number slot → posts_made (record h { log = filled h.log slot post }) ≡ posts_made h
+posts-made : (h : Holdings) (slot : Slot) (post : Post) → IsOthers h.log h.number slot
+    → posts_made (record h { log = filled h.log slot post }) ≡ posts_made h
 posts-made h slot post is = ap (λ (posts : List Post). posts ++ option_to_list h.stray) (made-stays h.log h.number slot post is)
 
 pub formed-stays : (m : Machine) (slot : Slot) (post : Post) → IsStorable m slot post → IsFormed m → IsFormed (with_post m slot post)
@@ -217,7 +229,18 @@ formed-stays m slot post s f =
     let e : IsMachineOf f.entered.0 m = f.entered.1 in
     let made = ap length (posts-made (holdings_of m) slot post s.others) in
     record {
-      entered = (f.entered.0, record { roster = e.roster; seat = e.seat; message = e.message; secrets = e.secrets; hidden = e.hidden; hidden_short = e.hidden_short; pad = e.pad });
+      entered = (
+        f.entered.0,
+        record {
+          roster = e.roster;
+          seat = e.seat;
+          message = e.message;
+          secrets = e.secrets;
+          hidden = e.hidden;
+          hidden_short = e.hidden_short;
+          pad = e.pad;
+        },
+      );
       message = f.message;
       log = filled-is_log m.log slot post f.log s.kept;
       shape = f.shape;
@@ -228,7 +251,8 @@ formed-stays m slot post s f =
       stray = f.stray;
     }
 
-pub keys-stay : (log : Log) (slot : Slot) (post : Post) (stage : ℕ) (o : Option GroupKeys) → (IsSome o → past_of (filled log slot post) 1 ≡ past_of log 1)
+pub keys-stay : (log : Log) (slot : Slot) (post : Post) (stage : ℕ) (o : Option GroupKeys)
+    → (IsSome o → past_of (filled log slot post) 1 ≡ past_of log 1)
     → CarriesKeys log stage o → CarriesKeys (filled log slot post) stage o
 keys-stay log slot post stage None same e = e
 keys-stay log slot post stage (Some keys) same e = record {
@@ -255,12 +279,21 @@ pub some-mapped : {A B : Type 0} (f : A → B) (o : Option A) → IsSome (option
 some-mapped f (Some x) is = refl
 some-mapped f None is = absurd cc
 
-mood-stays : (m : Machine) (slot : Slot) (post : Post) (mood : Mood) → IsOthers m.log m.seat.number slot → IsMoodOf m mood → IsMoodOf (with_post m slot post) mood
+mood-stays : (m : Machine) (slot : Slot) (post : Post) (mood : Mood) → IsOthers m.log m.seat.number slot → IsMoodOf m mood
+    → IsMoodOf (with_post m slot post) mood
 mood-stays m slot post Unasked is e = (λ later le. own-stays m.log m.seat.number slot post later is ∙ e.0 later le, e.1)
-mood-stays m slot post (PutOff bytes) is e =
-    (λ later le. own-stays m.log m.seat.number slot post later is ∙ e.0 later le, e.1, record { speaks = e.2.speaks; slot = e.2.slot; short = e.2.short })
-mood-stays m slot post Spoken is e =
-    (λ later le. own-stays m.log m.seat.number slot post later is ∙ e.0 later le, e.1, subst IsSome (sym (own-stays m.log m.seat.number slot post m.stage is)) e.2)
+mood-stays m slot post (PutOff bytes) is e = (
+  λ later le. own-stays m.log m.seat.number slot post later is
+      ∙ e.0 later le,
+  e.1,
+  record { speaks = e.2.speaks; slot = e.2.slot; short = e.2.short },
+)
+mood-stays m slot post Spoken is e = (
+  λ later le. own-stays m.log m.seat.number slot post later is
+      ∙ e.0 later le,
+  e.1,
+  subst IsSome (sym (own-stays m.log m.seat.number slot post m.stage is)) e.2,
+)
 mood-stays m slot post Mute is e = (λ later le. own-stays m.log m.seat.number slot post later is ∙ e.0 later le, e.1)
 
 pub ready-stays : (m : Machine) (slot : Slot) (post : Post) → IsStorable m slot post → IsReady m → IsReady (with_post m slot post)
@@ -268,13 +301,15 @@ ready-stays m slot post s r =
     let past = some_of (before m.log m.stage) r.past in
     record {
       stage = r.stage;
-      past = some_is (before (filled m.log slot post) m.stage) past.0 (before-stays m.log m.seat.number slot post m.stage past.0 s.others past.1);
+      past = some_is (before (filled m.log slot post) m.stage) past.0
+          (before-stays m.log m.seat.number slot post m.stage past.0 s.others past.1);
       seen = subst (λ (said : List (List ℕ)). HasSeen m.log.shape said m.stage m.seen)
           (sym (past-stays m.log m.seat.number slot post m.stage m.stage s.others r.past (omega arith))) r.seen;
       keys = keys-stay m.log slot post m.stage m.keys
           (λ there. past-stays m.log m.seat.number slot post 1 m.stage s.others r.past (r.keys_behind there)) r.keys;
       opened = opened-stay m.log slot post m.stage (option_map (λ items. items.items) m.opened)
-          (λ there. past-stays m.log m.seat.number slot post (stage_opened m.log) m.stage s.others r.past (r.opened_behind (some-mapped (λ items. items.items) m.opened there))) r.opened;
+          (λ there. past-stays m.log m.seat.number slot post (stage_opened m.log) m.stage s.others r.past
+          (r.opened_behind (some-mapped (λ items. items.items) m.opened there))) r.opened;
       slots = slots-stay m.log slot post m.stage m.slots
           (λ there. past-stays m.log m.seat.number slot post (stage_found m.log) m.stage s.others r.past (r.slots_behind there)) r.slots;
       keys_behind = r.keys_behind;
@@ -299,7 +334,8 @@ sound-stays m slot post s is = record {
 pub open-shown : (c : Configuration) (a : Actor) → ShowsOutcome Open (outcome_of c a) → is_open a.ending ≡ true
 open-shown c a shows = by_verdict a.ending shows
   where
-    by_verdict : (v : Verdict) → ShowsOutcome Open (if is_open v then Waiting a.stand.at (members_missing c a) else outcome_ended c a.stand v) → is_open v ≡ true
+    by_verdict : (v : Verdict) → ShowsOutcome Open (if is_open v then Waiting a.stand.at (members_missing c a) else outcome_ended c a.stand
+        v) → is_open v ≡ true
     by_verdict Goes shows = refl
     by_verdict DoneVerdict shows = absurd shows
     by_verdict (Convicts t) shows = absurd shows
@@ -307,7 +343,8 @@ open-shown c a shows = by_verdict a.ending shows
 pub shown-open : (c : Configuration) (a : Actor) → is_open a.ending ≡ true → ShowsOutcome Open (outcome_of c a)
 shown-open c a still = by_verdict a.ending still
   where
-    by_verdict : (v : Verdict) → is_open v ≡ true → ShowsOutcome Open (if is_open v then Waiting a.stand.at (members_missing c a) else outcome_ended c a.stand v)
+    by_verdict : (v : Verdict) → is_open v ≡ true → ShowsOutcome Open
+        (if is_open v then Waiting a.stand.at (members_missing c a) else outcome_ended c a.stand v)
     by_verdict Goes still = tt
     by_verdict DoneVerdict still = absurd cc
     by_verdict (Convicts t) still = absurd cc
@@ -328,14 +365,17 @@ behind-most stage Mute = omega arith
 
 -- a stage where it was asked is not behind where it stands
 pub asked-within : (stage : ℕ) (mood : Mood) (other : ℕ) → was_asked stage mood other ≡ true → other ≤ stage
-asked-within stage mood other e = (let lt = ltb-true other (stages_behind stage mood) e in let most = behind-most stage mood in omega (arith, lt, most))
+asked-within stage mood other e = (let lt = ltb-true other (stages_behind stage mood) e in let most = behind-most stage mood in omega
+    (arith, lt, most))
 
-pub answers-stay : (now start : Replies) (c : Configuration) (past other : List (List ℕ)) (b : Bool) → (b ≡ true → other ≡ past) → AnswersBy now start c past b
+pub answers-stay : (now start : Replies) (c : Configuration) (past other : List (List ℕ)) (b : Bool) → (b ≡ true → other ≡ past)
+    → AnswersBy now start c past b
     → AnswersBy now start c other b
 answers-stay now start c past other true same e = subst (λ (said : List (List ℕ)). AnswersBy now start c said true) (sym (same refl)) e
 answers-stay now start c past other false same e = e
 
-pub stands-stays : (now start : Replies) (c : Configuration) (a : Actor) (h : Holdings) (slot : Slot) (post : Post) → IsOthers h.log h.number slot
+pub stands-stays : (now start : Replies) (c : Configuration) (a : Actor) (h : Holdings) (slot : Slot) (post : Post)
+    → IsOthers h.log h.number slot
     → IsOpen h.ending → StandsFor now start c a h
     → StandsFor now start c (record a { log = filled a.log slot post }) (record h { log = filled h.log slot post })
 stands-stays now start c a h slot post is still s = record {
@@ -373,7 +413,8 @@ stands-stays now start c a h slot post is still s = record {
     past_same : (other : ℕ) → was_asked h.stage h.mood other ≡ true → past_of (filled h.log slot post) other ≡ past_of h.log other
     past_same other asked = past-stays h.log h.number slot post other h.stage is complete (asked-within h.stage h.mood other asked)
 
-    answers : AnswersBy now start c (past_of h.log 1) (was_asked h.stage h.mood 1) → AnswersBy now start c (past_of (filled h.log slot post) 1) (was_asked h.stage h.mood 1)
+    answers : AnswersBy now start c (past_of h.log 1) (was_asked h.stage h.mood 1)
+        → AnswersBy now start c (past_of (filled h.log slot post) 1) (was_asked h.stage h.mood 1)
     answers e = answers-stay now start c (past_of h.log 1) (past_of (filled h.log slot post) 1) (was_asked h.stage h.mood 1) (past_same 1) e
 
     conduct_stays : (mood : Mood) → GoesOn now start c h mood → GoesOn now start c after mood
@@ -385,12 +426,14 @@ stands-stays now start c a h slot post is still s = record {
     own_is : IsOwnOf start c h → IsOwnOf start c after
     own_is o = record {
       descriptor = λ asked. o.descriptor asked
-          ∙ ap (descriptor_made start c) (sym (posts-stay h.log h.number slot post 1 h.stage is complete (asked-within h.stage h.mood 1 asked)));
+          ∙ ap (descriptor_made start c) (sym (posts-stay h.log h.number slot post 1 h.stage is complete
+          (asked-within h.stage h.mood 1 asked)));
       pad = o.pad;
       first = λ asked not_yet. o.first asked not_yet
           ∙ ap (λ (past : List (List ℕ)). (own_submission c h.own.descriptor past 1).inner_ciphertext) (sym (past_same 1 asked));
       second = λ asked. o.second asked
-          ∙ ap (λ (past : List (List ℕ)). (own_submission c h.own.descriptor past 2).inner_ciphertext) (sym (past_same (submit_stage h.log.shape 2) asked));
+          ∙ ap (λ (past : List (List ℕ)). (own_submission c h.own.descriptor past 2).inner_ciphertext)
+          (sym (past_same (submit_stage h.log.shape 2) asked));
     }
 
     own_stay : (mood : Mood) → KeepsOwn start c h mood → KeepsOwn start c after mood

@@ -36,20 +36,24 @@ if-ok P Q (Err e) step is = is
 
 -- ---- the round has ended
 
-shows-nothing : (ending : Ending) (stage : ℕ) (members : List ℕ) → is_going ending ≡ false → ShowsOutcome ending (WaitingFor stage members) → ⊥
+shows-nothing : (ending : Ending) (stage : ℕ) (members : List ℕ) → is_going ending ≡ false → ShowsOutcome ending (WaitingFor stage members)
+    → ⊥
 shows-nothing Open stage members e shows = cc
 shows-nothing (Done slots) stage members e shows = shows
 shows-nothing (Blamed conviction) stage members e shows = shows
 shows-nothing Stopped stage members e shows = shows
 
-pub ends-on : (ending : Ending) (c : Configuration) (a : Actor) → is_going ending ≡ false → ShowsOutcome ending (outcome_of c a) → is_open a.ending ≡ false
+pub ends-on : (ending : Ending) (c : Configuration) (a : Actor) → is_going ending ≡ false → ShowsOutcome ending (outcome_of c a)
+    → is_open a.ending ≡ false
 ends-on ending c a ended shows = elim (cases_Bool (is_open a.ending)) [
-  | inl still ↦ absurd (shows-nothing ending a.stand.at (members_missing c a) ended (subst (ShowsOutcome ending) (open-outcome c a still) shows))
+  | inl still ↦ absurd (shows-nothing ending a.stand.at (members_missing c a) ended
+      (subst (ShowsOutcome ending) (open-outcome c a still) shows))
   | inr shut ↦ shut
 ]
 
 -- nothing happens any more
-pub ended-stays : (m : Machine) (now start : Replies) (c : Configuration) (a : Actor) → is_going m.ending ≡ false → StandsFor now start c a (holdings_of m)
+pub ended-stays : (m : Machine) (now start : Replies) (c : Configuration) (a : Actor) → is_going m.ending ≡ false
+    → StandsFor now start c a (holdings_of m)
     → StandsFor now start c (actor_behind_step start c a) (holdings_of m)
 ended-stays m now start c a ended is =
     subst (λ (b : Actor). StandsFor now start c b (holdings_of m)) (sym (ended-step start c a (ends-on m.ending c a ended is.at.ending))) is
@@ -72,7 +76,8 @@ not-both true b e is = e
 not-both false b e is = absurd cc
 
 -- the stage is not complete for the pure machine either
-pub no-posts : (m : Machine) (now start : Replies) (c : Configuration) (a : Actor) → IsFormed m → is_filled m ≡ false → StandsFor now start c a (holdings_of m)
+pub no-posts : (m : Machine) (now start : Replies) (c : Configuration) (a : Actor) → IsFormed m → is_filled m ≡ false
+    → StandsFor now start c a (holdings_of m)
     → stage_posts c a ≡ None
 no-posts m now start c a formed open-stage is =
     let shape : m.log.shape ≡ shape_in c = shape-is c m formed (seat-of c m formed is.entered) in
@@ -107,17 +112,21 @@ pub due-same : (m : Machine) (now start : Replies) (c : Configuration) (a : Acto
 due-same m now start c a formed is = sym (ap (is_due c a.stand) is.at.mood) ∙ due-by m now start c a formed is m.mood
 
 -- it speaks
-pub step-speaks : (m : Machine) (now start : Replies) (c : Configuration) (a : Actor) → IsFormed m → is_going m.ending ≡ true → is_filled m ≡ false
+pub step-speaks : (m : Machine) (now start : Replies) (c : Configuration) (a : Actor) → IsFormed m → is_going m.ending ≡ true
+    → is_filled m ≡ false
     → is_due_by m m.mood ≡ true → StandsFor now start c a (holdings_of m)
     → actor_behind_step start c a ≡ actor_behind_question start c a (content_to_say start c a.stand)
 step-speaks m now start c a formed going open-stage due is =
     open-step start c a None (goes-on c a (holdings_of m) is.at (going-open m.ending going)) (no-posts m now start c a formed open-stage is)
-    ∙ cond-true (is_due c a.stand a.mood) (actor_behind_question start c a (content_to_say start c a.stand)) a (due-same m now start c a formed is ∙ due)
+    ∙ cond-true (is_due c a.stand a.mood) (actor_behind_question start c a (content_to_say start c a.stand)) a
+    (due-same m now start c a formed is ∙ due)
 
 -- or it rests
-pub step-rests : (m : Machine) (now start : Replies) (c : Configuration) (a : Actor) → IsFormed m → is_going m.ending ≡ true → is_filled m ≡ false
+pub step-rests : (m : Machine) (now start : Replies) (c : Configuration) (a : Actor) → IsFormed m → is_going m.ending ≡ true
+    → is_filled m ≡ false
     → is_due_by m m.mood ≡ false → StandsFor now start c a (holdings_of m)
     → actor_behind_step start c a ≡ a
 step-rests m now start c a formed going open-stage due is =
     open-step start c a None (goes-on c a (holdings_of m) is.at (going-open m.ending going)) (no-posts m now start c a formed open-stage is)
-    ∙ cond-false (is_due c a.stand a.mood) (actor_behind_question start c a (content_to_say start c a.stand)) a (due-same m now start c a formed is ∙ due)
+    ∙ cond-false (is_due c a.stand a.mood) (actor_behind_question start c a (content_to_say start c a.stand)) a
+    (due-same m now start c a formed is ∙ due)

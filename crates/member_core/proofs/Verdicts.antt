@@ -95,7 +95,8 @@ stands-step m next keys seen ending can shows goes now start c a is =
     let inside = can.within in
     let within : a.stand.at < stage_count (shape_in c) = omega (arith, count, at, inside) in
     let here : all_some (posts_in a.log a.stand.at) ≡ Some found.posts
-    = sym (ap (λ (log : Log). all_some (posts_in log m.stage)) is.at.log ∙ ap (λ (n : ℕ). all_some (posts_in a.log n)) is.at.stage) ∙ found.here in
+    = sym (ap (λ (log : Log). all_some (posts_in log m.stage)) is.at.log ∙ ap (λ (n : ℕ). all_some (posts_in a.log n)) is.at.stage)
+    ∙ found.here in
     let step = passes-step start c a found.posts (goes-on c a (holdings_of m) is.at can.going) within here in
     let verdict = verdict-is c a (holdings_of m) found.posts is.entered is.at found.next in
     subst (λ (b : Actor). StandsFor now start c b (holdings_of next)) (sym step)
@@ -125,18 +126,23 @@ steps-open m keys seen opened slots can carried goes = record {
   runs = open-runs m.ending can.going;
   handed = refl;
   stands = stands-step m (machine_past m keys seen m.secrets opened slots m.ending) keys seen m.ending can
-      (λ c a posts entered at next verdict. subst (λ (e : Ending). ShowsOutcome e (outcome_of c (actor_behind_stage c a (stand_behind c a.stand posts))))
+      (λ c a posts entered at next verdict. subst (λ (e : Ending). ShowsOutcome e
+      (outcome_of c (actor_behind_stage c a (stand_behind c a.stand posts))))
       (open-is m.ending can.going) (shows-goes c a posts (verdict ∙ goes)))
       (stands-past m keys seen m.secrets opened slots m.ending can.formed can.ready can.there (λ c are. are));
 }
 
 -- what is carried stays, unless this is the stage behind which it begins
-carry-opened : (log : Log) (stage : ℕ) (o : Option (List (Option (List ℕ)))) → (stage ≡ log.shape.members + 3 → ⊥) → CarriesOpened log stage o → CarriesOpened log (stage + 1) o
-carry-opened log stage None apart is = elim (cases_eq stage (log.shape.members + 3)) [ inl same ↦ absurd (apart same) | inr other ↦ omega (arith, is) ]
+carry-opened : (log : Log) (stage : ℕ) (o : Option (List (Option (List ℕ)))) → (stage ≡ log.shape.members + 3 → ⊥)
+    → CarriesOpened log stage o → CarriesOpened log (stage + 1) o
+carry-opened log stage None apart is = elim (cases_eq stage (log.shape.members + 3))
+    [ inl same ↦ absurd (apart same) | inr other ↦ omega (arith, is) ]
 carry-opened log stage (Some items) apart is = is
 
-carry-slots : (log : Log) (stage : ℕ) (o : Option Slots) → (stage ≡ log.shape.members + 6 → ⊥) → CarriesSlots log stage o → CarriesSlots log (stage + 1) o
-carry-slots log stage None apart is = elim (cases_eq stage (log.shape.members + 6)) [ inl same ↦ absurd (apart same) | inr other ↦ omega (arith, is) ]
+carry-slots : (log : Log) (stage : ℕ) (o : Option Slots) → (stage ≡ log.shape.members + 6 → ⊥) → CarriesSlots log stage o
+    → CarriesSlots log (stage + 1) o
+carry-slots log stage None apart is = elim (cases_eq stage (log.shape.members + 6))
+    [ inl same ↦ absurd (apart same) | inr other ↦ omega (arith, is) ]
 carry-slots log stage (Some slots) apart is = is
 
 same-carried : (m : Machine) (keys : Option GroupKeys) (seen : Seen) → CanPass m keys seen → (m.stage ≡ m.log.shape.members + 3 → ⊥)
@@ -150,7 +156,8 @@ same-carried m keys seen can opens finds = record {
   slots_behind = λ is. (let le = can.ready.slots_behind is in omega (arith, le));
 }
 
-closes : (shape : Shape) (stage : ℕ) (kind : StageKind) → kind_of_stage shape stage ≡ Some kind → is_some (vote_of kind) ≡ true → is_closing shape stage ≡ true
+closes : (shape : Shape) (stage : ℕ) (kind : StageKind) → kind_of_stage shape stage ≡ Some kind → is_some (vote_of kind) ≡ true
+    → is_closing shape stage ≡ true
 closes shape stage kind e is = ap (λ (o : Option StageKind). is_some (option_and_then vote_of o)) e ∙ is
 
 steps-elsewhere : (m : Machine) (keys : Option GroupKeys) (seen : Seen) → CanPass m keys seen → is_closing m.log.shape m.stage ≡ false
@@ -181,10 +188,12 @@ steps-ended m keys seen slots ending can ended shut running shows = record {
 slots-told : (log : Log) (stage : ℕ) (slots : Slots) → AreSlotsOf log slots → stage_found log ≤ stage → IsSome (before log stage)
     → slots.states ≡ slots_of_past log.shape (past_of log stage)
 slots-told log stage slots are le there =
-    let reached : AreReached log (stage_found log) stage = record { order = le; at = reaches log (stage_found log) stage le there; at_later = there } in
+    let reached : AreReached log (stage_found log) stage = record
+    { order = le; at = reaches log (stage_found log) stage le there; at_later = there } in
     are.states ∙ slots_stay log (stage_found log) stage reached (omega arith)
 
-shows-slots : (m : Machine) (slots : Slots) → IsFormed m → AreSlotsOf m.log slots → stage_found m.log ≤ m.stage + 1 → IsSome (before m.log (m.stage + 1))
+shows-slots : (m : Machine) (slots : Slots) → IsFormed m → AreSlotsOf m.log slots → stage_found m.log ≤ m.stage + 1
+    → IsSome (before m.log (m.stage + 1))
     → verdict_in (completed_of (holdings_of m)) ≡ Done → ShowsPast m (EndingDone slots.states)
 shows-slots m slots formed are le there done c a posts entered at next verdict = shows-done c a posts slots.states (verdict ∙ done)
     (slots-told m.log (m.stage + 1) slots are le there
@@ -204,7 +213,8 @@ abbrev machine_on : Machine → Option GroupKeys → Seen → Machine
 machine_on m keys seen = machine_behind (record m { keys = keys }) seen
 
 -- behind shuffle B the slots are carried
-slots-carried : (log : Log) (stage : ℕ) (o : Option Slots) → stage_found log ≤ stage → CarriesSlots log stage o → (slots : Slots) × (o ≡ Some slots) × AreSlotsOf log slots
+slots-carried : (log : Log) (stage : ℕ) (o : Option Slots) → stage_found log ≤ stage → CarriesSlots log stage o → (slots : Slots)
+    × (o ≡ Some slots) × AreSlotsOf log slots
 slots-carried log stage None le is = absurd (omega (arith, le, is))
 slots-carried log stage (Some slots) le is = (slots, refl, is)
 
@@ -248,10 +258,12 @@ steps-by m keys seen Agreed can told =
     (steps-done m keys seen slots.0 can slots.2 (omega (arith, behind)) told.verdict)
 steps-by m keys seen (JudgedConvicts conviction) can told =
     steps-ended m keys seen m.slots (Blamed conviction) can refl (λ is. is) tt
-    (λ c a posts entered at next verdict. shows-blamed c a posts conviction (subst (λ (v : Verdict). TellsConviction v conviction) (sym verdict) told))
+    (λ c a posts entered at next verdict. shows-blamed c a posts conviction
+    (subst (λ (v : Verdict). TellsConviction v conviction) (sym verdict) told))
 
 -- where the round is done behind shuffle B, the slots are there
-pub has-slots : (m : Machine) (judged : Judged) → IsReady m → TellsVerdict (completed_of (holdings_of m)) judged → HasSlotsFor judged m.slots
+pub has-slots : (m : Machine) (judged : Judged) → IsReady m → TellsVerdict (completed_of (holdings_of m)) judged
+    → HasSlotsFor judged m.slots
 has-slots m JudgedGoes ready told = tt
 has-slots m (Opens items) ready told = tt
 has-slots m (Finds slots) ready told = tt
@@ -323,7 +335,8 @@ passes-all m carried gone last judged sound going filled carried-is keys gone-is
     let ready : IsReady m = sound.ready going in
     let full : IsFull m = full-there m sound.formed ready filled in
     let begun = subst (λ (x : Machine). HasSeen x.log.shape (past_of x.log x.stage) x.stage x.seen) (sym carried-is) ready.seen in
-    let seen-is = subst (λ (x : Machine). HasSeen x.log.shape (past_of x.log (x.stage + 1)) (x.stage + 1) gone.seen) carried-is (seen begun) in
+    let seen-is = subst (λ (x : Machine). HasSeen x.log.shape (past_of x.log (x.stage + 1)) (x.stage + 1) gone.seen) carried-is (seen begun)
+    in
     let same : last ≡ machine_by (machine_on m carried.keys gone.seen) judged
     = last-is ∙ ap (λ (x : Machine). machine_by x judged) (gone-is ∙ ap (λ (x : Machine). machine_behind x gone.seen) carried-is) in
     subst (Steps m) (sym same) (steps-by m carried.keys gone.seen judged (record {

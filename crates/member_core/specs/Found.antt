@@ -98,6 +98,7 @@ pub record TellsEnding (taken : Taken) (ending : Ending) : Type 0 where
   pub going : taken ≡ Finished → ⊥
 
 -- a member stands for what becomes of the pure machine with a string, and the answer is that of the pure machine
-pub record TakesAs (now start : Replies) (c : Configuration) (delivered : List (List ℕ)) (bytes : List ℕ) (h : Holdings) (taken : Taken) : Type 0 where
+pub record TakesAs (now start : Replies) (c : Configuration) (delivered : List (List ℕ)) (bytes : List ℕ) (h : Holdings) (taken : Taken) :
+    Type 0 where
   pub stands : StandsFor now start c (actor_behind_delivery start c (actor_after start c delivered) bytes) h
   pub answer : taken ≡ answer_to start c (actor_after start c delivered) bytes

@@ -27,10 +27,11 @@ use Rattle.member_core.specs.Membership.{Holdings, Membership, posts_made}
 use Rattle.member_core.specs.Stands.{Stands}
 
 -- a member is plain: its conduct was plain at the start, and it stands for what it entered with and for these byte strings
-pub record IsPlainMember {A : Type 0} (replies_of : A → Replies) (c : Configuration) (delivered : List (List ℕ)) (m : Membership A) : Type 0 where
-  pub start : Replies
-  pub plain : IsPlain start
-  pub stands : Stands replies_of start c delivered m
+pub record IsPlainMember {A : Type 0} (replies_of : A → Replies) (c : Configuration) (delivered : List (List ℕ)) (m : Membership A) : Type 0
+  where
+    pub start : Replies
+    pub plain : IsPlain start
+    pub stands : Stands replies_of start c delivered m
 
 -- the roster has its key under its number
 abbrev pub HasRosterKey : Configuration → Type 0

@@ -15,6 +15,12 @@ mod submissions;
 mod taking;
 mod turning;
 
+pub use bulk_descriptor::{Descriptor, SlotState};
 pub use config::Config;
+pub use group_roster::Roster;
+pub use lms_tree::LeafRun;
 pub use member::Member;
 pub use member_spec::{Conduct, Honest, Speech, State, Taken};
+pub use signed_post::PostRefusal;
+pub use stage_log::StageLog;
+pub use transcript_form::Claim;

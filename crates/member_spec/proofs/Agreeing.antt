@@ -57,14 +57,16 @@ Agrees c delivered a = IsOpenAfter c delivered a ⊎ IsEndedAfter c delivered a
 -- ---- ends that come with the last delivery
 
 -- all of the deliveries end, by this verdict
-ends-with-last : (c : Configuration) (delivered : List (List ℕ)) (bytes : List ℕ) (verdict : Verdict) (a : Actor) → least_ending c delivered ≡ None
+ends-with-last : (c : Configuration) (delivered : List (List ℕ)) (bytes : List ℕ) (verdict : Verdict) (a : Actor)
+    → least_ending c delivered ≡ None
     → ending_of c (with_last delivered bytes) ≡ Some verdict → HasEndedWith c (with_last delivered bytes) verdict a
     → IsEndedAfter c (with_last delivered bytes) a
 ends-with-last c delivered bytes verdict a none ends has = record {
   ending = (length delivered + 1, verdict);
   least = (least-ending-grows c delivered bytes).comes none ∙ ap (option_map (λ v. (length delivered + 1, v))) ends;
   within = omega (arith, long);
-  has = subst (λ (part : List (List ℕ)). HasEndedWith c part verdict a) (sym (take_all (length delivered + 1) (with_last delivered bytes) (omega (arith, long)))) has;
+  has = subst (λ (part : List (List ℕ)). HasEndedWith c part verdict a)
+      (sym (take_all (length delivered + 1) (with_last delivered bytes) (omega (arith, long)))) has;
 }
   where
     long : length (with_last delivered bytes) ≡ length delivered + 1
@@ -73,21 +75,25 @@ ends-with-last c delivered bytes verdict a none ends has = record {
 -- nothing ends
 goes-on : (c : Configuration) (delivered : List (List ℕ)) (bytes : List ℕ) → least_ending c delivered ≡ None
     → ending_of c (with_last delivered bytes) ≡ None → least_ending c (with_last delivered bytes) ≡ None
-goes-on c delivered bytes none ends = (least-ending-grows c delivered bytes).comes none ∙ ap (option_map (λ v. (length delivered + 1, v))) ends
+goes-on c delivered bytes none ends = (least-ending-grows c delivered bytes).comes none
+    ∙ ap (option_map (λ v. (length delivered + 1, v))) ends
 
 -- a fault that the last string shows ends them
 fault-ends : (c : Configuration) (delivered : List (List ℕ)) (bytes : List ℕ) (verdict : Verdict)
-    → fault_shown c (first_posts c (with_last delivered bytes)) bytes ≡ Some verdict → ending_of c (with_last delivered bytes) ≡ Some verdict
+    → fault_shown c (first_posts c (with_last delivered bytes)) bytes ≡ Some verdict
+    → ending_of c (with_last delivered bytes) ≡ Some verdict
 unfolding ending_of
 fault-ends c delivered bytes verdict e =
-    first_some-some verdict _ (ending_verdict (stand_after c (with_last delivered bytes)).verdict ∷ []) (ap (option_and_then (fault_shown c (first_posts c (with_last delivered bytes)))) (last-of delivered bytes) ∙ e)
+    first_some-some verdict _ (ending_verdict (stand_after c (with_last delivered bytes)).verdict ∷ [])
+    (ap (option_and_then (fault_shown c (first_posts c (with_last delivered bytes)))) (last-of delivered bytes) ∙ e)
 
 -- without one they end by their course
 course-ends : (c : Configuration) (delivered : List (List ℕ)) (bytes : List ℕ)
     → fault_shown c (first_posts c (with_last delivered bytes)) bytes ≡ None
     → ending_of c (with_last delivered bytes) ≡ ending_verdict (stand_after c (with_last delivered bytes)).verdict
 course-ends c delivered bytes e =
-    ending-none c (with_last delivered bytes) (ap (option_and_then (fault_shown c (first_posts c (with_last delivered bytes)))) (last-of delivered bytes) ∙ e)
+    ending-none c (with_last delivered bytes) (ap (option_and_then (fault_shown c (first_posts c (with_last delivered bytes))))
+    (last-of delivered bytes) ∙ e)
 
 -- ---- where it rests
 
@@ -97,8 +103,13 @@ pub rests-agrees : (c : Configuration) (delivered : List (List ℕ)) (bytes : Li
     → Rests c (first_posts c (with_last delivered bytes)) a → Agrees c (with_last delivered bytes) a
 unfolding Agrees
 rests-agrees c delivered bytes a none sound rests = elim (cases_Bool (is_open (stand_after c (with_last delivered bytes)).verdict)) [
-  | inl still ↦ inl (record { none = goes-on c delivered bytes none (course-ends c delivered bytes sound ∙ open-ending _ still); rests = rests })
-  | inr ended ↦ inr (ends-with-last c delivered bytes (stand_after c (with_last delivered bytes)).verdict a none (course-ends c delivered bytes sound
+  | inl still ↦ inl (record {
+    none = goes-on c delivered bytes none (course-ends c delivered bytes sound ∙ open-ending _ still);
+    rests =
+        rests;
+  })
+  | inr ended ↦ inr (ends-with-last c delivered bytes (stand_after c (with_last delivered bytes)).verdict a none
+      (course-ends c delivered bytes sound
       ∙ closed-ending _ ended) (record {
         closed = ended;
         ending = rests.follows.ending ∙ ap (λ (s : Stand). s.verdict) (rests-stand c (first_posts c (with_last delivered bytes)) a rests);
@@ -112,7 +123,8 @@ rests-agrees c delivered bytes a none sound rests = elim (cases_Bool (is_open (s
 idle-agrees : (c : Configuration) (delivered : List (List ℕ)) (bytes : List ℕ) (a : Actor) → IsOpenAfter c delivered a
     → first_posts c (with_last delivered bytes) ≡ first_posts c delivered
     → fault_shown c (first_posts c (with_last delivered bytes)) bytes ≡ None → Agrees c (with_last delivered bytes) a
-idle-agrees c delivered bytes a is same sound = rests-agrees c delivered bytes a is.none sound (subst (λ (o : Others). Rests c o a) (sym same) is.rests)
+idle-agrees c delivered bytes a is same sound = rests-agrees c delivered bytes a is.none sound
+    (subst (λ (o : Others). Rests c o a) (sym same) is.rests)
 
 -- one that changes none and shows a fault
 fault-agrees : (c : Configuration) (delivered : List (List ℕ)) (bytes : List ℕ) (a : Actor) (verdict : Verdict) → IsOpenAfter c delivered a
@@ -121,7 +133,8 @@ fault-agrees : (c : Configuration) (delivered : List (List ℕ)) (bytes : List �
     → Agrees c (with_last delivered bytes) (record a { ending = verdict })
 unfolding Agrees
 fault-agrees c delivered bytes a verdict is same shown closed =
-    inr (ends-with-last c delivered bytes verdict (record a { ending = verdict }) is.none (fault-ends c delivered bytes verdict shown) (record {
+    inr (ends-with-last c delivered bytes verdict (record a { ending = verdict }) is.none (fault-ends c delivered bytes verdict shown)
+    (record {
       closed = closed;
       ending = refl;
       stand = rests-stand c (first_posts c delivered) a is.rests ∙ ap (course_of c) (sym same);
@@ -132,7 +145,8 @@ fault-agrees c delivered bytes a verdict is same shown closed =
 -- ---- one delivery
 
 -- its log has just the first posts in the slots of others
-kept-first : (c : Configuration) (others : Others) (a : Actor) (slot : Slot) → Rests c others a → is_slot (shape_in c) slot.stage slot.sender ≡ true
+kept-first : (c : Configuration) (others : Others) (a : Actor) (slot : Slot) → Rests c others a
+    → is_slot (shape_in c) slot.stage slot.sender ≡ true
     → (slot.sender == c.number) ≡ false → kept_in a.log slot ≡ others slot
 unfolding log_with
 kept-first c others a slot rests speaks other =
@@ -144,7 +158,8 @@ open-heard : (replies : Replies) (c : Configuration) (a : Actor) (bytes : List �
     → fault_shown c (kept_in a.log) bytes ≡ o
     → actor_behind_delivery replies c a bytes ≡ actor_behind_fault replies c a bytes o
 unfolding actor_behind_delivery
-open-heard replies c a bytes o still e = cond-true (is_open a.ending) (actor_behind_fault replies c a bytes (fault_shown c (kept_in a.log) bytes)) a still
+open-heard replies c a bytes o still e = cond-true (is_open a.ending)
+    (actor_behind_fault replies c a bytes (fault_shown c (kept_in a.log) bytes)) a still
     ∙ ap (actor_behind_fault replies c a bytes) e
 
 rests-open : (c : Configuration) (delivered : List (List ℕ)) (a : Actor) → IsOpenAfter c delivered a → is_open a.ending ≡ true
@@ -158,10 +173,12 @@ hears-nothing : (replies : Replies) (c : Configuration) (delivered : List (List 
 unfolding post_given
 hears-nothing replies c delivered bytes a is nothing =
     subst (Agrees c (with_last delivered bytes)) (sym step) (idle-agrees c delivered bytes a is
-    (firsts-same c delivered bytes (λ slot none. ap (option_and_then _) nothing)) (fault-of c (first_posts c (with_last delivered bytes)) bytes None nothing))
+    (firsts-same c delivered bytes (λ slot none. ap (option_and_then _) nothing))
+    (fault-of c (first_posts c (with_last delivered bytes)) bytes None nothing))
   where
     step : actor_behind_delivery replies c a bytes ≡ a
-    step = open-heard replies c a bytes None (rests-open c delivered a is) (fault-of c (kept_in a.log) bytes None nothing) ∙ ap (actor_behind_heard replies c a) nothing
+    step = open-heard replies c a bytes None (rests-open c delivered a is) (fault-of c (kept_in a.log) bytes None nothing)
+        ∙ ap (actor_behind_heard replies c a) nothing
 
 -- a body outside the grammar is heard
 hears-outside : (replies : Replies) (c : Configuration) (delivered : List (List ℕ)) (bytes : List ℕ) (a : Actor) (heard : Heard)
@@ -170,17 +187,20 @@ hears-outside : (replies : Replies) (c : Configuration) (delivered : List (List 
 hears-outside replies c delivered bytes a heard is e outside =
     let fault = fault-outside c (kept_in a.log) bytes heard outside in
     let step : actor_behind_delivery replies c a bytes ≡ record a { ending = fault.0 } =
-    open-heard replies c a bytes (Some fault.0) (rests-open c delivered a is) (fault-of c (kept_in a.log) bytes (Some heard) e ∙ fault.2 (kept_in a.log)) in
+    open-heard replies c a bytes (Some fault.0) (rests-open c delivered a is)
+    (fault-of c (kept_in a.log) bytes (Some heard) e ∙ fault.2 (kept_in a.log)) in
     subst (Agrees c (with_last delivered bytes)) (sym step) (fault-agrees c delivered bytes a fault.0 is
     (firsts-same c delivered bytes (λ slot none. given-nothing c slot bytes heard e outside))
-    (fault-of c (first_posts c (with_last delivered bytes)) bytes (Some heard) e ∙ fault.2 (first_posts c (with_last delivered bytes))) fault.1)
+    (fault-of c (first_posts c (with_last delivered bytes)) bytes (Some heard) e ∙ fault.2 (first_posts c (with_last delivered bytes)))
+    fault.1)
 
 -- a string for a slot that has a post gives no slot a new one
 full-same : (c : Configuration) (delivered : List (List ℕ)) (bytes : List ℕ) (heard : Heard) (kept : Post) → heard_of c bytes ≡ Some heard
     → first_posts c delivered (slot_named heard.header) ≡ Some kept
     → first_posts c (with_last delivered bytes) ≡ first_posts c delivered
 full-same c delivered bytes heard kept e first =
-    firsts-same c delivered bytes (λ slot none. given-elsewhere c slot bytes heard e (λ same. none-some kept (sym none ∙ ap (first_posts c delivered) same ∙ first)))
+    firsts-same c delivered bytes (λ slot none. given-elsewhere c slot bytes heard e
+    (λ same. none-some kept (sym none ∙ ap (first_posts c delivered) same ∙ first)))
 
 -- a post is heard for a slot that has one
 hears-full : (replies : Replies) (c : Configuration) (delivered : List (List ℕ)) (bytes : List ℕ) (a : Actor) (heard : Heard) (kept : Post)
@@ -204,8 +224,10 @@ hears-full replies c delivered bytes a heard kept is other e reads first = elim 
     here : first_posts c (with_last delivered bytes) (slot_named heard.header) ≡ Some kept
     here = ap (λ (o : Others). o (slot_named heard.header)) posts ∙ first
 
-    shown : (firsts : Others) → firsts (slot_named heard.header) ≡ Some kept → fault_shown c firsts bytes ≡ contradiction_with c bytes heard kept
-    shown firsts has = fault-of c firsts bytes (Some heard) e ∙ fault-inside c firsts bytes heard reads ∙ contradiction-full c firsts bytes heard kept has
+    shown : (firsts : Others) → firsts (slot_named heard.header) ≡ Some kept
+        → fault_shown c firsts bytes ≡ contradiction_with c bytes heard kept
+    shown firsts has = fault-of c firsts bytes (Some heard) e ∙ fault-inside c firsts bytes heard reads
+        ∙ contradiction-full c firsts bytes heard kept has
 
     step : (o : Option Verdict) → contradiction_with c bytes heard kept ≡ o
         → actor_behind_delivery replies c a bytes ≡ actor_behind_fault replies c a bytes o
@@ -249,7 +271,8 @@ heard-follows c others more a heard rests other contained here same =
         rests.now,
         record {
           stand = at;
-          at = (let most = at-most c more through.count first_stand in let count = through.most in let was = f.at in let is_at = ap (λ (s : Stand). s.at) at in omega (arith, is_at));
+          at = (let most = at-most c more through.count first_stand in let count = through.most in let was = f.at in let is_at = ap
+              (λ (s : Stand). s.at) at in omega (arith, is_at));
           log = ap (λ (log : Log). filled log (slot_named heard.header) heard.post) f.log
               ∙ keeps-log c others more a.stand rests.now (slot_named heard.header) heard.post other.speaks other.other here same;
           made = f.made;
@@ -261,13 +284,15 @@ heard-follows c others more a heard rests other contained here same =
     )
 
 -- a post is heard for an empty slot
-hears-new : (replies : Replies) (c : Configuration) (delivered : List (List ℕ)) (bytes : List ℕ) (a : Actor) (heard : Heard) → IsPlain replies
+hears-new : (replies : Replies) (c : Configuration) (delivered : List (List ℕ)) (bytes : List ℕ) (a : Actor) (heard : Heard)
+    → IsPlain replies
     → SaysGrammar c (first_posts c (with_last delivered bytes))
     → IsOpenAfter c delivered a → IsOfOther c heard → heard_of c bytes ≡ Some heard → is_ok heard.content ≡ true
     → first_posts c delivered (slot_named heard.header) ≡ None
     → Agrees c (with_last delivered bytes) (actor_behind_delivery replies c a bytes)
 hears-new replies c delivered bytes a heard plain grammar is other e reads empty =
-    subst (Agrees c (with_last delivered bytes)) (sym step) (rests-agrees c delivered bytes (actor_behind_steps replies c (actor_with_heard a heard)) is.none sound
+    subst (Agrees c (with_last delivered bytes)) (sym step) (rests-agrees c delivered bytes
+    (actor_behind_steps replies c (actor_with_heard a heard)) is.none sound
     (steps-rest replies c more follows.1.0 follows.0 (actor_with_heard a heard) plain grammar follows.1.1))
   where
     slot : Slot
@@ -287,22 +312,26 @@ hears-new replies c delivered bytes a heard plain grammar is other e reads empty
         by_first None is = is ∙ sym ((first-posts-grow c delivered bytes other).comes is ∙ given-elsewhere c other bytes heard e apart)
 
     follows : (stages : ℕ) × ((now : Bool) × Follows c more now stages (actor_with_heard a heard))
-    follows = heard-follows c (first_posts c delivered) more a heard is.rests other (λ s post at. (first-posts-grow c delivered bytes s).stays post at) here same
+    follows = heard-follows c (first_posts c delivered) more a heard is.rests other
+        (λ s post at. (first-posts-grow c delivered bytes s).stays post at) here same
 
     nothing : kept_in a.log slot ≡ None
     nothing = kept-first c (first_posts c delivered) a slot is.rests other.speaks other.other ∙ empty
 
     sound : fault_shown c more bytes ≡ None
-    sound = fault-of c more bytes (Some heard) e ∙ fault-inside c more bytes heard reads ∙ contradiction-full c more bytes heard heard.post here
+    sound = fault-of c more bytes (Some heard) e ∙ fault-inside c more bytes heard reads
+        ∙ contradiction-full c more bytes heard heard.post here
         ∙ contradiction-same c bytes heard heard.post refl
 
     quiet : fault_shown c (kept_in a.log) bytes ≡ None
-    quiet = fault-of c (kept_in a.log) bytes (Some heard) e ∙ fault-inside c (kept_in a.log) bytes heard reads ∙ contradiction-empty c (kept_in a.log) bytes heard nothing
+    quiet = fault-of c (kept_in a.log) bytes (Some heard) e ∙ fault-inside c (kept_in a.log) bytes heard reads
+        ∙ contradiction-empty c (kept_in a.log) bytes heard nothing
 
     step : actor_behind_delivery replies c a bytes ≡ actor_behind_steps replies c (actor_with_heard a heard)
     step =
         open-heard replies c a bytes None (rests-open c delivered a is) quiet ∙ ap (actor_behind_heard replies c a) e
-        ∙ cond-false (is_some (kept_in a.log slot)) a (actor_behind_steps replies c (actor_behind_repeat replies c (actor_with_heard a heard) a.mood)) (ap is_some nothing)
+        ∙ cond-false (is_some (kept_in a.log slot)) a (actor_behind_steps replies c
+        (actor_behind_repeat replies c (actor_with_heard a heard) a.mood)) (ap is_some nothing)
         ∙ ap (actor_behind_steps replies c) (repeat-plain replies c (actor_with_heard a heard) a.mood is.rests.now is.rests.follows.mood)
 
 -- ---- after the end
@@ -313,12 +342,14 @@ ended-agrees : (replies : Replies) (c : Configuration) (delivered : List (List �
 unfolding Agrees actor_behind_delivery
 ended-agrees replies c delivered bytes a is =
     let within = is.within in
-    subst (Agrees c (with_last delivered bytes)) (sym (cond-false (is_open a.ending) (actor_behind_fault replies c a bytes (fault_shown c (kept_in a.log) bytes)) a (ap is_open is.has.ending ∙ is.has.closed)))
+    subst (Agrees c (with_last delivered bytes)) (sym (cond-false (is_open a.ending)
+    (actor_behind_fault replies c a bytes (fault_shown c (kept_in a.log) bytes)) a (ap is_open is.has.ending ∙ is.has.closed)))
     (inr (record {
       ending = is.ending;
       least = (least-ending-grows c delivered bytes).stays is.ending is.least;
       within = omega (arith, length-append delivered (bytes ∷ []));
-      has = subst (λ (part : List (List ℕ)). HasEndedWith c part is.ending.1 a) (sym (take-append-le is.ending.0 delivered (bytes ∷ []) is.within)) is.has;
+      has = subst (λ (part : List (List ℕ)). HasEndedWith c part is.ending.1 a)
+          (sym (take-append-le is.ending.0 delivered (bytes ∷ []) is.within)) is.has;
     }))
 
 -- ---- every delivery

@@ -23,7 +23,8 @@ passing-sum f p (x ∷ xs) = by_first (p x) (passing-sum f p xs) ∙ sym (sum_by
     by_first : (b : Bool) → sum_by f (filter p xs) ≡ sum_by (λ y. if p y then f y else 0) xs
         → sum_by f (if b then x ∷ filter p xs else filter p xs) ≡ (if b then f x else 0) + sum_by (λ y. if p y then f y else 0) xs
     by_first true rest = sum_by-cons f x (filter p xs) ∙ ap (λ (n : ℕ). f x + n) rest
-    by_first false rest = rest ∙ sym (let none : 0 + sum_by (λ y. if p y then f y else 0) xs ≡ sum_by (λ y. if p y then f y else 0) xs = omega arith in none)
+    by_first false rest = rest ∙ sym (let none : 0 + sum_by (λ y. if p y then f y else 0) xs ≡ sum_by (λ y. if p y then f y else 0) xs =
+        omega arith in none)
 
 range-none : (g : ℕ → ℕ) (a n : ℕ) → ((m : ℕ) → a ≤ m → g m ≡ 0) → sum_by g (range_with_len a n) ≡ 0
 range-none g a zero none = refl
@@ -43,7 +44,8 @@ range-single g k a (suc n) others le lt = elim (cases_lt a k) [
   | inr now ↦
       let same : a ≡ k = omega arith in
       let rest = range-none g (a + 1) n (λ m le. others m (λ e. absurd (omega (arith, e)))) in
-      sum_by-cons g a (range_with_len (a + 1) n) ∙ ap (λ (r : ℕ). g a + r) rest ∙ (let none : g a + 0 ≡ g a = omega arith in none) ∙ ap g same
+      sum_by-cons g a (range_with_len (a + 1) n) ∙ ap (λ (r : ℕ). g a + r) rest ∙ (let none : g a + 0 ≡ g a = omega arith in none)
+      ∙ ap g same
 ]
 
 -- ---- bits
@@ -51,7 +53,8 @@ range-single g k a (suc n) others le lt = elim (cases_lt a k) [
 -- who does not speak has no bit
 silent-bit : (log : Log) (stage member : ℕ) → is_slot log.shape stage member ≡ false → missing_bit log stage member ≡ 0
 silent-bit log stage member silent =
-    cond-false (is_missing log stage member) _ 0 (ap (λ (b : Bool). b && is_none (kept_in log (record { stage = stage; sender = member }))) silent)
+    cond-false (is_missing log stage member) _ 0 (ap (λ (b : Bool). b && is_none (kept_in log (record { stage = stage; sender = member })))
+    silent)
 
 by-sum : (log : Log) (stage : ℕ) (xs : List ℕ) → bits_of (filter (is_missing log stage) xs) ≡ sum_by (missing_bit log stage) xs
 by-sum log stage xs = passing-sum (λ member. 2 ^ (member - 1)) (is_missing log stage) xs
@@ -74,20 +77,24 @@ turn-bits log stage shuffle k e =
 
 -- the bits of those whose posts are missing among the senders of a stage are all bits of the stage
 pub bits-missing : (log : Log) (stage : ℕ)
-    → bits_of (filter (is_missing log stage) (option_map_or (senders_in log.shape) (kind_of_stage log.shape stage) [])) ≡ missing_bits log stage
+    → bits_of (filter (is_missing log stage) (option_map_or (senders_in log.shape) (kind_of_stage log.shape stage) [])) ≡ missing_bits log
+    stage
 bits-missing log stage = by_kind (kind_of_stage log.shape stage) refl
   where
     chosen : (o : Option StageKind) → kind_of_stage log.shape stage ≡ o
-        → bits_of (filter (is_missing log stage) (option_map_or (senders_in log.shape) (kind_of_stage log.shape stage) [])) ≡ bits_of (filter (is_missing log stage) (option_map_or (senders_in log.shape) o []))
+        → bits_of (filter (is_missing log stage) (option_map_or (senders_in log.shape) (kind_of_stage log.shape stage) [])) ≡ bits_of
+        (filter (is_missing log stage) (option_map_or (senders_in log.shape) o []))
     chosen o e = ap (λ (kind : Option StageKind). bits_of (filter (is_missing log stage) (option_map_or (senders_in log.shape) kind []))) e
 
     all : bits_of (filter (is_missing log stage) (range_with_len 1 log.shape.members)) ≡ missing_bits log stage
     all = by-sum log stage (range_with_len 1 log.shape.members)
 
     by_kind : (o : Option StageKind) → kind_of_stage log.shape stage ≡ o
-        → bits_of (filter (is_missing log stage) (option_map_or (senders_in log.shape) (kind_of_stage log.shape stage) [])) ≡ missing_bits log stage
+        → bits_of (filter (is_missing log stage) (option_map_or (senders_in log.shape) (kind_of_stage log.shape stage) [])) ≡ missing_bits
+        log stage
     by_kind None e = chosen None e
-        ∙ sym (range-none (missing_bit log stage) 1 log.shape.members (λ m le. silent-bit log stage m (ap (λ (o : Option StageKind). speaks log.shape o m) e)))
+        ∙ sym (range-none (missing_bit log stage) 1 log.shape.members
+        (λ m le. silent-bit log stage m (ap (λ (o : Option StageKind). speaks log.shape o m) e)))
     by_kind (Some (Shuffle shuffle k)) e = chosen (Some (Shuffle shuffle k)) e ∙ turn-bits log stage shuffle k e
     by_kind (Some Keys) e = chosen (Some Keys) e ∙ all
     by_kind (Some (Submit shuffle)) e = chosen (Some (Submit shuffle)) e ∙ all

@@ -49,7 +49,8 @@ record CountsOne (p : Post → Bool) (f : ℕ → Option Post) (k a n : ℕ) : T
   none : k < a → count_by p (filter_map f (range_with_len a n)) ≡ 0
   most : count_by p (filter_map f (range_with_len a n)) ≤ 1
 
-counts-one : (p : Post → Bool) (f : ℕ → Option Post) (k a n : ℕ) → ((s : ℕ) (y : Post) → f s ≡ Some y → p y ≡ true → s ≡ k) → CountsOne p f k a n
+counts-one : (p : Post → Bool) (f : ℕ → Option Post) (k a n : ℕ) → ((s : ℕ) (y : Post) → f s ≡ Some y → p y ≡ true → s ≡ k)
+    → CountsOne p f k a n
 counts-one p f k a zero only = record { none = λ _. refl; most = omega arith }
 counts-one p f k a (suc n) only = by_first (f a) refl (counts-one p f k (a + 1) n only)
   where
@@ -59,19 +60,22 @@ counts-one p f k a (suc n) only = by_first (f a) refl (counts-one p f k (a + 1) 
     by_value : (y : Post) → f a ≡ Some y → CountsOne p f k (a + 1) n → (p y ≡ true) ⊎ (p y ≡ false) → CountsOne p f k a (suc n)
     by_value y e later (inl counted) =
         let here : a ≡ k = only a y e counted in
-        let whole : count_by p (filter_map f (range_with_len a (suc n))) ≡ 1 + count_by p rest = ap (λ (o : Option Post). count_by p (cons_option o rest)) e
+        let whole : count_by p (filter_map f (range_with_len a (suc n))) ≡ 1 + count_by p rest = ap
+        (λ (o : Option Post). count_by p (cons_option o rest)) e
         ∙ count-cons p y rest ∙ ap (λ (b : Bool). cond b 1 0 + count_by p rest) counted in
         let nothing : count_by p rest ≡ 0 = later.none (omega (arith, here)) in
         record { none = λ lt. absurd (omega (arith, here)); most = omega (arith, whole, nothing) }
     by_value y e later (inr not_counted) =
-        let whole : count_by p (filter_map f (range_with_len a (suc n))) ≡ 0 + count_by p rest = ap (λ (o : Option Post). count_by p (cons_option o rest)) e
+        let whole : count_by p (filter_map f (range_with_len a (suc n))) ≡ 0 + count_by p rest = ap
+        (λ (o : Option Post). count_by p (cons_option o rest)) e
         ∙ count-cons p y rest ∙ ap (λ (b : Bool). cond b 1 0 + count_by p rest) not_counted in
         let most = later.most in
         record { none = λ lt. (let nothing = later.none (omega arith) in omega (arith, whole, nothing)); most = omega (arith, whole) }
 
     by_first : (o : Option Post) → f a ≡ o → CountsOne p f k (a + 1) n → CountsOne p f k a (suc n)
     by_first None e later =
-        let whole : count_by p (filter_map f (range_with_len a (suc n))) ≡ count_by p rest = ap (λ (o : Option Post). count_by p (cons_option o rest)) e in
+        let whole : count_by p (filter_map f (range_with_len a (suc n))) ≡ count_by p rest = ap
+        (λ (o : Option Post). count_by p (cons_option o rest)) e in
         let most = later.most in
         record { none = λ lt. (let nothing = later.none (omega arith) in omega (arith, whole, nothing)); most = omega (arith, whole) }
     by_first (Some y) e later = by_value y e later (cases_Bool (p y))
@@ -81,10 +85,16 @@ pub record IsOwnAt (c : Configuration) (stand : Stand) (stage : ℕ) (post : Pos
   pub said : has_spoken c stand stage ≡ true
   pub is : post ≡ own_post c (posts_before_stage c stand stage) stage
 
-pub own-at : (c : Configuration) (stand : Stand) (stage : ℕ) (post : Post) → own_post_at c stand stage ≡ Some post → IsOwnAt c stand stage post
+pub own-at : (c : Configuration) (stand : Stand) (stage : ℕ) (post : Post) → own_post_at c stand stage ≡ Some post
+    → IsOwnAt c stand stage post
 own-at c stand stage post e = elim (cases_Bool (has_spoken c stand stage)) [
-  | inl said ↦ record { said = said; is = told_same post _ (sym e ∙ cond-true (has_spoken c stand stage) (Some (own_post c (posts_before_stage c stand stage) stage)) None said) }
-  | inr silent ↦ absurd (none-some post (sym (cond-false (has_spoken c stand stage) (Some (own_post c (posts_before_stage c stand stage) stage)) None silent) ∙ e))
+  | inl said ↦ record {
+    said = said;
+    is = told_same post _ (sym e
+        ∙ cond-true (has_spoken c stand stage) (Some (own_post c (posts_before_stage c stand stage) stage)) None said);
+  }
+  | inr silent ↦ absurd (none-some post (sym (cond-false (has_spoken c stand stage)
+      (Some (own_post c (posts_before_stage c stand stage) stage)) None silent) ∙ e))
 ]
   where
     told_same : (x y : Post) → (let told : Post → Option Post = λ z. Some z in told x ≡ told y) → x ≡ y
@@ -96,11 +106,13 @@ unfolding own_post
 own-end c past stage shuffle small e =
     eqb-true stage (final_stage (shape_in c) shuffle) (sym (ap (ends_shuffle c shuffle) (own-header c past stage small)) ∙ e)
 
-pub ends-at-most-once : (c : Configuration) (stand : Stand) (shuffle : ℕ) → c.round < 2 ^ 64 → count_by (is_end c shuffle) (own_posts c stand) ≤ 1
+pub ends-at-most-once : (c : Configuration) (stand : Stand) (shuffle : ℕ) → c.round < 2 ^ 64
+    → count_by (is_end c shuffle) (own_posts c stand) ≤ 1
 unfolding own_posts
 ends-at-most-once c stand shuffle small =
     (counts-one (is_end c shuffle) (own_post_at c stand) (final_stage (shape_in c) shuffle) 0 (stage_count (shape_in c)) (λ s y e counted.
-    (let at = own-at c stand s y e in own-end c (posts_before_stage c stand s) s shuffle small (sym (ap (is_end c shuffle) at.is) ∙ counted)))).most
+    (let at = own-at c stand s y e in own-end c (posts_before_stage c stand s) s shuffle small
+    (sym (ap (is_end c shuffle) at.is) ∙ counted)))).most
 
 -- ---- one of the seeds
 
@@ -138,11 +150,14 @@ own-shows : (c : Configuration) (stage shuffle : ℕ) (past : List Post) (conten
     → content_read (shape_in c) (own_post c past stage).content ≡ Ok content
     → kind_of_stage (shape_in c) content.header.stage ≡ Some (Final shuffle) → ShowsOneSeed c shuffle content.body
 own-shows c stage shuffle past content can reads kind =
-    let same : content_due c past stage ≡ content = content-same (content_due c past stage) content (content_read (shape_in c) (own_post c past stage).content) (own-is-read c stage past can) reads in
-    let at : stage ≡ content.header.stage = sym (ap (λ (h : Header). h.stage) (due-header c past stage)) ∙ ap (λ (x : Content). x.header.stage) same in
+    let same : content_due c past stage ≡ content = content-same (content_due c past stage) content
+    (content_read (shape_in c) (own_post c past stage).content) (own-is-read c stage past can) reads in
+    let at : stage ≡ content.header.stage = sym (ap (λ (h : Header). h.stage) (due-header c past stage))
+    ∙ ap (λ (x : Content). x.header.stage) same in
     let kind_is : kind_of_stage (shape_in c) stage ≡ Some (Final shuffle) = ap (kind_of_stage (shape_in c)) at ∙ kind in
     subst (λ (x : Content). ShowsOneSeed c shuffle x.body) same
-    (subst (ShowsOneSeed c shuffle) (sym (due-body c past stage ∙ ap (own_body_if c (own_descriptor c (contents_of past)) past stage) kind_is))
+    (subst (ShowsOneSeed c shuffle) (sym (due-body c past stage
+    ∙ ap (own_body_if c (own_descriptor c (contents_of past)) past stage) kind_is))
     (end-shows c (own_descriptor c (contents_of past)) past stage shuffle))
 
 -- ---- the pasts of own posts
@@ -162,19 +177,24 @@ kept-past c others number slot post at lt there =
     speaks = (slot_at-is (shape_in c) number slot at).0
 
     due : post_due c others stand.past slot.stage slot.sender ≡ Some post
-    due = sym ((reached-end c others).posts slot.stage slot.sender speaks lt) ∙ ap (slice_get stand.past) (slot_at-is (shape_in c) number slot at).1 ∙ there
+    due = sym ((reached-end c others).posts slot.stage slot.sender speaks lt)
+        ∙ ap (slice_get stand.past) (slot_at-is (shape_in c) number slot at).1 ∙ there
 
     by_sender : ((slot.sender == c.number) ≡ true) ⊎ ((slot.sender == c.number) ≡ false)
         → (if slot.sender == c.number then own_post_at c (course_of c others) slot.stage else others slot) ≡ Some post
     by_sender (inl own) =
-        let speaks_own : is_slot (shape_in c) slot.stage c.number ≡ true = sym (ap (λ (s : ℕ). is_slot (shape_in c) slot.stage s) (eqb-true slot.sender c.number own)) ∙ speaks in
-        let said : has_spoken c stand slot.stage ≡ true = and_from _ _ speaks_own (or_left (nat_lt slot.stage stand.at) _ (lt-ltb slot.stage stand.at lt)) in
+        let speaks_own : is_slot (shape_in c) slot.stage c.number ≡ true = sym
+        (ap (λ (s : ℕ). is_slot (shape_in c) slot.stage s) (eqb-true slot.sender c.number own)) ∙ speaks in
+        let said : has_spoken c stand slot.stage ≡ true = and_from _ _ speaks_own
+        (or_left (nat_lt slot.stage stand.at) _ (lt-ltb slot.stage stand.at lt)) in
         cond-true (slot.sender == c.number) (own_post_at c stand slot.stage) (others slot) own
         ∙ cond-true (has_spoken c stand slot.stage) (Some (own_post c (posts_before_stage c stand slot.stage) slot.stage)) None said
-        ∙ sym (cond-true (slot.sender == c.number) (Some (own_post c (posts_before_stage c stand slot.stage) slot.stage)) (others slot) own) ∙ due
+        ∙ sym (cond-true (slot.sender == c.number) (Some (own_post c (posts_before_stage c stand slot.stage) slot.stage)) (others slot) own)
+        ∙ due
     by_sender (inr other) =
         cond-false (slot.sender == c.number) (own_post_at c stand slot.stage) (others slot) other
-        ∙ sym (cond-false (slot.sender == c.number) (Some (own_post c (posts_before_stage c stand slot.stage) slot.stage)) (others slot) other) ∙ due
+        ∙ sym (cond-false (slot.sender == c.number) (Some (own_post c (posts_before_stage c stand slot.stage) slot.stage)) (others slot)
+        other) ∙ due
 
 -- so each front of it is a past of posts that read
 past-reads : (c : Configuration) (others : Others) (stage : ℕ) → CanEnter c → OthersCheck c others → stage ≤ (course_of c others).at
@@ -214,15 +234,22 @@ own-ends c others shuffle is check = record {
   shows = λ post content listed reads kind. (
       let found = contains-filter_map (own_post_at c stand) (range_with_len 0 (stage_count (shape_in c))) post listed in
       let own = own-at c stand found.0 post found.2 in
-      let can : CanSay c found.0 (posts_before_stage c stand found.0) = record { enter = is; speaks = (and_parts (is_slot (shape_in c) found.0 c.number) _ own.said).0; past_is = past-reads c others found.0 is check (within found.0 own.said) } in
-      own-shows c found.0 shuffle (posts_before_stage c stand found.0) content can (ap (λ (p : Post). content_read (shape_in c) p.content) (sym own.is) ∙ reads) kind);
+      let can : CanSay c found.0 (posts_before_stage c stand found.0) = record {
+        enter = is;
+        speaks = (and_parts (is_slot (shape_in c) found.0 c.number) _ own.said).0;
+        past_is = past-reads c others found.0 is
+            check (within found.0 own.said);
+      } in
+      own-shows c found.0 shuffle (posts_before_stage c stand found.0) content can
+      (ap (λ (p : Post). content_read (shape_in c) p.content) (sym own.is) ∙ reads) kind);
 }
   where
     stand : Stand
     stand = course_of c others
 
     within : (s : ℕ) → has_spoken c stand s ≡ true → s ≤ stand.at
-    within s said = elim (or_cases (nat_lt s stand.at) (is_open stand.verdict && (s == stand.at)) (and_parts (is_slot (shape_in c) s c.number) _ said).1) [
-      | inl passed ↦ (let lt = ltb-true s stand.at passed in omega arith)
-      | inr now ↦ (let same = eqb-true s stand.at (and_parts (is_open stand.verdict) (s == stand.at) now).1 in omega arith)
-    ]
+    within s said = elim (or_cases (nat_lt s stand.at) (is_open stand.verdict && (s == stand.at))
+        (and_parts (is_slot (shape_in c) s c.number) _ said).1) [
+          | inl passed ↦ (let lt = ltb-true s stand.at passed in omega arith)
+          | inr now ↦ (let same = eqb-true s stand.at (and_parts (is_open stand.verdict) (s == stand.at) now).1 in omega arith)
+        ]

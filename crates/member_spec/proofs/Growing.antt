@@ -52,15 +52,19 @@ answer-grows c a Silent = same a _ refl
 
 with-grows : (replies : Replies) (c : Configuration) (a : Actor) (o : Option (List Post)) → Grows a (actor_behind_step_with replies c a o)
 with-grows replies c a (Some posts) = same a _ refl
-with-grows replies c a None = either a (actor_behind_question replies c a (content_to_say replies c a.stand)) a (is_due c a.stand a.mood) (answer-grows c a (speech_about replies c a (content_to_say replies c a.stand))) (same a a refl)
+with-grows replies c a None = either a (actor_behind_question replies c a (content_to_say replies c a.stand)) a (is_due c a.stand a.mood)
+    (answer-grows c a (speech_about replies c a (content_to_say replies c a.stand))) (same a a refl)
 
 step-grows : (replies : Replies) (c : Configuration) (a : Actor) → Grows a (actor_behind_step replies c a)
 unfolding actor_behind_step
-step-grows replies c a = either a (actor_behind_step_with replies c a (stage_posts c a)) a (is_open a.ending) (with-grows replies c a (stage_posts c a)) (same a a refl)
+step-grows replies c a = either a (actor_behind_step_with replies c a (stage_posts c a)) a (is_open a.ending)
+    (with-grows replies c a (stage_posts c a)) (same a a refl)
 
 steps-grow : (replies : Replies) (c : Configuration) (n : ℕ) (a : Actor) → Grows a (iterate (actor_behind_step replies c) n a)
 steps-grow replies c zero a = same a a refl
-steps-grow replies c (suc n) a = further a (actor_behind_step replies c a) (iterate (actor_behind_step replies c) n (actor_behind_step replies c a)) (step-grows replies c a) (steps-grow replies c n (actor_behind_step replies c a))
+steps-grow replies c (suc n) a = further a (actor_behind_step replies c a)
+    (iterate (actor_behind_step replies c) n (actor_behind_step replies c a)) (step-grows replies c a)
+    (steps-grow replies c n (actor_behind_step replies c a))
 
 repeat-grows : (replies : Replies) (c : Configuration) (a : Actor) (mood : Mood) → Grows a (actor_behind_repeat replies c a mood)
 repeat-grows replies c a (PutOff bytes) = answer-grows c a (speech_about replies c a bytes)
@@ -75,7 +79,8 @@ heard-post-grows replies c a (Some heard) =
     let again : Actor = actor_behind_repeat replies c kept a.mood in
     either a a (actor_behind_steps replies c again) (is_some (kept_in a.log (slot_named heard.header))) (same a a refl)
     (further a kept (actor_behind_steps replies c again) (same a kept refl)
-    (further kept again (actor_behind_steps replies c again) (repeat-grows replies c kept a.mood) (steps-grow replies c (2 * stage_count (shape_in c)) again)))
+    (further kept again (actor_behind_steps replies c again) (repeat-grows replies c kept a.mood)
+    (steps-grow replies c (2 * stage_count (shape_in c)) again)))
 
 fault-grows : (replies : Replies) (c : Configuration) (a : Actor) (bytes : List ℕ) (o : Option Verdict)
     → Grows a (actor_behind_fault replies c a bytes o)
@@ -84,10 +89,12 @@ fault-grows replies c a bytes None = heard-post-grows replies c a (heard_of c by
 
 delivery-grows : (replies : Replies) (c : Configuration) (a : Actor) (bytes : List ℕ) → Grows a (actor_behind_delivery replies c a bytes)
 unfolding actor_behind_delivery
-delivery-grows replies c a bytes = either a (actor_behind_fault replies c a bytes (fault_shown c (kept_in a.log) bytes)) a (is_open a.ending) (fault-grows replies c a bytes (fault_shown c (kept_in a.log) bytes)) (same a a refl)
+delivery-grows replies c a bytes = either a (actor_behind_fault replies c a bytes (fault_shown c (kept_in a.log) bytes)) a
+    (is_open a.ending) (fault-grows replies c a bytes (fault_shown c (kept_in a.log) bytes)) (same a a refl)
 
 pub posts_grow : PostsGrow
 unfolding actor_after Grows
 posts_grow replies c delivered bytes =
-    subst (λ (b : Actor). GoesOnTo (fold (actor_behind_delivery replies c) (actor_at_start replies c) delivered).made b.made) (sym (fold-append (actor_behind_delivery replies c) (actor_at_start replies c) delivered (bytes ∷ [])))
+    subst (λ (b : Actor). GoesOnTo (fold (actor_behind_delivery replies c) (actor_at_start replies c) delivered).made b.made)
+    (sym (fold-append (actor_behind_delivery replies c) (actor_at_start replies c) delivered (bytes ∷ [])))
     (delivery-grows replies c (fold (actor_behind_delivery replies c) (actor_at_start replies c) delivered) bytes)

@@ -28,7 +28,8 @@ use Rattle.round_spec.proofs.Deliveries.{ending-all, ending-parts, first-posts-g
 
 -- ---- what is heard
 
-and-then-parts : {A B : Type 0} (f : A → Option B) (o : Option A) (y : B) → option_and_then f o ≡ Some y → (x : A) × (o ≡ Some x) × (f x ≡ Some y)
+and-then-parts : {A B : Type 0} (f : A → Option B) (o : Option A) (y : B) → option_and_then f o ≡ Some y → (x : A) × (o ≡ Some x)
+    × (f x ≡ Some y)
 and-then-parts f None y e = absurd (none-some y e)
 and-then-parts f (Some x) y e = (x, refl, e)
 
@@ -51,13 +52,15 @@ heard-other c bytes heard are e =
     let admitted = and-then-parts (heard_with c framed.0) (result_ok (framed_admission_of c.roster c.round framed.0)) heard framed.2 in
     let spelled = ok-of (frame_of bytes) framed.0 framed.1 in
     let is = ok-of (framed_admission_of c.roster c.round framed.0) admitted.0 admitted.1 in
-    let admits = admit-found c.roster c.round framed.0 admitted.0 (framed-fits bytes framed.0 spelled) (framed-bytes bytes framed.0 are spelled) is in
+    let admits = admit-found c.roster c.round framed.0 admitted.0 (framed-fits bytes framed.0 spelled)
+    (framed-bytes bytes framed.0 are spelled) is in
     by_sender framed.0 admitted.0 admitted.2 admits.slot (cases_Bool (admitted.0.sender == c.number))
   where
     told_same : (a b : Heard) → (let told : Heard → Option Heard = λ z. Some z in told a ≡ told b) → a ≡ b
     told_same a b e = cc
 
-    by_sender : (post : Post) (header : Header) → heard_with c post header ≡ Some heard → is_slot (shape_in c) header.stage header.sender ≡ true
+    by_sender : (post : Post) (header : Header) → heard_with c post header ≡ Some heard
+        → is_slot (shape_in c) header.stage header.sender ≡ true
         → ((header.sender == c.number) ≡ true) ⊎ ((header.sender == c.number) ≡ false) → IsOfOther c heard
     by_sender post header e speaks (inl own) = absurd (none-some heard (sym (cond-true (header.sender == c.number) None _ own) ∙ e))
     by_sender post header e speaks (inr other) =
@@ -77,7 +80,8 @@ unfolding post_given
 given-here c bytes heard e reads =
     ap (option_and_then (heard_in (slot_named heard.header))) e
     ∙ cond-true (names_slot (slot_named heard.header) heard.header && is_ok heard.content) (Some heard.post) None
-    (and_from _ _ (and_from _ _ (eq-eqb heard.header.stage heard.header.stage refl) (eq-eqb heard.header.sender heard.header.sender refl)) reads)
+    (and_from _ _ (and_from _ _ (eq-eqb heard.header.stage heard.header.stage refl) (eq-eqb heard.header.sender heard.header.sender refl))
+    reads)
 
 -- to another slot it gives nothing
 pub given-elsewhere : (c : Configuration) (slot : Slot) (bytes : List ℕ) (heard : Heard) → heard_of c bytes ≡ Some heard
@@ -85,21 +89,26 @@ pub given-elsewhere : (c : Configuration) (slot : Slot) (bytes : List ℕ) (hear
 unfolding post_given
 given-elsewhere c slot bytes heard e apart =
     ap (option_and_then (heard_in slot)) e
-    ∙ ap (λ (b : Bool). if b && is_ok heard.content then Some heard.post else None) (false_from_ne_true (names_slot slot heard.header) (λ named. apart (names-is slot heard.header named)))
+    ∙ ap (λ (b : Bool). if b && is_ok heard.content then Some heard.post else None)
+    (false_from_ne_true (names_slot slot heard.header) (λ named. apart (names-is slot heard.header named)))
 
 -- where the body is outside the grammar it gives nothing at all
-pub given-nothing : (c : Configuration) (slot : Slot) (bytes : List ℕ) (heard : Heard) → heard_of c bytes ≡ Some heard → is_ok heard.content ≡ false
+pub given-nothing : (c : Configuration) (slot : Slot) (bytes : List ℕ) (heard : Heard) → heard_of c bytes ≡ Some heard
+    → is_ok heard.content ≡ false
     → post_given c slot bytes ≡ None
 unfolding post_given
 given-nothing c slot bytes heard e outside =
     ap (option_and_then (heard_in slot)) e
-    ∙ cond-false (names_slot slot heard.header && is_ok heard.content) (Some heard.post) None (false_from_ne_true _ (λ both. (let reads = (and_parts (names_slot slot heard.header) (is_ok heard.content) both).1 in let no = sym reads ∙ outside in cc)))
+    ∙ cond-false (names_slot slot heard.header && is_ok heard.content) (Some heard.post) None
+    (false_from_ne_true _ (λ both. (let reads = (and_parts (names_slot slot heard.header) (is_ok heard.content) both).1 in let no = sym
+    reads ∙ outside in cc)))
 
 -- first posts that get nothing new are the same
 pub firsts-same : (c : Configuration) (delivered : List (List ℕ)) (bytes : List ℕ)
     → ((slot : Slot) → first_posts c delivered slot ≡ None → post_given c slot bytes ≡ None)
     → first_posts c (with_last delivered bytes) ≡ first_posts c delivered
-firsts-same c delivered bytes nothing = same-function (first_posts c (with_last delivered bytes)) (first_posts c delivered) (λ slot. by_first slot (first_posts c delivered slot) refl)
+firsts-same c delivered bytes nothing = same-function (first_posts c (with_last delivered bytes)) (first_posts c delivered)
+    (λ slot. by_first slot (first_posts c delivered slot) refl)
   where
     same-function : (f g : Others) → ((slot : Slot) → f slot ≡ g slot) → f ≡ g
     same-function f g each = λ i slot. each slot i
@@ -130,7 +139,8 @@ fault-outside c firsts bytes heard outside =
 pub fault-inside : (c : Configuration) (firsts : Others) (bytes : List ℕ) (heard : Heard) → is_ok heard.content ≡ true
     → faults_with c firsts bytes heard ≡ contradiction c firsts bytes heard
 fault-inside c firsts bytes heard reads =
-    first_some-none (malformed_conviction c bytes heard) (contradiction c firsts bytes heard ∷ []) (cond-true (is_ok heard.content) None _ reads)
+    first_some-none (malformed_conviction c bytes heard) (contradiction c firsts bytes heard ∷ [])
+    (cond-true (is_ok heard.content) None _ reads)
     ∙ first_some-one (contradiction c firsts bytes heard)
   where
     first_some-one : (o : Option Verdict) → first_some (o ∷ []) ≡ o
@@ -150,12 +160,18 @@ contradiction-full c firsts bytes heard post e = ap (option_and_then (contradict
 
 pub contradiction-same : (c : Configuration) (bytes : List ℕ) (heard : Heard) (post : Post) → post.content ≡ heard.post.content
     → contradiction_with c bytes heard post ≡ None
-contradiction-same c bytes heard post same = cond-true (bytes_eq post.content heard.post.content) None _ ((bytes_eq-Decides post.content heard.post.content).1 same)
+contradiction-same c bytes heard post same = cond-true (bytes_eq post.content heard.post.content) None _
+    ((bytes_eq-Decides post.content heard.post.content).1 same)
 
 pub contradiction-cases : (c : Configuration) (bytes : List ℕ) (heard : Heard) (post : Post)
-    → ((post.content ≡ heard.post.content) × (contradiction_with c bytes heard post ≡ None)) ⊎ ((v : Verdict) × (is_open v ≡ false) × (contradiction_with c bytes heard post ≡ Some v))
+    → ((post.content ≡ heard.post.content) × (contradiction_with c bytes heard post ≡ None))
+    ⊎ ((v : Verdict) × (is_open v ≡ false) × (contradiction_with c bytes heard post ≡ Some v))
 contradiction-cases c bytes heard post = elim (cases_Bool (bytes_eq post.content heard.post.content)) [
-  | inl same ↦ inl ((bytes_eq-Decides post.content heard.post.content).0 same, cond-true (bytes_eq post.content heard.post.content) None _ same)
+  | inl same ↦ inl (
+    (bytes_eq-Decides post.content heard.post.content).0 same,
+    cond-true (bytes_eq post.content heard.post.content) None _
+        same,
+  )
   | inr other ↦ inr (_, refl, cond-false (bytes_eq post.content heard.post.content) None _ other)
 ]
 
@@ -166,7 +182,8 @@ pub none-ends : (c : Configuration) (delivered : List (List ℕ)) → least_endi
 unfolding least_ending
 none-ends c delivered e =
     nothing_mapped (λ (verdict : Verdict). (length delivered, verdict)) (ending_of c delivered)
-    (sym (ending-all c delivered (length delivered) (omega arith)) ∙ first_below-each (ending_at c delivered) (suc (length delivered)) e (length delivered) (omega arith))
+    (sym (ending-all c delivered (length delivered) (omega arith))
+    ∙ first_below-each (ending_at c delivered) (suc (length delivered)) e (length delivered) (omega arith))
 
 pub ending-open : (verdict : Verdict) → ending_verdict verdict ≡ None → is_open verdict ≡ true
 ending-open Goes e = refl
@@ -180,7 +197,8 @@ pub closed-ending : (verdict : Verdict) → is_open verdict ≡ false → ending
 closed-ending verdict e = cond-false (is_open verdict) None (Some verdict) e
 
 -- so the round is open then
-pub none-open : (c : Configuration) (delivered : List (List ℕ)) → least_ending c delivered ≡ None → is_open (stand_after c delivered).verdict ≡ true
+pub none-open : (c : Configuration) (delivered : List (List ℕ)) → least_ending c delivered ≡ None
+    → is_open (stand_after c delivered).verdict ≡ true
 none-open c delivered e = ending-open (stand_after c delivered).verdict (ending-parts c delivered (none-ends c delivered e))
 
 -- the last of deliveries with one more behind them

@@ -61,9 +61,12 @@ kept-filled log slot other post kept e = elim (cases_Bool (is_slot log.shape oth
   | inl speaks ↦
       let number : ℕ = slot_number log.shape other.stage other.sender in
       let k : ℕ = slot_number log.shape slot.stage slot.sender in
-      let entry = sym (cond-true (is_slot log.shape other.stage other.sender) (option_flatten (slice_get (slice_set log.posts k (Some post)) number)) None speaks) ∙ e in
-      elim (get-set log.posts k number (Some post) (Some kept) (flatten-some (slice_get (slice_set log.posts k (Some post)) number) kept entry)) [
-        | inl old ↦ inl (cond-true (is_slot log.shape other.stage other.sender) (option_flatten (slice_get log.posts number)) None speaks ∙ ap option_flatten old)
+      let entry = sym (cond-true (is_slot log.shape other.stage other.sender)
+      (option_flatten (slice_get (slice_set log.posts k (Some post)) number)) None speaks) ∙ e in
+      elim (get-set log.posts k number (Some post) (Some kept) (flatten-some (slice_get (slice_set log.posts k (Some post)) number) kept
+      entry)) [
+        | inl old ↦ inl (cond-true (is_slot log.shape other.stage other.sender) (option_flatten (slice_get log.posts number)) None speaks
+            ∙ ap option_flatten old)
         | inr new ↦ inr (told_same kept post new)
       ]
 ]
@@ -71,7 +74,8 @@ kept-filled log slot other post kept e = elim (cases_Bool (is_slot log.shape oth
     told_same : (x y : Post) → (let told : Post → Option Post = λ z. Some z in told x ≡ told y) → x ≡ y
     told_same x y e = cc
 
-filled-read : (c : Configuration) (log : Log) (slot : Slot) (post : Post) → is_ok (content_read (shape_in c) post.content) ≡ true → KeepsRead c log
+filled-read : (c : Configuration) (log : Log) (slot : Slot) (post : Post) → is_ok (content_read (shape_in c) post.content) ≡ true
+    → KeepsRead c log
     → KeepsRead c (filled log slot post)
 unfolding KeepsRead
 filled-read c log slot post reads keeps other kept e = elim (kept-filled log slot other post kept e) [
@@ -90,7 +94,9 @@ empty-read c slot post e = elim (cases_Bool (is_slot (shape_in c) slot.stage slo
   | inr silent ↦ absurd (none-some post (sym (cond-false (is_slot (shape_in c) slot.stage slot.sender) _ None silent) ∙ e))
   | inl speaks ↦ absurd (nothing-there (slot_count (shape_in c)) (slot_number (shape_in c) slot.stage slot.sender) post
       (flatten-some (slice_get (replicate (slot_count (shape_in c)) None) (slot_number (shape_in c) slot.stage slot.sender)) post
-      (sym (cond-true (is_slot (shape_in c) slot.stage slot.sender) (option_flatten (slice_get (replicate (slot_count (shape_in c)) None) (slot_number (shape_in c) slot.stage slot.sender))) None speaks) ∙ e)))
+      (sym (cond-true (is_slot (shape_in c) slot.stage slot.sender)
+      (option_flatten (slice_get (replicate (slot_count (shape_in c)) None) (slot_number (shape_in c) slot.stage slot.sender))) None
+      speaks) ∙ e)))
 ]
 
 post-read : (c : Configuration) (a : Actor) (post : Post) → KeepsRead c a.log → KeepsRead c (actor_behind_post c a post).log
@@ -98,9 +104,11 @@ post-read c a post keeps = by_read (cases_Bool (is_ok (content_read (shape_in c)
   where
     by_read : (is_ok (content_read (shape_in c) post.content) ≡ true) ⊎ (is_ok (content_read (shape_in c) post.content) ≡ false)
         → KeepsRead c (actor_behind_post c a post).log
-    by_read (inl reads) = subst (KeepsRead c) (sym (ap (λ (x : Actor). x.log) (cond-true (is_ok (content_read (shape_in c) post.content)) _ _ reads)))
+    by_read (inl reads) = subst (KeepsRead c) (sym (ap (λ (x : Actor). x.log)
+        (cond-true (is_ok (content_read (shape_in c) post.content)) _ _ reads)))
         (filled-read c a.log (record { stage = a.stand.at; sender = c.number }) post reads keeps)
-    by_read (inr outside) = subst (KeepsRead c) (sym (ap (λ (x : Actor). x.log) (cond-false (is_ok (content_read (shape_in c) post.content)) _ _ outside))) keeps
+    by_read (inr outside) = subst (KeepsRead c) (sym (ap (λ (x : Actor). x.log)
+        (cond-false (is_ok (content_read (shape_in c) post.content)) _ _ outside))) keeps
 
 answer-read : (c : Configuration) (a : Actor) (speech : Speech) → KeepsRead c a.log → KeepsRead c (actor_behind_answer c a speech).log
 answer-read c a (Say bytes) keeps = post-read c a (signed_at c a.stand.at bytes) keeps
@@ -111,9 +119,13 @@ step-read : (replies : Replies) (c : Configuration) (a : Actor) → KeepsRead c 
 unfolding actor_behind_step
 step-read replies c a keeps = by_open (cases_Bool (is_open a.ending))
   where
-    by_due : (is_due c a.stand a.mood ≡ true) ⊎ (is_due c a.stand a.mood ≡ false) → KeepsRead c (actor_behind_step_with replies c a None).log
-    by_due (inl due) = subst (KeepsRead c) (sym (ap (λ (x : Actor). x.log) (cond-true (is_due c a.stand a.mood) (actor_behind_question replies c a (content_to_say replies c a.stand)) a due))) (answer-read c a (speech_about replies c a (content_to_say replies c a.stand)) keeps)
-    by_due (inr not_due) = subst (KeepsRead c) (sym (ap (λ (x : Actor). x.log) (cond-false (is_due c a.stand a.mood) (actor_behind_question replies c a (content_to_say replies c a.stand)) a not_due))) keeps
+    by_due : (is_due c a.stand a.mood ≡ true) ⊎ (is_due c a.stand a.mood ≡ false)
+        → KeepsRead c (actor_behind_step_with replies c a None).log
+    by_due (inl due) = subst (KeepsRead c) (sym (ap (λ (x : Actor). x.log)
+        (cond-true (is_due c a.stand a.mood) (actor_behind_question replies c a (content_to_say replies c a.stand)) a due)))
+        (answer-read c a (speech_about replies c a (content_to_say replies c a.stand)) keeps)
+    by_due (inr not_due) = subst (KeepsRead c) (sym (ap (λ (x : Actor). x.log)
+        (cond-false (is_due c a.stand a.mood) (actor_behind_question replies c a (content_to_say replies c a.stand)) a not_due))) keeps
 
     by_posts : (o : Option (List Post)) → KeepsRead c (actor_behind_step_with replies c a o).log
     by_posts (Some posts) = keeps
@@ -121,8 +133,10 @@ step-read replies c a keeps = by_open (cases_Bool (is_open a.ending))
 
     by_open : (is_open a.ending ≡ true) ⊎ (is_open a.ending ≡ false)
         → KeepsRead c (if is_open a.ending then actor_behind_step_with replies c a (stage_posts c a) else a).log
-    by_open (inl still) = subst (KeepsRead c) (sym (ap (λ (x : Actor). x.log) (cond-true (is_open a.ending) (actor_behind_step_with replies c a (stage_posts c a)) a still))) (by_posts (stage_posts c a))
-    by_open (inr ended) = subst (KeepsRead c) (sym (ap (λ (x : Actor). x.log) (cond-false (is_open a.ending) (actor_behind_step_with replies c a (stage_posts c a)) a ended))) keeps
+    by_open (inl still) = subst (KeepsRead c) (sym (ap (λ (x : Actor). x.log)
+        (cond-true (is_open a.ending) (actor_behind_step_with replies c a (stage_posts c a)) a still))) (by_posts (stage_posts c a))
+    by_open (inr ended) = subst (KeepsRead c) (sym (ap (λ (x : Actor). x.log)
+        (cond-false (is_open a.ending) (actor_behind_step_with replies c a (stage_posts c a)) a ended))) keeps
 
 steps-read : (replies : Replies) (c : Configuration) (n : ℕ) (a : Actor) → KeepsRead c a.log
     → KeepsRead c (iterate (actor_behind_step replies c) n a).log
@@ -145,7 +159,8 @@ data Admitting (c : Configuration) (bytes : List ℕ) : Type 0 where
       → heard_of c bytes ≡ None → Admitting c bytes
   Hears : (post : Post) (header : Header) → admission_of_bytes c.roster c.round bytes ≡ Ok (header, post.content)
       → (header.sender == c.number) ≡ false
-      → heard_of c bytes ≡ Some (record { header = header; post = post; content = content_read (shape_in c) post.content }) → Admitting c bytes
+      → heard_of c bytes ≡ Some (record { header = header; post = post; content = content_read (shape_in c) post.content })
+      → Admitting c bytes
 
 admitting : (c : Configuration) (bytes : List ℕ) → Admitting c bytes
 unfolding heard_of
@@ -153,7 +168,8 @@ admitting c bytes = by_frame (frame_of bytes) refl
   where
     by_sender : (post : Post) (header : Header) → frame_of bytes ≡ Ok post → framed_admission_of c.roster c.round post ≡ Ok header
         → ((header.sender == c.number) ≡ true) ⊎ ((header.sender == c.number) ≡ false) → Admitting c bytes
-    by_sender post header spelled is (inl own) = IsOwn (header, post.content) (admits spelled is) own (hears spelled is ∙ cond-true (header.sender == c.number) None _ own)
+    by_sender post header spelled is (inl own) = IsOwn (header, post.content) (admits spelled is) own
+        (hears spelled is ∙ cond-true (header.sender == c.number) None _ own)
       where
         admits : frame_of bytes ≡ Ok post → framed_admission_of c.roster c.round post ≡ Ok header
             → admission_of_bytes c.roster c.round bytes ≡ Ok (header, post.content)
@@ -162,7 +178,8 @@ admitting c bytes = by_frame (frame_of bytes) refl
         hears : frame_of bytes ≡ Ok post → framed_admission_of c.roster c.round post ≡ Ok header
             → option_and_then (heard_of_post c) (result_ok (frame_of bytes)) ≡ heard_with c post header
         hears spelled is = rw (spelled, is) refl
-    by_sender post header spelled is (inr other) = Hears post header (admits spelled is) other (hears spelled is ∙ cond-false (header.sender == c.number) None _ other)
+    by_sender post header spelled is (inr other) = Hears post header (admits spelled is) other
+        (hears spelled is ∙ cond-false (header.sender == c.number) None _ other)
       where
         admits : frame_of bytes ≡ Ok post → framed_admission_of c.roster c.round post ≡ Ok header
             → admission_of_bytes c.roster c.round bytes ≡ Ok (header, post.content)
@@ -186,26 +203,32 @@ admitting c bytes = by_frame (frame_of bytes) refl
 pub open-delivery : (replies : Replies) (c : Configuration) (a : Actor) (bytes : List ℕ) (o : Option Verdict) → is_open a.ending ≡ true
     → fault_shown c (kept_in a.log) bytes ≡ o → actor_behind_delivery replies c a bytes ≡ actor_behind_fault replies c a bytes o
 unfolding actor_behind_delivery
-open-delivery replies c a bytes o still e = cond-true (is_open a.ending) (actor_behind_fault replies c a bytes (fault_shown c (kept_in a.log) bytes)) a still
+open-delivery replies c a bytes o still e = cond-true (is_open a.ending)
+    (actor_behind_fault replies c a bytes (fault_shown c (kept_in a.log) bytes)) a still
     ∙ ap (actor_behind_fault replies c a bytes) e
 
 pub ended-delivery : (replies : Replies) (c : Configuration) (a : Actor) (bytes : List ℕ) → is_open a.ending ≡ false
     → actor_behind_delivery replies c a bytes ≡ a
 unfolding actor_behind_delivery
-ended-delivery replies c a bytes ended = cond-false (is_open a.ending) (actor_behind_fault replies c a bytes (fault_shown c (kept_in a.log) bytes)) a ended
+ended-delivery replies c a bytes ended = cond-false (is_open a.ending)
+    (actor_behind_fault replies c a bytes (fault_shown c (kept_in a.log) bytes)) a ended
 
 -- of what nothing is heard changes nothing
-pub nothing-delivered : (replies : Replies) (c : Configuration) (a : Actor) (bytes : List ℕ) → is_open a.ending ≡ true → heard_of c bytes ≡ None
+pub nothing-delivered : (replies : Replies) (c : Configuration) (a : Actor) (bytes : List ℕ) → is_open a.ending ≡ true
+    → heard_of c bytes ≡ None
     → actor_behind_delivery replies c a bytes ≡ a
-nothing-delivered replies c a bytes still nothing = open-delivery replies c a bytes None still (fault-of c (kept_in a.log) bytes None nothing)
+nothing-delivered replies c a bytes still nothing = open-delivery replies c a bytes None still
+    (fault-of c (kept_in a.log) bytes None nothing)
     ∙ ap (actor_behind_heard replies c a) nothing
 
 -- nor does a content that is kept
-pub same-delivered : (replies : Replies) (c : Configuration) (a : Actor) (bytes : List ℕ) (heard : Heard) (kept : Post) → is_open a.ending ≡ true
+pub same-delivered : (replies : Replies) (c : Configuration) (a : Actor) (bytes : List ℕ) (heard : Heard) (kept : Post)
+    → is_open a.ending ≡ true
     → heard_of c bytes ≡ Some heard → is_ok heard.content ≡ true
     → kept_in a.log (slot_named heard.header) ≡ Some kept → kept.content ≡ heard.post.content → actor_behind_delivery replies c a bytes ≡ a
 same-delivered replies c a bytes heard kept still e reads there same =
-    open-delivery replies c a bytes None still (fault-of c (kept_in a.log) bytes (Some heard) e ∙ fault-inside c (kept_in a.log) bytes heard reads
+    open-delivery replies c a bytes None still (fault-of c (kept_in a.log) bytes (Some heard) e
+    ∙ fault-inside c (kept_in a.log) bytes heard reads
     ∙ contradiction-full c (kept_in a.log) bytes heard kept there ∙ contradiction-same c bytes heard kept same)
     ∙ ap (actor_behind_heard replies c a) e ∙ cond-true (is_some (kept_in a.log (slot_named heard.header))) a _ (ap is_some there)
 
@@ -216,12 +239,14 @@ not-idle Done leaves = leaves
 not-idle Goes leaves = leaves
 
 answer-open : (replies : Replies) (c : Configuration) (a : Actor) (bytes : List ℕ) → is_open a.ending ≡ true
-    → answer_to replies c a bytes ≡ unwrap_or (idle_answer c a.log (admission_of_bytes c.roster c.round bytes)) (answer_by_end (actor_behind_delivery replies c a bytes).ending)
+    → answer_to replies c a bytes ≡ unwrap_or (idle_answer c a.log (admission_of_bytes c.roster c.round bytes))
+    (answer_by_end (actor_behind_delivery replies c a bytes).ending)
 unfolding answer_to
 answer-open replies c a bytes still = cond-true (is_open a.ending) _ _ still
 
 -- an answer that tells of no change is right
-idle-delivery : (replies : Replies) (c : Configuration) (a : Actor) (bytes : List ℕ) → KeepsRead c a.log → LeavesAll (answer_to replies c a bytes)
+idle-delivery : (replies : Replies) (c : Configuration) (a : Actor) (bytes : List ℕ) → KeepsRead c a.log
+    → LeavesAll (answer_to replies c a bytes)
     → actor_behind_delivery replies c a bytes ≡ a
 unfolding KeepsRead
 idle-delivery replies c a bytes keeps leaves = elim (cases_Bool (is_open a.ending)) [
@@ -229,10 +254,12 @@ idle-delivery replies c a bytes keeps leaves = elim (cases_Bool (is_open a.endin
   | inl still ↦ by_admission still (admitting c bytes)
 ]
   where
-    by_kept : is_open a.ending ≡ true → (post : Post) (header : Header) → admission_of_bytes c.roster c.round bytes ≡ Ok (header, post.content)
+    by_kept : is_open a.ending ≡ true → (post : Post) (header : Header)
+        → admission_of_bytes c.roster c.round bytes ≡ Ok (header, post.content)
         → (header.sender == c.number) ≡ false
         → heard_of c bytes ≡ Some (record { header = header; post = post; content = content_read (shape_in c) post.content })
-        → (is_content post.content (kept_in a.log (slot_named header)) ≡ true) ⊎ (is_content post.content (kept_in a.log (slot_named header)) ≡ false)
+        → (is_content post.content (kept_in a.log (slot_named header)) ≡ true)
+        ⊎ (is_content post.content (kept_in a.log (slot_named header)) ≡ false)
         → actor_behind_delivery replies c a bytes ≡ a
     by_kept still post header admits other e (inl same) = by_post (kept_in a.log (slot_named header)) refl same
       where
@@ -241,22 +268,27 @@ idle-delivery replies c a bytes keeps leaves = elim (cases_Bool (is_open a.endin
         by_post None there same = absurd cc
         by_post (Some kept) there same =
             let equal : kept.content ≡ post.content = (bytes_eq-Decides kept.content post.content).0 same in
-            same-delivered replies c a bytes (record { header = header; post = post; content = content_read (shape_in c) post.content }) kept still e
+            same-delivered replies c a bytes (record { header = header; post = post; content = content_read (shape_in c) post.content })
+            kept still e
             (sym (ap (λ (b : List ℕ). is_ok (content_read (shape_in c) b)) equal) ∙ keeps (slot_named header) kept there) there equal
-    by_kept still post header admits other e (inr new) = absurd (not-idle (actor_behind_delivery replies c a bytes).ending (subst LeavesAll told leaves))
+    by_kept still post header admits other e (inr new) = absurd
+        (not-idle (actor_behind_delivery replies c a bytes).ending (subst LeavesAll told leaves))
       where
         none : idle_answer c a.log (Ok (header, post.content)) ≡ None
-        none = cond-false (header.sender == c.number) (Some Own) (if is_content post.content (kept_in a.log (slot_named header)) then Some Same else None) other
+        none = cond-false (header.sender == c.number) (Some Own)
+            (if is_content post.content (kept_in a.log (slot_named header)) then Some Same else None) other
             ∙ cond-false (is_content post.content (kept_in a.log (slot_named header))) (Some Same) None new
 
         told : answer_to replies c a bytes ≡ answer_by_end (actor_behind_delivery replies c a bytes).ending
         told = answer-open replies c a bytes still
-            ∙ ap (λ (o : Option Taken). unwrap_or o (answer_by_end (actor_behind_delivery replies c a bytes).ending)) (ap (idle_answer c a.log) admits ∙ none)
+            ∙ ap (λ (o : Option Taken). unwrap_or o (answer_by_end (actor_behind_delivery replies c a bytes).ending))
+            (ap (idle_answer c a.log) admits ∙ none)
 
     by_admission : is_open a.ending ≡ true → Admitting c bytes → actor_behind_delivery replies c a bytes ≡ a
     by_admission still (Refuses refusal admits nothing) = nothing-delivered replies c a bytes still nothing
     by_admission still (IsOwn said admits own nothing) = nothing-delivered replies c a bytes still nothing
-    by_admission still (Hears post header admits other e) = by_kept still post header admits other e (cases_Bool (is_content post.content (kept_in a.log (slot_named header))))
+    by_admission still (Hears post header admits other e) = by_kept still post header admits other e
+        (cases_Bool (is_content post.content (kept_in a.log (slot_named header))))
 
 -- ---- all deliveries
 
@@ -281,34 +313,46 @@ delivery-read replies c a bytes keeps = elim (cases_Bool (is_open a.ending)) [
   where
     by_full : (post : Post) (header : Header) → is_ok (content_read (shape_in c) post.content) ≡ true
         → (is_some (kept_in a.log (slot_named header)) ≡ true) ⊎ (is_some (kept_in a.log (slot_named header)) ≡ false)
-        → KeepsRead c (actor_behind_heard replies c a (Some (record { header = header; post = post; content = content_read (shape_in c) post.content }))).log
-    by_full post header reads (inl full) = subst (λ (x : Actor). KeepsRead c x.log) (sym (cond-true (is_some (kept_in a.log (slot_named header))) a _ full)) keeps
+        → KeepsRead c (actor_behind_heard replies c a (Some (record
+        { header = header; post = post; content = content_read (shape_in c) post.content }))).log
+    by_full post header reads (inl full) = subst (λ (x : Actor). KeepsRead c x.log)
+        (sym (cond-true (is_some (kept_in a.log (slot_named header))) a _ full)) keeps
     by_full post header reads (inr empty) =
         let heard : Heard = record { header = header; post = post; content = content_read (shape_in c) post.content } in
-        subst (λ (x : Actor). KeepsRead c x.log) (sym (cond-false (is_some (kept_in a.log (slot_named header))) a (actor_behind_steps replies c (actor_behind_repeat replies c (actor_with_heard a heard) a.mood)) empty))
+        subst (λ (x : Actor). KeepsRead c x.log) (sym (cond-false (is_some (kept_in a.log (slot_named header))) a
+        (actor_behind_steps replies c (actor_behind_repeat replies c (actor_with_heard a heard) a.mood)) empty))
         (steps-read replies c (2 * stage_count (shape_in c)) (actor_behind_repeat replies c (actor_with_heard a heard) a.mood)
         (repeat-read replies c (actor_with_heard a heard) a.mood (filled-read c a.log (slot_named header) post reads keeps)))
 
-    by_heard : fault_shown c (kept_in a.log) bytes ≡ None → Admitting c bytes → KeepsRead c (actor_behind_heard replies c a (heard_of c bytes)).log
-    by_heard sound (Refuses refusal admits nothing) = subst (λ (o : Option Heard). KeepsRead c (actor_behind_heard replies c a o).log) (sym nothing) keeps
-    by_heard sound (IsOwn said admits own nothing) = subst (λ (o : Option Heard). KeepsRead c (actor_behind_heard replies c a o).log) (sym nothing) keeps
-    by_heard sound (Hears post header admits other e) = subst (λ (o : Option Heard). KeepsRead c (actor_behind_heard replies c a o).log) (sym e)
+    by_heard : fault_shown c (kept_in a.log) bytes ≡ None → Admitting c bytes
+        → KeepsRead c (actor_behind_heard replies c a (heard_of c bytes)).log
+    by_heard sound (Refuses refusal admits nothing) = subst (λ (o : Option Heard). KeepsRead c (actor_behind_heard replies c a o).log)
+        (sym nothing) keeps
+    by_heard sound (IsOwn said admits own nothing) = subst (λ (o : Option Heard). KeepsRead c (actor_behind_heard replies c a o).log)
+        (sym nothing) keeps
+    by_heard sound (Hears post header admits other e) = subst (λ (o : Option Heard). KeepsRead c (actor_behind_heard replies c a o).log)
+        (sym e)
         (by_full post header (new-read c a.log bytes post header e sound) (cases_Bool (is_some (kept_in a.log (slot_named header)))))
 
     by_fault : is_open a.ending ≡ true → (o : Option Verdict) → fault_shown c (kept_in a.log) bytes ≡ o
         → KeepsRead c (actor_behind_delivery replies c a bytes).log
-    by_fault still (Some verdict) e = subst (λ (x : Actor). KeepsRead c x.log) (sym (open-delivery replies c a bytes (Some verdict) still e)) keeps
-    by_fault still None e = subst (λ (x : Actor). KeepsRead c x.log) (sym (open-delivery replies c a bytes None still e)) (by_heard e (admitting c bytes))
+    by_fault still (Some verdict) e = subst (λ (x : Actor). KeepsRead c x.log)
+        (sym (open-delivery replies c a bytes (Some verdict) still e)) keeps
+    by_fault still None e = subst (λ (x : Actor). KeepsRead c x.log) (sym (open-delivery replies c a bytes None still e))
+        (by_heard e (admitting c bytes))
 
 fold-read : (replies : Replies) (c : Configuration) (a : Actor) (delivered : List (List ℕ)) → KeepsRead c a.log
     → KeepsRead c (fold (actor_behind_delivery replies c) a delivered).log
 fold-read replies c a [] keeps = keeps
-fold-read replies c a (bytes ∷ rest) keeps = fold-read replies c (actor_behind_delivery replies c a bytes) rest (delivery-read replies c a bytes keeps)
+fold-read replies c a (bytes ∷ rest) keeps = fold-read replies c (actor_behind_delivery replies c a bytes) rest
+    (delivery-read replies c a bytes keeps)
 
 -- what a member keeps is of the grammar
 pub actor-read : (replies : Replies) (c : Configuration) (delivered : List (List ℕ)) → KeepsRead c (actor_after replies c delivered).log
 unfolding actor_after
-actor-read replies c delivered = fold-read replies c (actor_at_start replies c) delivered (steps-read replies c (2 * stage_count (shape_in c)) (first_actor c) (empty-read c))
+actor-read replies c delivered = fold-read replies c (actor_at_start replies c) delivered
+    (steps-read replies c (2 * stage_count (shape_in c)) (first_actor c) (empty-read c))
 
 pub idle_leaves_all : IdleLeavesAll
-idle_leaves_all replies c delivered bytes leaves = idle-delivery replies c (actor_after replies c delivered) bytes (actor-read replies c delivered) leaves
+idle_leaves_all replies c delivered bytes leaves = idle-delivery replies c (actor_after replies c delivered) bytes
+    (actor-read replies c delivered) leaves

@@ -41,7 +41,8 @@ made_with c stand now = filter_map (own_at c stand now) (range_with_len 0 (stage
 
 -- ---- when it has spoken
 
-has_said-same : (c : Configuration) (stand : Stand) (now later : Bool) (stage : ℕ) → (is_slot (shape_in c) stand.at c.number ≡ true → now ≡ later)
+has_said-same : (c : Configuration) (stand : Stand) (now later : Bool) (stage : ℕ)
+    → (is_slot (shape_in c) stand.at c.number ≡ true → now ≡ later)
     → has_said c stand now stage ≡ has_said c stand later stage
 has_said-same c stand now later stage same = elim (cases_Bool (is_slot (shape_in c) stage c.number)) [
   | inr silent ↦ ap (λ (b : Bool). b && (nat_lt stage stand.at || (now && (stage == stand.at)))) silent
@@ -49,9 +50,11 @@ has_said-same c stand now later stage same = elim (cases_Bool (is_slot (shape_in
   | inl speaks ↦ elim (cases_Bool (stage == stand.at)) [
     | inl here ↦
         let at : stage ≡ stand.at = eqb-true stage stand.at here in
-        ap (λ (b : Bool). is_slot (shape_in c) stage c.number && (nat_lt stage stand.at || (b && (stage == stand.at)))) (same (sym (ap (λ (s : ℕ). is_slot (shape_in c) s c.number) at) ∙ speaks))
+        ap (λ (b : Bool). is_slot (shape_in c) stage c.number && (nat_lt stage stand.at || (b && (stage == stand.at))))
+        (same (sym (ap (λ (s : ℕ). is_slot (shape_in c) s c.number) at) ∙ speaks))
     | inr there ↦
-        ap (λ (b : Bool). is_slot (shape_in c) stage c.number && (nat_lt stage stand.at || b)) (and_false now there ∙ sym (and_false later there))
+        ap (λ (b : Bool). is_slot (shape_in c) stage c.number && (nat_lt stage stand.at || b))
+        (and_false now there ∙ sym (and_false later there))
   ]
 ]
   where
@@ -64,19 +67,24 @@ pub log-same : (c : Configuration) (others : Others) (stand : Stand) (now later 
     → (is_slot (shape_in c) stand.at c.number ≡ true → now ≡ later) → log_with c others stand now ≡ log_with c others stand later
 unfolding log_with
 log-same c others stand now later same =
-    ap (λ (posts : List (Option Post)). record { shape = shape_in c; posts = posts }) (places-same (shape_in c) (place_with c others stand now) (place_with c others stand later) (λ slot speaks.
+    ap (λ (posts : List (Option Post)). record { shape = shape_in c; posts = posts })
+    (places-same (shape_in c) (place_with c others stand now) (place_with c others stand later) (λ slot speaks.
     ap (λ (o : Option Post). if slot.sender == c.number then o else others slot)
-    (ap (λ (b : Bool). if b then Some (own_post c (posts_before_stage c stand slot.stage) slot.stage) else None) (has_said-same c stand now later slot.stage same))))
+    (ap (λ (b : Bool). if b then Some (own_post c (posts_before_stage c stand slot.stage) slot.stage) else None)
+    (has_said-same c stand now later slot.stage same))))
 
 filter-same : (f g : ℕ → Option Post) (xs : List ℕ) → ((x : ℕ) → f x ≡ g x) → filter_map f xs ≡ filter_map g xs
 filter-same f g [] same = refl
-filter-same f g (x ∷ xs) same = ap (λ (o : Option Post). cons_option o (filter_map f xs)) (same x) ∙ ap (cons_option (g x)) (filter-same f g xs same)
+filter-same f g (x ∷ xs) same = ap (λ (o : Option Post). cons_option o (filter_map f xs)) (same x)
+    ∙ ap (cons_option (g x)) (filter-same f g xs same)
 
 pub made-same : (c : Configuration) (stand : Stand) (now later : Bool) → (is_slot (shape_in c) stand.at c.number ≡ true → now ≡ later)
     → made_with c stand now ≡ made_with c stand later
 unfolding made_with
-made-same c stand now later same = filter-same (own_at c stand now) (own_at c stand later) (range_with_len 0 (stage_count (shape_in c))) (λ stage.
-    ap (λ (b : Bool). if b then Some (own_post c (posts_before_stage c stand stage) stage) else None) (has_said-same c stand now later stage same))
+made-same c stand now later same = filter-same (own_at c stand now) (own_at c stand later) (range_with_len 0 (stage_count (shape_in c)))
+    (λ stage.
+    ap (λ (b : Bool). if b then Some (own_post c (posts_before_stage c stand stage) stage) else None)
+    (has_said-same c stand now later stage same))
 
 -- ---- a stage that is being filled
 
@@ -93,27 +101,35 @@ place-now c others stand sender is speaks = by_sender (cases_Bool (sender == c.n
     there = others (record { stage = stand.at; sender = sender })
 
     by_sender : (sender == c.number ≡ true) ⊎ (sender == c.number ≡ false)
-        → (if sender == c.number then own_at c stand true stand.at else others (record { stage = stand.at; sender = sender })) ≡ post_of c others stand sender
+        → (if sender == c.number then own_at c stand true stand.at else others (record { stage = stand.at; sender = sender })) ≡ post_of c
+        others stand sender
     by_sender (inr other) =
         cond-false (sender == c.number) (own_at c stand true stand.at) (others (record { stage = stand.at; sender = sender })) other
-        ∙ sym (cond-false (sender == c.number) (Some (own_post c stand.past stand.at)) (others (record { stage = stand.at; sender = sender })) other)
+        ∙ sym (cond-false (sender == c.number) (Some (own_post c stand.past stand.at))
+        (others (record { stage = stand.at; sender = sender })) other)
     by_sender (inl is_own) =
         let number = eqb-true sender c.number is_own in
-        let speaks_own : is_slot (shape_in c) stand.at c.number ≡ true = sym (ap (λ (s : ℕ). is_slot (shape_in c) stand.at s) number) ∙ speaks in
-        let said : has_said c stand true stand.at ≡ true = and_from _ _ speaks_own (or_right (nat_lt stand.at stand.at) _ (eq-eqb stand.at stand.at refl)) in
+        let speaks_own : is_slot (shape_in c) stand.at c.number ≡ true = sym (ap (λ (s : ℕ). is_slot (shape_in c) stand.at s) number)
+        ∙ speaks in
+        let said : has_said c stand true stand.at ≡ true = and_from _ _ speaks_own
+        (or_right (nat_lt stand.at stand.at) _ (eq-eqb stand.at stand.at refl)) in
         cond-true (sender == c.number) (own_at c stand true stand.at) (others (record { stage = stand.at; sender = sender })) is_own
         ∙ cond-true (has_said c stand true stand.at) (Some (own_post c (posts_before_stage c stand stand.at) stand.at)) None said
-        ∙ ap (λ (past : List Post). Some (own_post c past stand.at)) (take_all (slots_before (shape_in c) stand.at) stand.past (omega (arith, is.whole)))
-        ∙ sym (cond-true (sender == c.number) (Some (own_post c stand.past stand.at)) (others (record { stage = stand.at; sender = sender })) is_own)
+        ∙ ap (λ (past : List Post). Some (own_post c past stand.at))
+        (take_all (slots_before (shape_in c) stand.at) stand.past (omega (arith, is.whole)))
+        ∙ sym (cond-true (sender == c.number) (Some (own_post c stand.past stand.at))
+        (others (record { stage = stand.at; sender = sender })) is_own)
 
 map-in : (f g : ℕ → Option Post) (xs : List ℕ) → ((i x : ℕ) → slice_get xs i ≡ Some x → f x ≡ g x) → map f xs ≡ map g xs
 map-in f g [] same = refl
-map-in f g (x ∷ xs) same = ap (λ (o : Option Post). o ∷ map f xs) (same 0 x refl) ∙ ap (λ (os : List (Option Post)). g x ∷ os) (map-in f g xs (λ i y e. same (suc i) y e))
+map-in f g (x ∷ xs) same = ap (λ (o : Option Post). o ∷ map f xs) (same 0 x refl)
+    ∙ ap (λ (os : List (Option Post)). g x ∷ os) (map-in f g xs (λ i y e. same (suc i) y e))
 
 -- each of the senders of a stage has a slot there
 sender-speaks : (c : Configuration) (stage place sender : ℕ) (kind : StageKind) → kind_of_stage (shape_in c) stage ≡ Some kind
     → slice_get (senders_in (shape_in c) kind) place ≡ Some sender → is_slot (shape_in c) stage sender ≡ true
-sender-speaks c stage place sender kind is at = (slot_at-is (shape_in c) (slots_before (shape_in c) stage + place) (record { stage = stage; sender = sender }) (slot_at-place (shape_in c) stage place sender kind is at)).0
+sender-speaks c stage place sender kind is at = (slot_at-is (shape_in c) (slots_before (shape_in c) stage + place)
+    (record { stage = stage; sender = sender }) (slot_at-place (shape_in c) stage place sender kind is at)).0
 
 -- once it has spoken, or where it is no sender, the posts of the stage are those that fill it
 pub stage-filled : (c : Configuration) (others : Others) (stand : Stand) (now : Bool) (kind : StageKind) → IsReached c others stand
@@ -129,7 +145,8 @@ stage-filled c others stand now kind is kind_is said =
     filled_all : all_some (posts_in (log_with c others stand true) stand.at) ≡ posts_of_kind c others stand kind
     filled_all =
         ap all_some (stage-places (shape_in c) (place_with c others stand true) stand.at kind kind_is
-        ∙ map-in (λ sender. place_with c others stand true (record { stage = stand.at; sender = sender })) (post_of c others stand) (senders_in (shape_in c) kind)
+        ∙ map-in (λ sender. place_with c others stand true (record { stage = stand.at; sender = sender })) (post_of c others stand)
+        (senders_in (shape_in c) kind)
         (λ i sender at. place-now c others stand sender is (sender-speaks c stand.at i sender kind kind_is at)))
 
 not-all : (f : ℕ → Option Post) (xs : List ℕ) (i x : ℕ) → slice_get xs i ≡ Some x → f x ≡ None → all_some (map f xs) ≡ None
@@ -152,13 +169,17 @@ unfolding log_with
 stage-waits c others stand kind kind_is speaks =
     let place = place-of-sender (shape_in c) stand.at c.number kind kind_is speaks in
     ap all_some (stage-places (shape_in c) (place_with c others stand false) stand.at kind kind_is)
-    ∙ not-all (λ sender. place_with c others stand false (record { stage = stand.at; sender = sender })) (senders_in (shape_in c) kind) place.0 c.number place.1 none
+    ∙ not-all (λ sender. place_with c others stand false (record { stage = stand.at; sender = sender })) (senders_in (shape_in c) kind)
+    place.0 c.number place.1 none
   where
     none : place_with c others stand false (record { stage = stand.at; sender = c.number }) ≡ None
     none =
-        cond-true (c.number == c.number) (own_at c stand false stand.at) (others (record { stage = stand.at; sender = c.number })) (eq-eqb c.number c.number refl)
-        ∙ cond-false (has_said c stand false stand.at) (Some (own_post c (posts_before_stage c stand stand.at) stand.at)) None (false_from_ne_true (has_said c stand false stand.at) (λ said.
-        elim (or_cases (nat_lt stand.at stand.at) (false && (stand.at == stand.at)) (and_parts (is_slot (shape_in c) stand.at c.number) _ said).1) [
+        cond-true (c.number == c.number) (own_at c stand false stand.at) (others (record { stage = stand.at; sender = c.number }))
+        (eq-eqb c.number c.number refl)
+        ∙ cond-false (has_said c stand false stand.at) (Some (own_post c (posts_before_stage c stand stand.at) stand.at)) None
+        (false_from_ne_true (has_said c stand false stand.at) (λ said.
+        elim (or_cases (nat_lt stand.at stand.at) (false && (stand.at == stand.at))
+        (and_parts (is_slot (shape_in c) stand.at c.number) _ said).1) [
           | inl below ↦ (let lt = ltb-true stand.at stand.at below in omega arith)
           | inr never ↦ absurd cc
         ]))

@@ -21,7 +21,8 @@ use Rattle.member_spec.specs.Order.{AreOrderless, OrderChangesNothing}
 -- ---- the first of answers
 
 -- the first answer is that to one of the list
-first-of : {A B : Type 0} (f : A → Option B) (xs : List A) (y : B) → first_some (map f xs) ≡ Some y → (x : A) × Contains xs x × (f x ≡ Some y)
+first-of : {A B : Type 0} (f : A → Option B) (xs : List A) (y : B) → first_some (map f xs) ≡ Some y → (x : A) × Contains xs x
+    × (f x ≡ Some y)
 first-of f [] y e = absurd (none-some y e)
 first-of f (x ∷ xs) y e = elim (first_some-some_parts (f x) (map f xs) y e) [
   | inl here ↦ (x, contains-here x xs, here)
@@ -48,7 +49,8 @@ record IsGivenBy (c : Configuration) (slot : Slot) (bytes : List ℕ) (post : Po
   reads : is_ok heard.content ≡ true
   same : heard.post ≡ post
 
-given-by : (c : Configuration) (slot : Slot) (bytes : List ℕ) (post : Post) → post_given c slot bytes ≡ Some post → IsGivenBy c slot bytes post
+given-by : (c : Configuration) (slot : Slot) (bytes : List ℕ) (post : Post) → post_given c slot bytes ≡ Some post
+    → IsGivenBy c slot bytes post
 unfolding post_given
 given-by c slot bytes post e = by_heard (heard_of c bytes) refl e
   where
@@ -58,14 +60,23 @@ given-by c slot bytes post e = by_heard (heard_of c bytes) refl e
     by_heard : (o : Option Heard) → heard_of c bytes ≡ o → option_and_then (heard_in slot) o ≡ Some post → IsGivenBy c slot bytes post
     by_heard None is e = absurd (none-some post e)
     by_heard (Some heard) is e = elim (cases_Bool (names_slot slot heard.header && is_ok heard.content)) [
-      | inr not_so ↦ absurd (none-some post (sym (cond-false (names_slot slot heard.header && is_ok heard.content) (Some heard.post) None not_so) ∙ e))
+      | inr not_so ↦ absurd (none-some post (sym (cond-false (names_slot slot heard.header && is_ok heard.content) (Some heard.post) None
+          not_so) ∙ e))
       | inl so ↦
           let parts = and_parts (names_slot slot heard.header) (is_ok heard.content) so in
-          record { heard = heard; is = is; named = names-is slot heard.header parts.0; reads = parts.1; same = told_same heard.post post (sym (cond-true (names_slot slot heard.header && is_ok heard.content) (Some heard.post) None so) ∙ e) }
+          record {
+            heard = heard;
+            is = is;
+            named = names-is slot heard.header parts.0;
+            reads = parts.1;
+            same = told_same heard.post post
+                (sym (cond-true (names_slot slot heard.header && is_ok heard.content) (Some heard.post) None so) ∙ e);
+          }
     ]
 
 -- two strings of the deliveries that give one slot posts give it the same
-given-same : (c : Configuration) (delivered : List (List ℕ)) (slot : Slot) (bytes other : List ℕ) (post second : Post) → AreOrderless c delivered
+given-same : (c : Configuration) (delivered : List (List ℕ)) (slot : Slot) (bytes other : List ℕ) (post second : Post)
+    → AreOrderless c delivered
     → Contains delivered bytes → Contains delivered other → post_given c slot bytes ≡ Some post → post_given c slot other ≡ Some second
     → post ≡ second
 given-same c delivered slot bytes other post second orderless here there e e' =
@@ -79,10 +90,12 @@ given-same c delivered slot bytes other post second orderless here there e e' =
 
 -- deliveries that have each other's strings give each slot the same post
 posts-same : (c : Configuration) (delivered others : List (List ℕ)) (slot : Slot) → AreOrderless c delivered
-    → ((bytes : List ℕ) → Contains delivered bytes → Contains others bytes) → ((bytes : List ℕ) → Contains others bytes → Contains delivered bytes)
+    → ((bytes : List ℕ) → Contains delivered bytes → Contains others bytes)
+    → ((bytes : List ℕ) → Contains others bytes → Contains delivered bytes)
     → first_posts c others slot ≡ first_posts c delivered slot
 unfolding first_posts
-posts-same c delivered others slot orderless into back = by_first (first_some (map (post_given c slot) delivered)) (first_some (map (post_given c slot) others)) refl refl
+posts-same c delivered others slot orderless into back = by_first (first_some (map (post_given c slot) delivered))
+    (first_some (map (post_given c slot) others)) refl refl
   where
     by_first : (o p : Option Post) → first_some (map (post_given c slot) delivered) ≡ o → first_some (map (post_given c slot) others) ≡ p
         → first_some (map (post_given c slot) others) ≡ first_some (map (post_given c slot) delivered)
@@ -102,7 +115,11 @@ posts-same c delivered others slot orderless into back = by_first (first_some (m
 -- nobody is at fault in such deliveries
 consistent : (c : Configuration) (delivered : List (List ℕ)) → AreOrderless c delivered → AreConsistent c delivered
 unfolding first_posts
-consistent c delivered orderless bytes heard listed is = (orderless.read bytes heard listed is, λ first e. same first (first-of (post_given c (slot_named heard.header)) delivered first e))
+consistent c delivered orderless bytes heard listed is = (
+  orderless.read bytes heard listed is,
+  λ first e. same first
+      (first-of (post_given c (slot_named heard.header)) delivered first e),
+)
   where
     told_same : (x y : Heard) → (let told : Heard → Option Heard = λ z. Some z in told x ≡ told y) → x ≡ y
     told_same x y e = cc
@@ -128,10 +145,12 @@ same-function f g each = λ i slot. each slot i
 
 pub order_changes_nothing : OrderChangesNothing
 order_changes_nothing c delivered others orderless shuffled =
-    let into : (bytes : List ℕ) → Contains delivered bytes → Contains others bytes = λ bytes. Contains-permutation delivered others bytes shuffled in
+    let into : (bytes : List ℕ) → Contains delivered bytes → Contains others bytes = λ bytes. Contains-permutation delivered others bytes
+    shuffled in
     let back : (bytes : List ℕ) → Contains others bytes
     → Contains delivered bytes = λ bytes. Contains-permutation others delivered bytes (IsPermutation-sym delivered others shuffled) in
-    let posts : first_posts c others ≡ first_posts c delivered = same-function (first_posts c others) (first_posts c delivered) (λ slot. posts-same c delivered others slot orderless into back) in
+    let posts : first_posts c others ≡ first_posts c delivered = same-function (first_posts c others) (first_posts c delivered)
+    (λ slot. posts-same c delivered others slot orderless into back) in
     let was = whole_course c delivered (consistent c delivered orderless) in
     let is = whole_course c others (consistent c others (reordered c delivered others orderless back)) in (
       is.result ∙ ap (λ (o : Others). outcome_of_stand c o (course_of c o)) posts ∙ sym was.result,

@@ -26,11 +26,13 @@ any_slot = record { stage = 0; sender = 0 }
 -- what stands at a place
 pub place-is : (shape : Shape) (f : Slot → Option Post) (i : ℕ) (slot : Slot) → slot_at shape i ≡ Some slot
     → get_or (map f (slots_of shape)) i None ≡ f slot
-place-is shape f i slot at = get_or_from_slice_get (map f (slots_of shape)) i (f slot) None (slice_get-map f (slots_of shape) i ∙ ap (option_map f) at)
+place-is shape f i slot at = get_or_from_slice_get (map f (slots_of shape)) i (f slot) None
+    (slice_get-map f (slots_of shape) i ∙ ap (option_map f) at)
 
 -- each place is that of a slot
 pub slot-there : (shape : Shape) (i : ℕ) → i < length (slots_of shape)
-    → (slot : Slot) × (slot_at shape i ≡ Some slot) × (is_slot shape slot.stage slot.sender ≡ true) × (slot_number shape slot.stage slot.sender ≡ i)
+    → (slot : Slot) × (slot_at shape i ≡ Some slot) × (is_slot shape slot.stage slot.sender ≡ true)
+    × (slot_number shape slot.stage slot.sender ≡ i)
 slot-there shape i lt =
     let slot : Slot = get_or (slots_of shape) i any_slot in
     let at : slot_at shape i ≡ Some slot = slice_get-get_or (slots_of shape) i any_slot lt in
@@ -43,13 +45,16 @@ pub kept-place : (shape : Shape) (f : Slot → Option Post) (slot : Slot) → is
 kept-place shape f slot speaks =
     let number : ℕ = slot_number shape slot.stage slot.sender in
     cond-true (is_slot shape slot.stage slot.sender) (option_flatten (slice_get (map f (slots_of shape)) number)) None speaks
-    ∙ ap (λ (o : Option (Option Post)). option_flatten o) (slice_get-map f (slots_of shape) number ∙ ap (option_map f) (slot_at-number shape slot.stage slot.sender speaks))
+    ∙ ap (λ (o : Option (Option Post)). option_flatten o) (slice_get-map f (slots_of shape) number
+    ∙ ap (option_map f) (slot_at-number shape slot.stage slot.sender speaks))
 
 -- two lists with the same values
-pub places-same : (shape : Shape) (f g : Slot → Option Post) → ((slot : Slot) → is_slot shape slot.stage slot.sender ≡ true → f slot ≡ g slot)
+pub places-same : (shape : Shape) (f g : Slot → Option Post) → ((slot : Slot) → is_slot shape slot.stage slot.sender ≡ true
+    → f slot ≡ g slot)
     → map f (slots_of shape) ≡ map g (slots_of shape)
 places-same shape f g same =
-    ext_get_or None (map f (slots_of shape)) (map g (slots_of shape)) (length-map (slots_of shape) f ∙ sym (length-map (slots_of shape) g)) (λ i lt.
+    ext_get_or None (map f (slots_of shape)) (map g (slots_of shape)) (length-map (slots_of shape) f ∙ sym (length-map (slots_of shape) g))
+    (λ i lt.
     let there = slot-there shape i (omega (arith, length-map (slots_of shape) f)) in
     place-is shape f i there.0 there.1 ∙ same there.0 there.2 ∙ sym (place-is shape g i there.0 there.1))
 
@@ -69,7 +74,8 @@ places-set shape f g slot post speaks here others =
     long = length-set (map f (slots_of shape)) number (Some post) ∙ length-map (slots_of shape) f
 
     most : number < length (map f (slots_of shape))
-    most = (let few = slot_number-most shape slot.stage slot.sender speaks in omega (arith, length-map (slots_of shape) f, length-slots_of shape))
+    most = (let few = slot_number-most shape slot.stage slot.sender speaks in omega
+        (arith, length-map (slots_of shape) f, length-slots_of shape))
 
     apart : (i k : ℕ) → (i ≡ k) ⊎ (i ≢ k)
     apart i k = elim (cases_lt i k) [
@@ -97,7 +103,8 @@ places-set shape f g slot post speaks here others =
 
 -- the slots of a stage, by sender
 stage-slots : (shape : Shape) (stage : ℕ) (kind : StageKind) → kind_of_stage shape stage ≡ Some kind
-    → slice_range (slots_of shape) (slots_before shape stage) (slots_before shape (stage + 1)) ≡ map (λ sender. record { stage = stage; sender = sender }) (senders_in shape kind)
+    → slice_range (slots_of shape) (slots_before shape stage) (slots_before shape (stage + 1)) ≡ map
+    (λ sender. record { stage = stage; sender = sender }) (senders_in shape kind)
 stage-slots shape stage kind is = ext_get_or any_slot part made (count ∙ sym many) (λ i lt. each i (omega (arith, count)))
   where
     a : ℕ
@@ -126,7 +133,8 @@ stage-slots shape stage kind is = ext_get_or any_slot part made (count ∙ sym m
 
     count : length part ≡ n
     count = (let most = slots_before-most shape (stage + 1) in
-        length-take-le (slots_before shape (stage + 1) - a) (drop a (slots_of shape)) (omega (arith, length-drop a (slots_of shape), length-slots_of shape, next)) ∙ width)
+        length-take-le (slots_before shape (stage + 1) - a) (drop a (slots_of shape))
+        (omega (arith, length-drop a (slots_of shape), length-slots_of shape, next)) ∙ width)
 
     each : (i : ℕ) → i < n → get_or part i any_slot ≡ get_or made i any_slot
     each i lt =
@@ -137,7 +145,8 @@ stage-slots shape stage kind is = ext_get_or any_slot part made (count ∙ sym m
         get_or-take (slots_before shape (stage + 1) - a) (drop a (slots_of shape)) i any_slot (omega (arith, width))
         ∙ get_or-drop a (slots_of shape) i any_slot
         ∙ get_or_from_slice_get (slots_of shape) (a + i) (to_slot (get_or (senders_in shape kind) i 0)) any_slot at
-        ∙ sym (get_or_from_slice_get made i (to_slot (get_or (senders_in shape kind) i 0)) any_slot (slice_get-map to_slot (senders_in shape kind) i
+        ∙ sym (get_or_from_slice_get made i (to_slot (get_or (senders_in shape kind) i 0)) any_slot
+        (slice_get-map to_slot (senders_in shape kind) i
         ∙ ap (option_map to_slot) there))
 
 -- the posts of a stage, by sender
@@ -146,10 +155,12 @@ pub stage-places : (shape : Shape) (f : Slot → Option Post) (stage : ℕ) (kin
 stage-places shape f stage kind is =
     let a : ℕ = slots_before shape stage in
     let b : ℕ = slots_before shape (stage + 1) in
-    ap (take (b - a)) (drop-map f a (slots_of shape)) ∙ take-map f (b - a) (drop a (slots_of shape)) ∙ ap (map f) (stage-slots shape stage kind is)
+    ap (take (b - a)) (drop-map f a (slots_of shape)) ∙ take-map f (b - a) (drop a (slots_of shape))
+    ∙ ap (map f) (stage-slots shape stage kind is)
     ∙ map-map (senders_in shape kind)
   where
-    map-map : (xs : List ℕ) → map f (map (λ sender. record { stage = stage; sender = sender }) xs) ≡ map (λ sender. f (record { stage = stage; sender = sender })) xs
+    map-map : (xs : List ℕ) → map f (map (λ sender. record { stage = stage; sender = sender }) xs) ≡ map
+        (λ sender. f (record { stage = stage; sender = sender })) xs
     map-map [] = refl
     map-map (x ∷ xs) = ap (λ (ys : List (Option Post)). f (record { stage = stage; sender = x }) ∷ ys) (map-map xs)
 
@@ -166,7 +177,8 @@ place-of-sender shape stage sender kind is speaks =
     let few : place < length (senders_in shape kind) = omega (arith, slots_next shape stage kind is, length-senders_in shape kind) in
     let other = slice_get-get_or (senders_in shape kind) place 0 few in
     let there = slot_at-place shape stage place (get_or (senders_in shape kind) place 0) kind is other in
-    let same : record { stage = stage; sender = get_or (senders_in shape kind) place 0 } ≡ record { stage = stage; sender = sender } = told_same _ _ (sym there
+    let same : record { stage = stage; sender = get_or (senders_in shape kind) place 0 } ≡ record { stage = stage; sender = sender } =
+    told_same _ _ (sym there
     ∙ ap (slot_at shape) (sym number) ∙ slot_at-number shape stage sender speaks) in
     (place, other ∙ ap (λ (s : Slot). Some s.sender) same)
   where

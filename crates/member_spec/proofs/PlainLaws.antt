@@ -51,10 +51,12 @@ AlwaysSaysGrammar c = (part : List (List ℕ)) → All IsBytes part → SaysGram
 
 none-map : (f : Slot → Option Post) (slots : List Slot) → ((slot : Slot) → f slot ≡ None) → replicate (length slots) None ≡ map f slots
 none-map f [] none = refl
-none-map f (s ∷ slots) none = ap (λ (o : Option Post). o ∷ replicate (length slots) None) (sym (none s)) ∙ ap (λ (os : List (Option Post)). f s ∷ os) (none-map f slots none)
+none-map f (s ∷ slots) none = ap (λ (o : Option Post). o ∷ replicate (length slots) None) (sym (none s))
+    ∙ ap (λ (os : List (Option Post)). f s ∷ os) (none-map f slots none)
 
 nothing-said : (c : Configuration) (stage : ℕ) → own_at c first_stand false stage ≡ None
-nothing-said c stage = cond-false (has_said c first_stand false stage) _ None (false_from_ne_true (has_said c first_stand false stage) (λ said.
+nothing-said c stage = cond-false (has_said c first_stand false stage) _ None
+    (false_from_ne_true (has_said c first_stand false stage) (λ said.
     elim (or_cases (nat_lt stage 0) (false && (stage == 0)) (and_parts (is_slot (shape_in c) stage c.number) _ said).1) [
       | inl below ↦ (let lt = ltb-true stage 0 below in omega arith)
       | inr never ↦ absurd cc
@@ -66,7 +68,8 @@ starts c = record {
   stand = refl;
   at = refl;
   log = ap (λ (posts : List (Option Post)). record { shape = shape_in c; posts = posts })
-      (ap (λ (n : ℕ). replicate n None) (sym (length-slots_of (shape_in c))) ∙ none-map (place_with c (first_posts c []) first_stand false) (slots_of (shape_in c)) none);
+      (ap (λ (n : ℕ). replicate n None) (sym (length-slots_of (shape_in c)))
+      ∙ none-map (place_with c (first_posts c []) first_stand false) (slots_of (shape_in c)) none);
   made = sym (filter-none (own_at c first_stand false) 0 (stage_count (shape_in c)) (λ stage le lt. nothing-said c stage));
   mood = refl;
   ending = refl;
@@ -75,7 +78,8 @@ starts c = record {
   where
     none : (slot : Slot) → place_with c (first_posts c []) first_stand false slot ≡ None
     none slot = elim (cases_Bool (slot.sender == c.number)) [
-      | inl own ↦ cond-true (slot.sender == c.number) (own_at c first_stand false slot.stage) (first_posts c [] slot) own ∙ nothing-said c slot.stage
+      | inl own ↦ cond-true (slot.sender == c.number) (own_at c first_stand false slot.stage) (first_posts c [] slot) own
+          ∙ nothing-said c slot.stage
       | inr other ↦ cond-false (slot.sender == c.number) (own_at c first_stand false slot.stage) (first_posts c [] slot) other
     ]
 
@@ -83,7 +87,8 @@ starts c = record {
 nothing-ends : (c : Configuration) → ending_of c [] ≡ ending_verdict (stand_after c []).verdict
 nothing-ends c = ending-none c [] refl
 
-start-agrees : (replies : Replies) (c : Configuration) → IsPlain replies → SaysGrammar c (first_posts c []) → Agrees c [] (actor_at_start replies c)
+start-agrees : (replies : Replies) (c : Configuration) → IsPlain replies → SaysGrammar c (first_posts c [])
+    → Agrees c [] (actor_at_start replies c)
 unfolding Agrees least_ending
 start-agrees replies c plain grammar = elim (cases_Bool (is_open (stand_after c []).verdict)) [
   | inl still ↦ inl (record {
@@ -93,7 +98,8 @@ start-agrees replies c plain grammar = elim (cases_Bool (is_open (stand_after c 
   })
   | inr ended ↦ inr (record {
     ending = (0, (stand_after c []).verdict);
-    least = first_below-some (ending_at c []) 1 0 (0, (stand_after c []).verdict) (omega arith) (λ j lt. absurd (omega (arith, lt))) (ending-all c [] 0 (omega arith)
+    least = first_below-some (ending_at c []) 1 0 (0, (stand_after c []).verdict) (omega arith) (λ j lt. absurd (omega (arith, lt)))
+        (ending-all c [] 0 (omega arith)
         ∙ ap (option_map (λ verdict. (0, verdict))) (nothing-ends c ∙ closed-ending _ ended));
     within = omega arith;
     has = record {
@@ -117,8 +123,10 @@ agrees-on : (replies : Replies) (c : Configuration) (front rest : List (List ℕ
 agrees-on replies c front [] a plain grammar before later is = subst (λ (d : List (List ℕ)). Agrees c d a) (sym (append-nil front)) is
 agrees-on replies c front (bytes ∷ rest) a plain grammar before later is =
     let more : All IsBytes (with_last front bytes) = All-append IsBytes front (bytes ∷ []) before (first-all bytes rest later) in
-    subst (λ (d : List (List ℕ)). Agrees c d (fold (actor_behind_delivery replies c) (actor_behind_delivery replies c a bytes) rest)) (append_assoc front (bytes ∷ []) rest)
-    (agrees-on replies c (with_last front bytes) rest (actor_behind_delivery replies c a bytes) plain grammar more (rest-all bytes rest later)
+    subst (λ (d : List (List ℕ)). Agrees c d (fold (actor_behind_delivery replies c) (actor_behind_delivery replies c a bytes) rest))
+    (append_assoc front (bytes ∷ []) rest)
+    (agrees-on replies c (with_last front bytes) rest (actor_behind_delivery replies c a bytes) plain grammar more
+    (rest-all bytes rest later)
     (delivery-keeps replies c front bytes a plain (head-all bytes rest later) (grammar (with_last front bytes) more) is))
   where
     head-all : (x : List ℕ) (xs : List (List ℕ)) → All IsBytes (x ∷ xs) → IsBytes x
@@ -131,7 +139,8 @@ agrees-on replies c front (bytes ∷ rest) a plain grammar before later is =
     rest-all : (x : List ℕ) (xs : List (List ℕ)) → All IsBytes (x ∷ xs) → All IsBytes xs
     rest-all x xs all k d lt = all (suc k) d (omega (arith, lt))
 
-pub agrees-after : (replies : Replies) (c : Configuration) (delivered : List (List ℕ)) → IsPlain replies → AlwaysSaysGrammar c → All IsBytes delivered
+pub agrees-after : (replies : Replies) (c : Configuration) (delivered : List (List ℕ)) → IsPlain replies → AlwaysSaysGrammar c
+    → All IsBytes delivered
     → Agrees c delivered (actor_after replies c delivered)
 unfolding actor_after
 agrees-after replies c delivered plain grammar are =
@@ -148,28 +157,40 @@ filter-members f g (x ∷ xs) same = ap (λ (b : Bool). if b then x ∷ filter f
     ∙ ap (λ (ys : List ℕ). if g x then x ∷ ys else ys) (filter-members f g xs (λ i y e. same (suc i) y e))
 
 -- where the round is open it waits for those that the result names
-waits-same : (c : Configuration) (others : Others) (a : Actor) → WaitsAtFirst c others → a.log ≡ settled_log c others → a.stand ≡ course_of c others
+waits-same : (c : Configuration) (others : Others) (a : Actor) → WaitsAtFirst c others → a.log ≡ settled_log c others
+    → a.stand ≡ course_of c others
     → Waiting a.stand.at (members_missing c a) ≡ waiting_outcome c others (course_of c others)
 waits-same c others a waits log stand =
     ap (λ (s : Stand). Waiting s.at (filter (is_missing a.log s.at) (senders_at c s.at))) stand
-    ∙ ap (λ (l : Log). Waiting (course_of c others).at (filter (is_missing l (course_of c others).at) (senders_at c (course_of c others).at))) log
+    ∙ ap (λ (l : Log). Waiting (course_of c others).at (filter (is_missing l (course_of c others).at)
+    (senders_at c (course_of c others).at))) log
     ∙ ap (λ (xs : List ℕ). Waiting (course_of c others).at xs) (by_kind (kind_of_stage (shape_in c) (course_of c others).at) refl)
   where
     at : ℕ
     at = (course_of c others).at
 
     by_kind : (o : Option StageKind) → kind_of_stage (shape_in c) (course_of c others).at ≡ o
-        → filter (is_missing (settled_log c others) (course_of c others).at) (option_map_or (senders_in (shape_in c)) (kind_of_stage (shape_in c) (course_of c others).at) [])
-        ≡ filter (is_awaited c others (course_of c others).at) (option_map_or (senders_in (shape_in c)) (kind_of_stage (shape_in c) (course_of c others).at) [])
-    by_kind None e = ap (λ (o : Option StageKind). filter (is_missing (settled_log c others) (course_of c others).at) (option_map_or (senders_in (shape_in c)) o [])) e
-        ∙ sym (ap (λ (o : Option StageKind). filter (is_awaited c others (course_of c others).at) (option_map_or (senders_in (shape_in c)) o [])) e)
-    by_kind (Some kind) e = ap (λ (o : Option StageKind). filter (is_missing (settled_log c others) (course_of c others).at) (option_map_or (senders_in (shape_in c)) o [])) e
-        ∙ filter-members (is_missing (settled_log c others) (course_of c others).at) (is_awaited c others (course_of c others).at) (senders_in (shape_in c) kind)
-        (λ i x there. waits.missing x (slot_at-is (shape_in c) (slots_before (shape_in c) (course_of c others).at + i) (record { stage = (course_of c others).at; sender = x }) (slot_at-place (shape_in c) (course_of c others).at i x kind e there)).0)
-        ∙ sym (ap (λ (o : Option StageKind). filter (is_awaited c others (course_of c others).at) (option_map_or (senders_in (shape_in c)) o [])) e)
+        → filter (is_missing (settled_log c others) (course_of c others).at)
+        (option_map_or (senders_in (shape_in c)) (kind_of_stage (shape_in c) (course_of c others).at) [])
+        ≡ filter (is_awaited c others (course_of c others).at) (option_map_or (senders_in (shape_in c))
+        (kind_of_stage (shape_in c) (course_of c others).at) [])
+    by_kind None e = ap (λ (o : Option StageKind). filter (is_missing (settled_log c others) (course_of c others).at)
+        (option_map_or (senders_in (shape_in c)) o [])) e
+        ∙ sym (ap (λ (o : Option StageKind). filter (is_awaited c others (course_of c others).at)
+        (option_map_or (senders_in (shape_in c)) o [])) e)
+    by_kind (Some kind) e = ap (λ (o : Option StageKind). filter (is_missing (settled_log c others) (course_of c others).at)
+        (option_map_or (senders_in (shape_in c)) o [])) e
+        ∙ filter-members (is_missing (settled_log c others) (course_of c others).at) (is_awaited c others (course_of c others).at)
+        (senders_in (shape_in c) kind)
+        (λ i x there. waits.missing x (slot_at-is (shape_in c) (slots_before (shape_in c) (course_of c others).at + i)
+        (record { stage = (course_of c others).at; sender = x })
+        (slot_at-place (shape_in c) (course_of c others).at i x kind e there)).0)
+        ∙ sym (ap (λ (o : Option StageKind). filter (is_awaited c others (course_of c others).at)
+        (option_map_or (senders_in (shape_in c)) o [])) e)
 
 -- a member that agrees has come to the result
-pub agrees-comes : (c : Configuration) (delivered : List (List ℕ)) (a : Actor) → c.round < 2 ^ 64 → 1 ≤ (shape_in c).members → All IsBytes delivered
+pub agrees-comes : (c : Configuration) (delivered : List (List ℕ)) (a : Actor) → c.round < 2 ^ 64 → 1 ≤ (shape_in c).members
+    → All IsBytes delivered
     → Agrees c delivered a → ComesTo c delivered a
 unfolding Agrees result_of posts_of log_after
 agrees-comes c delivered a small least are (inl is) =
@@ -180,16 +201,20 @@ agrees-comes c delivered a small least are (inl is) =
     let waits = open_rounds_wait c firsts small least (first_posts_name c delivered are) still in
     record {
       outcome =
-          cond-true (is_open a.ending) (Waiting a.stand.at (members_missing c a)) (outcome_ended c a.stand a.ending) (ap is_open (is.rests.follows.ending
+          cond-true (is_open a.ending) (Waiting a.stand.at (members_missing c a)) (outcome_ended c a.stand a.ending)
+          (ap is_open (is.rests.follows.ending
           ∙ ap (λ (s : Stand). s.verdict) stand) ∙ still)
           ∙ waits-same c firsts a waits log stand ∙ sym (ap (outcome_by c delivered) is.none);
-      posts = rests-made c firsts a is.rests ∙ sym (ap (λ (o : Option (ℕ × Verdict)). own_posts c (stand_after c (counted_part delivered o))) is.none);
+      posts = rests-made c firsts a is.rests ∙ sym (ap (λ (o : Option (ℕ × Verdict)). own_posts c
+          (stand_after c (counted_part delivered o))) is.none);
       log = log ∙ sym (ap (λ (o : Option (ℕ × Verdict)). settled_log c (first_posts c (counted_part delivered o))) is.none);
     }
 agrees-comes c delivered a small least are (inr is) = record {
   outcome =
-      cond-false (is_open a.ending) (Waiting a.stand.at (members_missing c a)) (outcome_ended c a.stand a.ending) (ap is_open is.has.ending ∙ is.has.closed)
-      ∙ ap (outcome_ended c a.stand) is.has.ending ∙ ap (λ (s : Stand). outcome_ended c s is.ending.1) is.has.stand ∙ sym (ap (outcome_by c delivered) is.least);
+      cond-false (is_open a.ending) (Waiting a.stand.at (members_missing c a)) (outcome_ended c a.stand a.ending)
+      (ap is_open is.has.ending ∙ is.has.closed)
+      ∙ ap (outcome_ended c a.stand) is.has.ending ∙ ap (λ (s : Stand). outcome_ended c s is.ending.1) is.has.stand
+      ∙ sym (ap (outcome_by c delivered) is.least);
   posts = is.has.made ∙ sym (ap (λ (o : Option (ℕ × Verdict)). own_posts c (stand_after c (counted_part delivered o))) is.least);
   log = is.has.log ∙ sym (ap (λ (o : Option (ℕ × Verdict)). settled_log c (first_posts c (counted_part delivered o))) is.least);
 }
@@ -204,7 +229,8 @@ honest_is_plain = record {
 }
 
 All-take : (k : ℕ) (xs : List (List ℕ)) → All IsBytes xs → All IsBytes (take k xs)
-All-take k xs all i d lt = (let long = length-take k xs in subst IsBytes (sym (get_or-take k xs i d (omega (arith, long)))) (all i d (omega (arith, long))))
+All-take k xs all i d lt = (let long = length-take k xs in subst IsBytes (sym (get_or-take k xs i d (omega (arith, long))))
+    (all i d (omega (arith, long))))
 
 part-bytes : (delivered : List (List ℕ)) (o : Option (ℕ × Verdict)) → All IsBytes delivered → All IsBytes (counted_part delivered o)
 part-bytes delivered None are = are
@@ -215,11 +241,13 @@ counted-bytes c delivered are = part-bytes delivered (least_ending c delivered) 
 
 pub plain_comes_to_result : PlainComesToResult
 plain_comes_to_result replies c delivered plain is are =
-    agrees-comes c delivered (actor_after replies c delivered) is.round (members-least c is) are (agrees-after replies c delivered plain (says-grammar c is) are)
+    agrees-comes c delivered (actor_after replies c delivered) is.round (members-least c is) are
+    (agrees-after replies c delivered plain (says-grammar c is) are)
 
 pub plain_run_is_honest : PlainRunIsHonest
 plain_run_is_honest replies c delivered plain is are =
-    subst (λ (log : Log). HonestRun (record { config = c; log = log })) (sym (plain_comes_to_result replies c delivered plain is.enter are).log) (run_after_is_honest c delivered is are)
+    subst (λ (log : Log). HonestRun (record { config = c; log = log }))
+    (sym (plain_comes_to_result replies c delivered plain is.enter are).log) (run_after_is_honest c delivered is are)
 
 pub plain_ends_once : PlainEndsOnce
 unfolding posts_of
@@ -227,7 +255,8 @@ plain_ends_once replies c delivered shuffle plain is are =
     let comes = plain_comes_to_result replies c delivered plain is are in
     let counted : List (List ℕ) = delivered_counted c delivered in
     let others : Others = first_posts c counted in
-    let check : OthersCheck c others = λ slot post e. (first_posts_delivered c counted slot post (counted-bytes c delivered are) e).checks in
+    let check : OthersCheck c others = λ slot post e. (first_posts_delivered c counted slot post (counted-bytes c delivered are) e).checks
+    in
     subst (λ (made : List Post). EndsOnce c made shuffle) (sym comes.posts) (own-ends c others shuffle is check)
 
 -- the own posts that a settled log keeps are those of its course
@@ -237,7 +266,9 @@ unfolding post_settled settled_log
 said-there c others stage = elim (cases_Bool (is_slot (shape_in c) stage c.number)) [
   | inl speaks ↦ sym (settled-kept c others (own_slot (settled_run c others) stage) speaks
       ∙ cond-true (c.number == c.number) (own_post_at c (course_of c others) stage) _ (eq-eqb c.number c.number refl))
-  | inr silent ↦ cond-false (has_spoken c (course_of c others) stage) _ None (ap (λ (b : Bool). b && (nat_lt stage (course_of c others).at || (is_open (course_of c others).verdict && (stage == (course_of c others).at)))) silent)
+  | inr silent ↦ cond-false (has_spoken c (course_of c others) stage) _ None
+      (ap (λ (b : Bool). b && (nat_lt stage (course_of c others).at ||
+      (is_open (course_of c others).verdict && (stage == (course_of c others).at)))) silent)
       ∙ sym (cond-false (is_slot (shape_in c) stage c.number) _ None silent)
 ]
 
@@ -247,8 +278,11 @@ shape-same c others = refl
 
 said-all : (c : Configuration) (others : Others) → own_posts c (course_of c others) ≡ posts_said (settled_run c others)
 unfolding own_posts
-said-all c others = filter-in (own_post_at c (course_of c others)) (λ stage. kept_in (settled_log c others) (own_slot (settled_run c others) stage)) 0 (stage_count (shape_in c)) (λ stage le lt. said-there c others stage)
-    ∙ ap (λ (n : ℕ). filter_map (λ stage. kept_in (settled_log c others) (own_slot (settled_run c others) stage)) (range_with_len 0 n)) (count-same c others)
+said-all c others = filter-in (own_post_at c (course_of c others))
+    (λ stage. kept_in (settled_log c others) (own_slot (settled_run c others) stage)) 0 (stage_count (shape_in c))
+    (λ stage le lt. said-there c others stage)
+    ∙ ap (λ (n : ℕ). filter_map (λ stage. kept_in (settled_log c others) (own_slot (settled_run c others) stage)) (range_with_len 0 n))
+    (count-same c others)
   where
     count-same : (c : Configuration) (others : Others) → stage_count (shape_in c) ≡ stage_count (settled_log c others).shape
     count-same c others = ap (λ (s : Shape). stage_count s) (shape-same c others)

@@ -23,7 +23,8 @@ stays-still f (suc n) a e = ap (iterate f n) e ∙ stays-still f n a e
 
 -- after so many steps it rests, or has come so far
 Moved : Replies → Configuration → Others → ℕ → Actor → Type 0
-Moved replies c others far a = Rests c others a ⊎ ((now : Bool) × (stages : ℕ) × Follows c others now stages a × (far ≤ 2 * stages + bit now))
+Moved replies c others far a = Rests c others a ⊎ ((now : Bool) × (stages : ℕ) × Follows c others now stages a
+    × (far ≤ 2 * stages + bit now))
 
 moved : (replies : Replies) (c : Configuration) (others : Others) (n : ℕ) (now : Bool) (stages : ℕ) (a : Actor) → IsPlain replies
     → SaysGrammar c others → Follows c others now stages a
@@ -61,10 +62,11 @@ past-rests c others now stages a f le = record {
 pub steps-rest : (replies : Replies) (c : Configuration) (others : Others) (now : Bool) (stages : ℕ) (a : Actor) → IsPlain replies
     → SaysGrammar c others → Follows c others now stages a → Rests c others (actor_behind_steps replies c a)
 unfolding Moved
-steps-rest replies c others now stages a plain grammar f = elim (moved replies c others (2 * stage_count (shape_in c)) now stages a plain grammar f) [
-  | inl rests ↦ rests
-  | inr far ↦ (let least = far.3 in past-rests c others far.0 far.1 _ far.2 (enough far.0 far.1 least))
-]
+steps-rest replies c others now stages a plain grammar f = elim
+    (moved replies c others (2 * stage_count (shape_in c)) now stages a plain grammar f) [
+      | inl rests ↦ rests
+      | inr far ↦ (let least = far.3 in past-rests c others far.0 far.1 _ far.2 (enough far.0 far.1 least))
+    ]
   where
     enough : (b : Bool) (m : ℕ) → 2 * stages + bit now + 2 * stage_count (shape_in c) ≤ 2 * m + bit b → stage_count (shape_in c) ≤ m
     enough true m le = omega arith
@@ -81,8 +83,10 @@ rests-stand c others a rests =
     let within = is.within in
     let at = f.at in
     let split : stage_count (shape_in c) ≡ rests.stages + (stage_count (shape_in c) - rests.stages) = omega arith in
-    sym (ap (λ (k : ℕ). course_from c others k first_stand) split ∙ course-adds c others rests.stages (stage_count (shape_in c) - rests.stages) first_stand
-    ∙ ap (course_from c others (stage_count (shape_in c) - rests.stages)) (sym f.stand) ∙ course-stays c others (stage_count (shape_in c) - rests.stages) a.stand rests.no_next)
+    sym (ap (λ (k : ℕ). course_from c others k first_stand) split
+    ∙ course-adds c others rests.stages (stage_count (shape_in c) - rests.stages) first_stand
+    ∙ ap (course_from c others (stage_count (shape_in c) - rests.stages)) (sym f.stand)
+    ∙ course-stays c others (stage_count (shape_in c) - rests.stages) a.stand rests.no_next)
 
 -- whether it has spoken is whether the round is open, where it is a sender
 spoken-open : (c : Configuration) (others : Others) (a : Actor) (rests : Rests c others a) → is_slot (shape_in c) a.stand.at c.number ≡ true

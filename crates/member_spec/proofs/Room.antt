@@ -40,11 +40,13 @@ IsClosing (Final shuffle) = Unit {0}
 IsClosing Confirm = Unit {0}
 IsClosing kind = ⊥
 
-open-room : (shape : Shape) (x : Content) (kind : StageKind) → 1 ≤ shape.members → OfGrammar shape x → kind_of_stage shape x.header.stage ≡ Some kind
+open-room : (shape : Shape) (x : Content) (kind : StageKind) → 1 ≤ shape.members → OfGrammar shape x
+    → kind_of_stage shape x.header.stage ≡ Some kind
     → (IsClosing kind → ⊥)
     → length (content_text x) ≤ 76 + greatest_body shape kind
 open-room shape x Keys some is at open_kind = omega (arith, fixed-length shape x Keys is at (omega arith))
-open-room shape x (Submit shuffle) some is at open_kind = omega (arith, fixed-length shape x (Submit shuffle) is at (layers (if shuffle == 1 then 36 + 2272 * shape.members else 34)))
+open-room shape x (Submit shuffle) some is at open_kind = omega
+    (arith, fixed-length shape x (Submit shuffle) is at (layers (if shuffle == 1 then 36 + 2272 * shape.members else 34)))
   where
     layers : (item : ℕ) → 0 < item + 2272 * (2 * shape.members - 0)
     layers item = omega (arith, some)
@@ -72,7 +74,8 @@ post-room c slot post kind some reads kind_is = by_kind kind kind_is
     open_kind k e not_closing =
         let said = said-there c slot post reads in
         let short = reads.short in
-        let content = open-room (shape_in c) said.content k some said.grammar (ap (kind_of_stage (shape_in c)) said.stage ∙ e) not_closing in
+        let content = open-room (shape_in c) said.content k some said.grammar (ap (kind_of_stage (shape_in c)) said.stage ∙ e) not_closing
+        in
         omega (arith, content, ap length said.spelled, short, spelled-long post)
 
     by_kind : (k : StageKind) → kind_of_stage (shape_in c) slot.stage ≡ Some k → length (post_spelling post) ≤ greatest_post (shape_in c) k
@@ -93,7 +96,8 @@ slot_room shape slot = option_map_or (greatest_post shape) (kind_of_stage shape 
 
 -- one bound a place bounds the sum
 sum-bounded : (shape : Shape) (places : List (Option Post)) (slots : List Slot) → length places ≡ length slots
-    → ((i : ℕ) (place : Option Post) (slot : Slot) → slice_get places i ≡ Some place → slice_get slots i ≡ Some slot → bytes_at place ≤ slot_room shape slot)
+    → ((i : ℕ) (place : Option Post) (slot : Slot) → slice_get places i ≡ Some place → slice_get slots i ≡ Some slot
+    → bytes_at place ≤ slot_room shape slot)
     → sum_by bytes_at places ≤ sum_by (slot_room shape) slots
 sum-bounded shape [] [] same each = omega arith
 sum-bounded shape [] (slot ∷ slots) same each = absurd (omega (arith, same))
@@ -105,12 +109,15 @@ sum-bounded shape (place ∷ places) (slot ∷ slots) same each =
 
 -- the slots of one stage together
 stage-sum : (shape : Shape) (stage : ℕ) (kind : StageKind) (senders : List ℕ) → kind_of_stage shape stage ≡ Some kind
-    → sum_by (slot_room shape) (map (λ sender. record { stage = stage; sender = sender }) senders) ≡ length senders * greatest_post shape kind
+    → sum_by (slot_room shape) (map (λ sender. record { stage = stage; sender = sender }) senders) ≡ length senders * greatest_post shape
+    kind
 stage-sum shape stage kind [] e = (let none : 0 ≡ 0 * greatest_post shape kind = omega arith in none)
 stage-sum shape stage kind (sender ∷ senders) e =
-    let room : slot_room shape (record { stage = stage; sender = sender }) ≡ greatest_post shape kind = ap (λ (o : Option StageKind). option_map_or (greatest_post shape) o 0) e in
+    let room : slot_room shape (record { stage = stage; sender = sender }) ≡ greatest_post shape kind = ap
+    (λ (o : Option StageKind). option_map_or (greatest_post shape) o 0) e in
     let rest = stage-sum shape stage kind senders e in
-    let cons = sum_by-cons (slot_room shape) (record { stage = stage; sender = sender }) (map (λ sender. record { stage = stage; sender = sender }) senders) in
+    let cons = sum_by-cons (slot_room shape) (record { stage = stage; sender = sender })
+    (map (λ sender. record { stage = stage; sender = sender }) senders) in
     cons ∙ ap (λ (n : ℕ). n + sum_by (slot_room shape) (map (λ sender. record { stage = stage; sender = sender }) senders)) room
     ∙ ap (λ (n : ℕ). greatest_post shape kind + n) rest ∙ one-more (length senders) (greatest_post shape kind)
   where
@@ -123,11 +130,14 @@ slots-sum : (shape : Shape) (first : ℕ) (kinds : List StageKind)
     → sum_by (slot_room shape) (slots_from shape first kinds) ≡ sum_by (λ kind. senders_of shape kind * greatest_post shape kind) kinds
 slots-sum shape first [] are = refl
 slots-sum shape first (kind ∷ kinds) are =
-    let here : kind_of_stage shape first ≡ Some kind = (let start : first ≡ first + 0 = omega arith in ap (kind_of_stage shape) start ∙ are 0 kind refl) in
-    let rest = slots-sum shape (first + 1) kinds (λ i k e. (let next : first + 1 + i ≡ first + suc i = omega arith in ap (kind_of_stage shape) next ∙ are (suc i) k e)) in
+    let here : kind_of_stage shape first ≡ Some kind = (let start : first ≡ first + 0 = omega arith in ap (kind_of_stage shape) start
+    ∙ are 0 kind refl) in
+    let rest = slots-sum shape (first + 1) kinds (λ i k e. (let next : first + 1 + i ≡ first + suc i = omega arith in ap
+    (kind_of_stage shape) next ∙ are (suc i) k e)) in
     let now : List Slot = map (λ sender. record { stage = first; sender = sender }) (senders_in shape kind) in
     sum_by-append (slot_room shape) now (slots_from shape (first + 1) kinds)
-    ∙ ap (λ (n : ℕ). n + sum_by (slot_room shape) (slots_from shape (first + 1) kinds)) (stage-sum shape first kind (senders_in shape kind) here
+    ∙ ap (λ (n : ℕ). n + sum_by (slot_room shape) (slots_from shape (first + 1) kinds))
+    (stage-sum shape first kind (senders_in shape kind) here
     ∙ ap (λ (n : ℕ). n * greatest_post shape kind) (length-senders_in shape kind))
     ∙ ap (λ (n : ℕ). senders_of shape kind * greatest_post shape kind + n) rest
     ∙ sym (sum_by-cons (λ kind. senders_of shape kind * greatest_post shape kind) kind kinds)
@@ -139,14 +149,16 @@ unfolding greatest_log
 places-room c places some whole reads =
     let shape : Shape = shape_in c in
     let bounded = sum-bounded shape places (slots_of shape) (whole ∙ sym (length-slots_of shape)) each in
-    let sum = slots-sum shape 0 (stages shape) (λ i kind e. (let start : 0 + i ≡ i = omega arith in ap (kind_of_stage (shape_in c)) start ∙ e)) in
+    let sum = slots-sum shape 0 (stages shape) (λ i kind e. (let start : 0 + i ≡ i = omega arith in ap (kind_of_stage (shape_in c)) start
+    ∙ e)) in
     omega (arith, bounded, sum)
   where
     by_kind : (slot : Slot) (post : Post) → is_slot (shape_in c) slot.stage slot.sender ≡ true → ReadsIn c slot post → (kind : StageKind)
         → kind_of_stage (shape_in c) slot.stage ≡ Some kind
         → length (post_spelling post) ≤ slot_room (shape_in c) slot
     by_kind slot post speaks read kind e =
-        subst (λ (n : ℕ). length (post_spelling post) ≤ n) (sym (ap (λ (o : Option StageKind). option_map_or (greatest_post (shape_in c)) o 0) e)) (post-room c slot post kind some read e)
+        subst (λ (n : ℕ). length (post_spelling post) ≤ n) (sym
+        (ap (λ (o : Option StageKind). option_map_or (greatest_post (shape_in c)) o 0) e)) (post-room c slot post kind some read e)
 
     each : (i : ℕ) (place : Option Post) (slot : Slot) → slice_get places i ≡ Some place → slice_get (slots_of (shape_in c)) i ≡ Some slot
         → bytes_at place ≤ slot_room (shape_in c) slot
@@ -154,10 +166,12 @@ places-room c places some whole reads =
     each i (Some post) slot at there =
         let is = slot_at-is (shape_in c) i slot there in
         let kept : kept_in (record { shape = shape_in c; posts = places }) slot ≡ Some post =
-        cond-true (is_slot (shape_in c) slot.stage slot.sender) (option_flatten (slice_get places (slot_number (shape_in c) slot.stage slot.sender))) None is.0
+        cond-true (is_slot (shape_in c) slot.stage slot.sender)
+        (option_flatten (slice_get places (slot_number (shape_in c) slot.stage slot.sender))) None is.0
         ∙ ap (λ (k : ℕ). option_flatten (slice_get places k)) is.1 ∙ ap option_flatten at in
         elim (cases_Some (kind_of_stage (shape_in c) slot.stage)) [
-          | inl none ↦ absurd (let silent = ap (λ (o : Option StageKind). speaks_in (shape_in c) o slot.sender) none in let never = sym is.0 ∙ silent in cc)
+          | inl none ↦ absurd (let silent = ap (λ (o : Option StageKind). speaks_in (shape_in c) o slot.sender) none in let never = sym is.0
+              ∙ silent in cc)
           | inr kind ↦ by_kind slot post is.0 (reads slot post kept) kind.0 kind.1
         ]
 
@@ -183,6 +197,7 @@ plain_keeps_at_most replies c delivered plain is are =
     let a : Actor = actor_after replies c delivered in
     let others : Others = first_posts c (delivered_counted c delivered) in
     let log : a.log ≡ settled_log c others = (plain_comes_to_result replies c delivered plain is are).log in
-    let check : OthersCheck c others = λ slot post e. (first_posts_delivered c (delivered_counted c delivered) slot post (counted-bytes c delivered are) e).checks in
+    let check : OthersCheck c others = λ slot post e. (first_posts_delivered c (delivered_counted c delivered) slot post
+    (counted-bytes c delivered are) e).checks in
     log-room c a.log is (subst IsLog (sym log) (settled_is_log c others is check)) (ap (λ (l : Log). l.shape) log ∙ settled-shape c others)
     (λ slot post e. settled_posts_read c others is check slot post (sym (ap (λ (l : Log). kept_in l slot) log) ∙ e))

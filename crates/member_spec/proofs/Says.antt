@@ -59,7 +59,8 @@ unfolding course_from
 goes-later c others zero stand = same-later stand
 goes-later c others (suc stages) stand = elim (cases_Some (next_stand c others stand)) [
   | inl none ↦ subst (IsLater stand) (sym (course-stays c others (suc stages) stand none)) (same-later stand)
-  | inr next ↦ subst (IsLater stand) (sym (course-next c others stages stand next.0 next.1)) (next-later c others stand next.0 _ next.1 (goes-later c others stages next.0))
+  | inr next ↦ subst (IsLater stand) (sym (course-next c others stages stand next.0 next.1))
+      (next-later c others stand next.0 _ next.1 (goes-later c others stages next.0))
 ]
 
 -- the end of the course is later than each of its stands
@@ -74,9 +75,11 @@ end-later c others stages stops = elim (cases_lt stages (stage_count (shape_in c
       (goes-later c others (stage_count (shape_in c) - stages) (course_from c others stages first_stand))
   | inr le ↦
       let split : stages ≡ stage_count (shape_in c) + (stages - stage_count (shape_in c)) = omega arith in
-      let same = ap (λ (k : ℕ). course_from c others k first_stand) split ∙ course-adds c others (stage_count (shape_in c)) (stages - stage_count (shape_in c)) first_stand
+      let same = ap (λ (k : ℕ). course_from c others k first_stand) split
+      ∙ course-adds c others (stage_count (shape_in c)) (stages - stage_count (shape_in c)) first_stand
       ∙ course-stays c others (stages - stage_count (shape_in c)) (course_from c others (stage_count (shape_in c)) first_stand) stops in
-      subst (λ (s : Stand). IsLater s (course_from c others (stage_count (shape_in c)) first_stand)) (sym same) (same-later (course_from c others (stage_count (shape_in c)) first_stand))
+      subst (λ (s : Stand). IsLater s (course_from c others (stage_count (shape_in c)) first_stand)) (sym same)
+      (same-later (course_from c others (stage_count (shape_in c)) first_stand))
 ]
 
 -- ---- what it has to say at an open stand
@@ -87,13 +90,16 @@ stand-goes c others stand is still earlier lt = elim (cases_lt (earlier + 1) sta
   | inl before_it ↦ is.goes earlier before_it
   | inr now ↦
       let next : earlier + 1 ≡ stand.at = omega arith in
-      let whole : slots_before (shape_in c) (earlier + 1) ≡ length stand.past = ap (λ (s : ℕ). slots_before (shape_in c) s) next ∙ sym is.whole in
-      ap (λ (posts : List Post). verdict_of (closing_of c posts earlier)) (take_all (slots_before (shape_in c) (earlier + 1)) stand.past (omega (arith, whole)))
+      let whole : slots_before (shape_in c) (earlier + 1) ≡ length stand.past = ap (λ (s : ℕ). slots_before (shape_in c) s) next
+      ∙ sym is.whole in
+      ap (λ (posts : List Post). verdict_of (closing_of c posts earlier))
+      (take_all (slots_before (shape_in c) (earlier + 1)) stand.past (omega (arith, whole)))
       ∙ is.last earlier next ∙ open-goes stand.verdict still
 ]
 
 own-is : (c : Configuration) (others : Others) (stages : ℕ) → let stand = course_from c others stages first_stand in
-    next_stand c others (course_of c others) ≡ None → is_open stand.verdict ≡ true → IsOwnPost (settled_run c others) stand.at (own_post c stand.past stand.at)
+    next_stand c others (course_of c others) ≡ None → is_open stand.verdict ≡ true
+    → IsOwnPost (settled_run c others) stand.at (own_post c stand.past stand.at)
 own-is c others stages stops still =
     let stand : Stand = course_from c others stages first_stand in
     let is = stands_are_reached c others stages in
@@ -107,7 +113,8 @@ own-is c others stages stops still =
     }
 
 ok-when : (c : Configuration) (past : List Post) (stage : ℕ) (content : Content)
-    → content_read (shape_in c) (own_post c past stage).content ≡ Ok content → is_ok (content_read (shape_in c) (own_content c past stage)) ≡ true
+    → content_read (shape_in c) (own_post c past stage).content ≡ Ok content
+    → is_ok (content_read (shape_in c) (own_content c past stage)) ≡ true
 unfolding own_post
 ok-when c past stage content e = ap is_ok e
 
@@ -118,5 +125,6 @@ says-grammar c is part are stages still speaks =
     let least : 1 ≤ (shape_in c).members = (let two = is.roster.least in omega arith) in
     let check : OthersCheck c others = λ slot post e. (first_posts_delivered c part slot post are e).checks in
     let stops = course_stops c others is.round least (first_posts_name c part are) in
-    let own = own_posts_read c others is check stand.at (own_post c stand.past stand.at) speaks (own-is c others stages stops.no_next still) in
+    let own = own_posts_read c others is check stand.at (own_post c stand.past stand.at) speaks (own-is c others stages stops.no_next still)
+    in
     ok-when c stand.past stand.at own.content own.reads

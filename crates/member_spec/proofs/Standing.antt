@@ -54,9 +54,11 @@ set-full (x ∷ xs) (suc k) zero (suc n) post e =
 set-full (x ∷ xs) zero (suc m) n post e = e
 set-full (x ∷ xs) (suc k) (suc m) n post e = set-full xs k m n post e
 
-pub filled-complete : (log : Log) (slot : Slot) (post : Post) (stage : ℕ) → is_complete log stage ≡ true → is_complete (filled log slot post) stage ≡ true
+pub filled-complete : (log : Log) (slot : Slot) (post : Post) (stage : ℕ) → is_complete log stage ≡ true
+    → is_complete (filled log slot post) stage ≡ true
 filled-complete log slot post stage e =
-    set-full log.posts (slot_number log.shape slot.stage slot.sender) (slots_before log.shape stage) (slots_before log.shape (stage + 1) - slots_before log.shape stage) post e
+    set-full log.posts (slot_number log.shape slot.stage slot.sender) (slots_before log.shape stage)
+    (slots_before log.shape (stage + 1) - slots_before log.shape stage) post e
 
 all-there : (places : List (Option Post)) (posts : List Post) → all_some places ≡ Some posts → list_all is_some places ≡ true
 all-there [] posts e = refl
@@ -88,7 +90,11 @@ either c x y false first second = second
 
 post-comes : (c : Configuration) (a : Actor) (post : Post) → HasCome c a → HasCome c (actor_behind_post c a post)
 post-comes c a post has = either c _ _ (is_ok (content_read (shape_in c) post.content))
-    (record { shape = has.shape; complete = λ stage lt. filled-complete a.log (record { stage = a.stand.at; sender = c.number }) post stage (has.complete stage lt) })
+    (record {
+      shape = has.shape;
+      complete = λ stage lt. filled-complete a.log (record { stage = a.stand.at; sender = c.number }) post stage
+          (has.complete stage lt);
+    })
     (record { shape = has.shape; complete = has.complete })
 
 answer-comes : (c : Configuration) (a : Actor) (speech : Speech) → HasCome c a → HasCome c (actor_behind_answer c a speech)
@@ -99,8 +105,10 @@ answer-comes c a Silent has = record { shape = has.shape; complete = has.complet
 -- where the posts of the stage are all there, it is complete
 there-complete : (c : Configuration) (a : Actor) (posts : List Post) → stage_posts c a ≡ Some posts → is_complete a.log a.stand.at ≡ true
 there-complete c a posts e = elim (cases_Bool (nat_lt a.stand.at (stage_count (shape_in c)))) [
-  | inl lt ↦ all-there (posts_in a.log a.stand.at) posts (sym (cond-true (nat_lt a.stand.at (stage_count (shape_in c))) (all_some (posts_in a.log a.stand.at)) None lt) ∙ e)
-  | inr ge ↦ absurd (none-some posts (sym (cond-false (nat_lt a.stand.at (stage_count (shape_in c))) (all_some (posts_in a.log a.stand.at)) None ge) ∙ e))
+  | inl lt ↦ all-there (posts_in a.log a.stand.at) posts (sym (cond-true (nat_lt a.stand.at (stage_count (shape_in c)))
+      (all_some (posts_in a.log a.stand.at)) None lt) ∙ e)
+  | inr ge ↦ absurd (none-some posts (sym (cond-false (nat_lt a.stand.at (stage_count (shape_in c))) (all_some (posts_in a.log a.stand.at))
+      None ge) ∙ e))
 ]
 
 stage-comes : (c : Configuration) (a : Actor) (posts : List Post) → stage_posts c a ≡ Some posts → HasCome c a
@@ -118,17 +126,21 @@ stage-comes c a posts e has = record {
 with-comes : (replies : Replies) (c : Configuration) (a : Actor) (o : Option (List Post)) → stage_posts c a ≡ o → HasCome c a
     → HasCome c (actor_behind_step_with replies c a o)
 with-comes replies c a (Some posts) e has = stage-comes c a posts e has
-with-comes replies c a None e has = either c (actor_behind_question replies c a (content_to_say replies c a.stand)) a (is_due c a.stand a.mood) (answer-comes c a (speech_about replies c a (content_to_say replies c a.stand)) has) has
+with-comes replies c a None e has = either c (actor_behind_question replies c a (content_to_say replies c a.stand)) a
+    (is_due c a.stand a.mood) (answer-comes c a (speech_about replies c a (content_to_say replies c a.stand)) has) has
 
 step-comes : (replies : Replies) (c : Configuration) (a : Actor) → HasCome c a → HasCome c (actor_behind_step replies c a)
 unfolding actor_behind_step
-step-comes replies c a has = either c (actor_behind_step_with replies c a (stage_posts c a)) a (is_open a.ending) (with-comes replies c a (stage_posts c a) refl has) has
+step-comes replies c a has = either c (actor_behind_step_with replies c a (stage_posts c a)) a (is_open a.ending)
+    (with-comes replies c a (stage_posts c a) refl has) has
 
-steps-come : (replies : Replies) (c : Configuration) (n : ℕ) (a : Actor) → HasCome c a → HasCome c (iterate (actor_behind_step replies c) n a)
+steps-come : (replies : Replies) (c : Configuration) (n : ℕ) (a : Actor) → HasCome c a
+    → HasCome c (iterate (actor_behind_step replies c) n a)
 steps-come replies c zero a has = has
 steps-come replies c (suc n) a has = steps-come replies c n (actor_behind_step replies c a) (step-comes replies c a has)
 
-repeat-comes : (replies : Replies) (c : Configuration) (a : Actor) (mood : Mood) → HasCome c a → HasCome c (actor_behind_repeat replies c a mood)
+repeat-comes : (replies : Replies) (c : Configuration) (a : Actor) (mood : Mood) → HasCome c a
+    → HasCome c (actor_behind_repeat replies c a mood)
 repeat-comes replies c a (PutOff bytes) has = answer-comes c a (speech_about replies c a bytes) has
 repeat-comes replies c a Unasked has = has
 repeat-comes replies c a Spoken has = has
@@ -182,7 +194,8 @@ step-further replies c a = elim (cases_Bool (is_open a.ending)) [
     | inl none ↦ elim (cases_Bool (is_due c a.stand a.mood)) [
       | inr not_due ↦ inl (open-step replies c a None still none ∙ cond-false (is_due c a.stand a.mood) _ a not_due)
       | inl due ↦ inr (
-          let step = open-step replies c a None still none ∙ cond-true (is_due c a.stand a.mood) (actor_behind_question replies c a (content_to_say replies c a.stand)) a due in
+          let step = open-step replies c a None still none ∙ cond-true (is_due c a.stand a.mood)
+          (actor_behind_question replies c a (content_to_say replies c a.stand)) a due in
           let one = answer-further c a (speech_about replies c a (content_to_say replies c a.stand)) in
           let unasked = due-unasked c a.stand a.mood due in
           subst (λ (x : Actor). way_of a < way_of x) (sym step) (omega (arith, one, unasked)))
@@ -200,7 +213,8 @@ past-due c stand Mute le = refl
 past-still : (replies : Replies) (c : Configuration) (a : Actor) → stage_count (shape_in c) ≤ a.stand.at → actor_behind_step replies c a ≡ a
 past-still replies c a le = elim (cases_Bool (is_open a.ending)) [
   | inr ended ↦ ended-step replies c a ended
-  | inl still ↦ open-step replies c a None still (posts-past c a le) ∙ cond-false (is_due c a.stand a.mood) _ a (past-due c a.stand a.mood le)
+  | inl still ↦ open-step replies c a None still (posts-past c a le)
+      ∙ cond-false (is_due c a.stand a.mood) _ a (past-due c a.stand a.mood le)
 ]
 
 -- behind enough steps one more changes nothing
@@ -238,37 +252,55 @@ steps-wait replies c a has = record {
   waits = still-waits replies c (actor_behind_steps replies c a) (steps-suffice replies c (2 * stage_count (shape_in c)) a (omega arith));
 }
 
-heard-waits : (replies : Replies) (c : Configuration) (a : Actor) (o : Option Heard) → Waits c a → Waits c (actor_behind_heard replies c a o)
+heard-waits : (replies : Replies) (c : Configuration) (a : Actor) (o : Option Heard) → Waits c a
+    → Waits c (actor_behind_heard replies c a o)
 heard-waits replies c a None is = is
 heard-waits replies c a (Some heard) is = by_kept (is_some (kept_in a.log (slot_named heard.header)))
   where
     kept : HasCome c (actor_with_heard a heard)
-    kept = record { shape = is.has.shape; complete = λ stage lt. filled-complete a.log (slot_named heard.header) heard.post stage (is.has.complete stage lt) }
+    kept = record {
+      shape = is.has.shape;
+      complete = λ stage lt. filled-complete a.log (slot_named heard.header) heard.post stage
+          (is.has.complete stage lt);
+    }
 
-    by_kept : (b : Bool) → Waits c (if b then a else actor_behind_steps replies c (actor_behind_repeat replies c (actor_with_heard a heard) a.mood))
+    by_kept : (b : Bool) → Waits c (if b then a else actor_behind_steps replies c
+        (actor_behind_repeat replies c (actor_with_heard a heard) a.mood))
     by_kept true = is
-    by_kept false = steps-wait replies c (actor_behind_repeat replies c (actor_with_heard a heard) a.mood) (repeat-comes replies c (actor_with_heard a heard) a.mood kept)
+    by_kept false = steps-wait replies c (actor_behind_repeat replies c (actor_with_heard a heard) a.mood)
+        (repeat-comes replies c (actor_with_heard a heard) a.mood kept)
 
-fault-waits : (replies : Replies) (c : Configuration) (a : Actor) (bytes : List ℕ) (o : Option Verdict) → is_open a.ending ≡ true → Waits c a
+fault-waits : (replies : Replies) (c : Configuration) (a : Actor) (bytes : List ℕ) (o : Option Verdict) → is_open a.ending ≡ true
+    → Waits c a
     → Waits c (actor_behind_fault replies c a bytes o)
-fault-waits replies c a bytes (Some verdict) still is = record { has = record { shape = is.has.shape; complete = is.has.complete }; waits = λ _. is.waits still }
+fault-waits replies c a bytes (Some verdict) still is = record {
+  has = record { shape = is.has.shape; complete = is.has.complete };
+  waits =
+      λ _. is.waits still;
+}
 fault-waits replies c a bytes None still is = heard-waits replies c a (heard_of c bytes) is
 
-delivery-waits : (replies : Replies) (c : Configuration) (a : Actor) (bytes : List ℕ) → Waits c a → Waits c (actor_behind_delivery replies c a bytes)
+delivery-waits : (replies : Replies) (c : Configuration) (a : Actor) (bytes : List ℕ) → Waits c a
+    → Waits c (actor_behind_delivery replies c a bytes)
 unfolding actor_behind_delivery
 delivery-waits replies c a bytes is = elim (cases_Bool (is_open a.ending)) [
-  | inl still ↦ subst (Waits c) (sym (cond-true (is_open a.ending) (actor_behind_fault replies c a bytes (fault_shown c (kept_in a.log) bytes)) a still)) (fault-waits replies c a bytes (fault_shown c (kept_in a.log) bytes) still is)
-  | inr ended ↦ subst (Waits c) (sym (cond-false (is_open a.ending) (actor_behind_fault replies c a bytes (fault_shown c (kept_in a.log) bytes)) a ended)) is
+  | inl still ↦ subst (Waits c) (sym (cond-true (is_open a.ending)
+      (actor_behind_fault replies c a bytes (fault_shown c (kept_in a.log) bytes)) a still))
+      (fault-waits replies c a bytes (fault_shown c (kept_in a.log) bytes) still is)
+  | inr ended ↦ subst (Waits c) (sym (cond-false (is_open a.ending)
+      (actor_behind_fault replies c a bytes (fault_shown c (kept_in a.log) bytes)) a ended)) is
 ]
 
 fold-waits : (replies : Replies) (c : Configuration) (a : Actor) (delivered : List (List ℕ)) → Waits c a
     → Waits c (fold (actor_behind_delivery replies c) a delivered)
 fold-waits replies c a [] is = is
-fold-waits replies c a (bytes ∷ rest) is = fold-waits replies c (actor_behind_delivery replies c a bytes) rest (delivery-waits replies c a bytes is)
+fold-waits replies c a (bytes ∷ rest) is = fold-waits replies c (actor_behind_delivery replies c a bytes) rest
+    (delivery-waits replies c a bytes is)
 
 pub after-waits : (replies : Replies) (c : Configuration) (delivered : List (List ℕ)) → Waits c (actor_after replies c delivered)
 unfolding actor_after
-after-waits replies c delivered = fold-waits replies c (actor_at_start replies c) delivered (steps-wait replies c (first_actor c) (record { shape = refl; complete = λ stage lt. absurd (omega (arith, lt)) }))
+after-waits replies c delivered = fold-waits replies c (actor_at_start replies c) delivered
+    (steps-wait replies c (first_actor c) (record { shape = refl; complete = λ stage lt. absurd (omega (arith, lt)) }))
 
 -- ---- the law
 
@@ -276,12 +308,17 @@ stands-first : (c : Configuration) (a : Actor) → Waits c a → is_open a.endin
     → first_incomplete_of a.log ≡ (if nat_lt a.stand.at (stage_count (shape_in c)) then Some a.stand.at else None)
 stands-first c a is still = elim (cases_lt a.stand.at (stage_count (shape_in c))) [
   | inl lt ↦
-      first_below-some (incomplete_stage a.log) (stage_count a.log.shape) a.stand.at a.stand.at (omega (arith, lt, count)) (λ j below. complete-none a.log j (is.has.complete j below))
+      first_below-some (incomplete_stage a.log) (stage_count a.log.shape) a.stand.at a.stand.at (omega (arith, lt, count))
+      (λ j below. complete-none a.log j (is.has.complete j below))
       (incomplete-some a.log a.stand.at (not-there (posts_in a.log a.stand.at) (sym (posts-within c a lt) ∙ is.waits still)))
-      ∙ sym (cond-true (nat_lt a.stand.at (stage_count (shape_in c))) (Some a.stand.at) None (lt-ltb a.stand.at (stage_count (shape_in c)) lt))
+      ∙ sym (cond-true (nat_lt a.stand.at (stage_count (shape_in c))) (Some a.stand.at) None
+      (lt-ltb a.stand.at (stage_count (shape_in c)) lt))
   | inr le ↦
-      first_below-none (incomplete_stage a.log) (stage_count a.log.shape) (λ j below. complete-none a.log j (is.has.complete j (omega (arith, le, count, below))))
-      ∙ sym (cond-false (nat_lt a.stand.at (stage_count (shape_in c))) (Some a.stand.at) None (false_from_ne_true (nat_lt a.stand.at (stage_count (shape_in c))) (λ e. (let lt = ltb-true a.stand.at (stage_count (shape_in c)) e in omega (arith, le, lt)))))
+      first_below-none (incomplete_stage a.log) (stage_count a.log.shape)
+      (λ j below. complete-none a.log j (is.has.complete j (omega (arith, le, count, below))))
+      ∙ sym (cond-false (nat_lt a.stand.at (stage_count (shape_in c))) (Some a.stand.at) None
+      (false_from_ne_true (nat_lt a.stand.at (stage_count (shape_in c)))
+      (λ e. (let lt = ltb-true a.stand.at (stage_count (shape_in c)) e in omega (arith, le, lt)))))
 ]
   where
     count : stage_count a.log.shape ≡ stage_count (shape_in c)
@@ -293,6 +330,7 @@ open_stand_at_first replies c delivered still =
     let is = after-waits replies c delivered in
     record {
       first = stands-first c a is still;
-      bits = ap (λ (s : Shape). bits_of (filter (is_missing a.log a.stand.at) (option_map_or (senders_in s) (kind_of_stage s a.stand.at) []))) (sym is.has.shape)
+      bits = ap (λ (s : Shape). bits_of (filter (is_missing a.log a.stand.at)
+          (option_map_or (senders_in s) (kind_of_stage s a.stand.at) []))) (sym is.has.shape)
           ∙ bits-missing a.log a.stand.at;
     }

@@ -65,12 +65,15 @@ says-own : (replies : Replies) (c : Configuration) (stand : Stand) → IsPlain r
     → content_to_say replies c stand ≡ own_content c stand.past stand.at
 unfolding content_to_say own_content own_descriptor
 says-own replies c stand plain =
-    ap (λ (d : Description). content_text (content_with c (descriptor_text d) stand.past stand.at)) (plain.descriptor (own_description c (contents_of stand.past)))
+    ap (λ (d : Description). content_text (content_with c (descriptor_text d) stand.past stand.at))
+    (plain.descriptor (own_description c (contents_of stand.past)))
 
-says-plainly : (replies : Replies) (c : Configuration) (a : Actor) (bytes : List ℕ) → IsPlain replies → speech_about replies c a bytes ≡ Say bytes
+says-plainly : (replies : Replies) (c : Configuration) (a : Actor) (bytes : List ℕ) → IsPlain replies
+    → speech_about replies c a bytes ≡ Say bytes
 says-plainly replies c a bytes plain = elim (cases_Bool (a.stand.at == 0)) [
   | inl first ↦ cond-true (a.stand.at == 0) (replies.speech a.stand.at bytes a.log) _ first ∙ plain.speech a.stand.at bytes a.log
-  | inr later ↦ cond-false (a.stand.at == 0) _ (replies.speech_after (own_description c (contents_of a.stand.past)) a.stand.at bytes a.log) later
+  | inr later ↦ cond-false (a.stand.at == 0) _ (replies.speech_after (own_description c (contents_of a.stand.past)) a.stand.at bytes a.log)
+      later
       ∙ plain.speech_after (own_description c (contents_of a.stand.past)) a.stand.at bytes a.log
 ]
 
@@ -100,20 +103,25 @@ ended-step replies c a ended = cond-false (is_open a.ending) (actor_behind_step_
 pub open-step : (replies : Replies) (c : Configuration) (a : Actor) (o : Option (List Post)) → is_open a.ending ≡ true → stage_posts c a ≡ o
     → actor_behind_step replies c a ≡ actor_behind_step_with replies c a o
 unfolding actor_behind_step
-open-step replies c a o still e = cond-true (is_open a.ending) (actor_behind_step_with replies c a (stage_posts c a)) a still ∙ ap (actor_behind_step_with replies c a) e
+open-step replies c a o still e = cond-true (is_open a.ending) (actor_behind_step_with replies c a (stage_posts c a)) a still
+    ∙ ap (actor_behind_step_with replies c a) e
 
-pub posts-within : (c : Configuration) (a : Actor) → a.stand.at < stage_count (shape_in c) → stage_posts c a ≡ all_some (posts_in a.log a.stand.at)
-posts-within c a lt = cond-true (nat_lt a.stand.at (stage_count (shape_in c))) (all_some (posts_in a.log a.stand.at)) None (lt-ltb a.stand.at (stage_count (shape_in c)) lt)
+pub posts-within : (c : Configuration) (a : Actor) → a.stand.at < stage_count (shape_in c)
+    → stage_posts c a ≡ all_some (posts_in a.log a.stand.at)
+posts-within c a lt = cond-true (nat_lt a.stand.at (stage_count (shape_in c))) (all_some (posts_in a.log a.stand.at)) None
+    (lt-ltb a.stand.at (stage_count (shape_in c)) lt)
 
 pub posts-past : (c : Configuration) (a : Actor) → stage_count (shape_in c) ≤ a.stand.at → stage_posts c a ≡ None
 posts-past c a le = cond-false (nat_lt a.stand.at (stage_count (shape_in c))) (all_some (posts_in a.log a.stand.at)) None
-    (false_from_ne_true (nat_lt a.stand.at (stage_count (shape_in c))) (λ e. (let lt = ltb-true a.stand.at (stage_count (shape_in c)) e in omega arith)))
+    (false_from_ne_true (nat_lt a.stand.at (stage_count (shape_in c)))
+    (λ e. (let lt = ltb-true a.stand.at (stage_count (shape_in c)) e in omega arith)))
 
 -- it is to be asked exactly where it is a sender and has not spoken
 due-when : (c : Configuration) (stand : Stand) (now : Bool) (mood : Mood) → mood ≡ mood_when now
     → (is_slot (shape_in c) stand.at c.number ≡ true → now ≡ true) → is_due c stand mood ≡ false
 due-when c stand true mood e said = ap (is_due c stand) e
-due-when c stand false mood e said = ap (is_due c stand) e ∙ false_from_ne_true (is_slot (shape_in c) stand.at c.number) (λ speaks. (let both = said speaks in cc))
+due-when c stand false mood e said = ap (is_due c stand) e ∙ false_from_ne_true (is_slot (shape_in c) stand.at c.number)
+    (λ speaks. (let both = said speaks in cc))
 
 -- how far it has come
 abbrev pub bit : Bool → ℕ
@@ -140,13 +148,15 @@ speaks-on replies c others stages a kind plain grammar f still lt kind_is speaks
     is = follows-reached c others false stages a f
 
     waits : stage_posts c a ≡ None
-    waits = posts-within c a lt ∙ ap (λ (log : Log). all_some (posts_in log a.stand.at)) f.log ∙ stage-waits c others a.stand kind kind_is speaks
+    waits = posts-within c a lt ∙ ap (λ (log : Log). all_some (posts_in log a.stand.at)) f.log
+        ∙ stage-waits c others a.stand kind kind_is speaks
 
     due : is_due c a.stand a.mood ≡ true
     due = ap (is_due c a.stand) f.mood ∙ speaks
 
     reads : is_ok (content_read (shape_in c) (own_content c a.stand.past a.stand.at)) ≡ true
-    reads = subst (λ (s : Stand). is_open s.verdict ≡ true → is_slot (shape_in c) s.at c.number ≡ true → is_ok (content_read (shape_in c) (own_content c s.past s.at)) ≡ true) (sym f.stand) (grammar stages) still speaks
+    reads = subst (λ (s : Stand). is_open s.verdict ≡ true → is_slot (shape_in c) s.at c.number ≡ true
+        → is_ok (content_read (shape_in c) (own_content c s.past s.at)) ≡ true) (sym f.stand) (grammar stages) still speaks
 
     step : actor_behind_step replies c a ≡ having_said c a
     step = open-step replies c a None (ap is_open f.ending ∙ still) waits
@@ -157,7 +167,8 @@ speaks-on replies c others stages a kind plain grammar f still lt kind_is speaks
     after = record {
       stand = f.stand;
       at = f.at;
-      log = ap (λ (log : Log). filled log (record { stage = a.stand.at; sender = c.number }) (own_post c a.stand.past a.stand.at)) f.log ∙ speaks-log c others a.stand is speaks;
+      log = ap (λ (log : Log). filled log (record { stage = a.stand.at; sender = c.number }) (own_post c a.stand.past a.stand.at)) f.log
+          ∙ speaks-log c others a.stand is speaks;
       made = ap (λ (made : List Post). made ++ own_post c a.stand.past a.stand.at ∷ []) f.made ∙ speaks-made c others a.stand is speaks;
       mood = refl;
       ending = f.ending;
@@ -187,19 +198,22 @@ course-further c others stages stand next is e =
     sym (course-adds c others stages 1 first_stand ∙ ap (course_from c others 1) (sym is) ∙ course-next c others 0 stand next e)
 
 -- the step in which it passes a stage
-passes-on : (replies : Replies) (c : Configuration) (others : Others) (now : Bool) (stages : ℕ) (a : Actor) (kind : StageKind) (posts : List Post)
+passes-on : (replies : Replies) (c : Configuration) (others : Others) (now : Bool) (stages : ℕ) (a : Actor) (kind : StageKind)
+    (posts : List Post)
     → Follows c others now stages a
     → is_open a.stand.verdict ≡ true → a.stand.at < stage_count (shape_in c) → kind_of_stage (shape_in c) a.stand.at ≡ Some kind
     → (is_slot (shape_in c) a.stand.at c.number ≡ true → now ≡ true)
     → stage_filled c others a.stand ≡ Some posts → LeadsOn c others (2 * stages + bit now) (actor_behind_step replies c a)
 passes-on replies c others now stages a kind posts f still lt kind_is said filled_is =
-    subst (LeadsOn c others (2 * stages + bit now)) (sym step) (record { now = false; stages = stages + 1; follows = after; further = further now })
+    subst (LeadsOn c others (2 * stages + bit now)) (sym step) (record
+    { now = false; stages = stages + 1; follows = after; further = further now })
   where
     is : IsReached c others a.stand
     is = follows-reached c others now stages a f
 
     there : stage_posts c a ≡ Some posts
-    there = posts-within c a lt ∙ ap (λ (log : Log). all_some (posts_in log a.stand.at)) f.log ∙ stage-filled c others a.stand now kind is kind_is said ∙ filled_is
+    there = posts-within c a lt ∙ ap (λ (log : Log). all_some (posts_in log a.stand.at)) f.log
+        ∙ stage-filled c others a.stand now kind is kind_is said ∙ filled_is
 
     next : Stand
     next = stand_behind c a.stand posts
@@ -227,10 +241,18 @@ pub record IsStill (replies : Replies) (c : Configuration) (others : Others) (a 
   pub rests : Rests c others a
   pub stays : actor_behind_step replies c a ≡ a
 
-still-ended : (replies : Replies) (c : Configuration) (others : Others) (now : Bool) (stages : ℕ) (a : Actor) → Follows c others now stages a
+still-ended : (replies : Replies) (c : Configuration) (others : Others) (now : Bool) (stages : ℕ) (a : Actor)
+    → Follows c others now stages a
     → is_open a.stand.verdict ≡ false → IsStill replies c others a
 still-ended replies c others now stages a f ended = record {
-  rests = record { now = now; stages = stages; follows = f; no_next = next-ended c others a.stand ended; spoken = λ still. absurd (let both = sym still ∙ ended in cc) };
+  rests = record {
+    now = now;
+    stages = stages;
+    follows = f;
+    no_next = next-ended c others a.stand ended;
+    spoken = λ still. absurd
+        (let both = sym still ∙ ended in cc);
+  };
   stays = ended-step replies c a (ap is_open f.ending ∙ ended);
 }
 
@@ -239,9 +261,17 @@ still-past : (replies : Replies) (c : Configuration) (others : Others) (now : Bo
     → stage_count (shape_in c) ≤ a.stand.at → IsStill replies c others a
 unfolding stage_filled
 still-past replies c others now stages a f still none le = record {
-  rests = record { now = now; stages = stages; follows = f; no_next = no-next-of c others a.stand still (ap (option_and_then (posts_of_kind c others a.stand)) none); spoken = λ _ speaks. absurd (let both = sym speaks ∙ silent in cc) };
+  rests = record {
+    now = now;
+    stages = stages;
+    follows = f;
+    no_next = no-next-of c others a.stand still
+        (ap (option_and_then (posts_of_kind c others a.stand)) none);
+    spoken = λ _ speaks. absurd (let both = sym speaks ∙ silent in cc);
+  };
   stays = open-step replies c a None (ap is_open f.ending ∙ still) (posts-past c a le)
-      ∙ cond-false (is_due c a.stand a.mood) _ a (due-when c a.stand now a.mood f.mood (λ speaks. absurd (let both = sym speaks ∙ silent in cc)));
+      ∙ cond-false (is_due c a.stand a.mood) _ a (due-when c a.stand now a.mood f.mood
+      (λ speaks. absurd (let both = sym speaks ∙ silent in cc)));
 }
   where
     silent : is_slot (shape_in c) a.stand.at c.number ≡ false
@@ -291,5 +321,7 @@ step-leads replies c others now stages a plain grammar f = elim (cases_Bool (is_
         → IsStill replies c others a ⊎ LeadsOn c others (2 * stages + bit b) (actor_behind_step replies c a)
     by_sender still lt kind kind_is (inl speaks) true f = filled_or_not still lt kind kind_is true f (λ _. refl)
     by_sender still lt kind kind_is (inl speaks) false f =
-        (let on = speaks-on replies c others stages a kind plain grammar f still lt kind_is speaks in inr (record { now = on.now; stages = on.stages; follows = on.follows; further = (let more = on.further in omega arith) }))
-    by_sender still lt kind kind_is (inr silent) b f = filled_or_not still lt kind kind_is b f (λ speaks. absurd (let both = sym speaks ∙ silent in cc))
+        (let on = speaks-on replies c others stages a kind plain grammar f still lt kind_is speaks in inr
+        (record { now = on.now; stages = on.stages; follows = on.follows; further = (let more = on.further in omega arith) }))
+    by_sender still lt kind kind_is (inr silent) b f = filled_or_not still lt kind kind_is b f
+        (λ speaks. absurd (let both = sym speaks ∙ silent in cc))

@@ -92,7 +92,8 @@ actor_behind_stage c a stand = record a { stand = stand; mood = Unasked; ending 
 -- it is to be asked
 abbrev pub actor_behind_step_with : Replies → Configuration → Actor → Option (List Post) → Actor
 actor_behind_step_with replies c a (Some posts) = actor_behind_stage c a (stand_behind c a.stand posts)
-actor_behind_step_with replies c a None = if is_due c a.stand a.mood then actor_behind_question replies c a (content_to_say replies c a.stand) else a
+actor_behind_step_with replies c a None = if is_due c a.stand a.mood then actor_behind_question replies c a
+    (content_to_say replies c a.stand) else a
 
 -- behind one step, as long as the round is open
 unfoldable pub actor_behind_step : Replies → Configuration → Actor → Actor

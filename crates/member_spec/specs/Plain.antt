@@ -47,7 +47,8 @@ PlainRunIsHonest = (replies : Replies) (c : Configuration) (delivered : List (Li
 -- and the posts that it has made are just its own posts in the log of that run
 abbrev pub PlainPostsAreSaid : Type 0
 PlainPostsAreSaid = (replies : Replies) (c : Configuration) (delivered : List (List ℕ)) → IsPlain replies → CanEnter c →
-    All IsBytes delivered → (actor_after replies c delivered).made ≡ posts_said (record { config = c; log = (actor_after replies c delivered).log })
+    All IsBytes delivered → (actor_after replies c delivered).made ≡ posts_said
+    (record { config = c; log = (actor_after replies c delivered).log })
 
 -- ---- one end of a shuffle
 

@@ -39,7 +39,8 @@ length-exclusive_or (x ∷ xs) (y ∷ ys) h =
     let rest : length (exclusive_or xs ys) ≡ length xs = length-exclusive_or xs ys (omega arith) in
     omega arith
 
-get_or-exclusive_or : (xs ys : List ℕ) (i : ℕ) → length xs ≡ length ys → i < length xs → get_or (exclusive_or xs ys) i 0 ≡ bit_xor (get_or xs i 0) (get_or ys i 0)
+get_or-exclusive_or : (xs ys : List ℕ) (i : ℕ) → length xs ≡ length ys → i < length xs
+    → get_or (exclusive_or xs ys) i 0 ≡ bit_xor (get_or xs i 0) (get_or ys i 0)
 get_or-exclusive_or [] ys i h below = absurd (omega arith)
 get_or-exclusive_or (x ∷ xs) [] i h below = absurd (omega arith)
 get_or-exclusive_or (x ∷ xs) (y ∷ ys) zero h below = refl

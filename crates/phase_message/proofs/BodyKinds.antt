@@ -29,11 +29,13 @@ fits-keys : (shape : Shape) (before : ℕ) (body : Body) → Fits OfKeys body �
 fits-keys shape before (Keys keys) fits = fits
 fits-keys shape before _ fits = absurd fits
 
-fits-submit : (shape : Shape) (before shuffle : ℕ) (body : Body) → Fits (OfSubmit (level shape.members shuffle 0)) body → IsBodyAt shape before (AtSubmit shuffle) body
+fits-submit : (shape : Shape) (before shuffle : ℕ) (body : Body) → Fits (OfSubmit (level shape.members shuffle 0)) body
+    → IsBodyAt shape before (AtSubmit shuffle) body
 fits-submit shape before shuffle (Submit ciphertext) fits = fits
 fits-submit shape before shuffle _ fits = absurd fits
 
-fits-shuffled : (shape : Shape) (before shuffle k : ℕ) (body : Body) → Fits (OfShuffled shape.members (level shape.members shuffle k)) body → IsBodyAt shape before (AtShuffle shuffle k) body
+fits-shuffled : (shape : Shape) (before shuffle k : ℕ) (body : Body) → Fits (OfShuffled shape.members (level shape.members shuffle k)) body
+    → IsBodyAt shape before (AtShuffle shuffle k) body
 fits-shuffled shape before shuffle k (Shuffled list) fits = fits
 fits-shuffled shape before shuffle k _ fits = absurd fits
 
@@ -45,11 +47,13 @@ fits-go : (shape : Shape) (before shuffle : ℕ) (body : Body) → Fits OfGo bod
 fits-go shape before shuffle (Go vote) fits = fits
 fits-go shape before shuffle _ fits = absurd fits
 
-fits-reveal : (shape : Shape) (before shuffle : ℕ) (body : Body) → Fits (OfReveal shape.members) body → IsBodyAt shape before (AtFinal shuffle) body
+fits-reveal : (shape : Shape) (before shuffle : ℕ) (body : Body) → Fits (OfReveal shape.members) body
+    → IsBodyAt shape before (AtFinal shuffle) body
 fits-reveal shape before shuffle (Reveal votes seed) fits = fits
 fits-reveal shape before shuffle _ fits = absurd fits
 
-fits-dispute : (shape : Shape) (before shuffle : ℕ) (body : Body) → Fits (OfDispute before) body → IsBodyAt shape before (AtFinal shuffle) body
+fits-dispute : (shape : Shape) (before shuffle : ℕ) (body : Body) → Fits (OfDispute before) body
+    → IsBodyAt shape before (AtFinal shuffle) body
 fits-dispute shape before shuffle (Dispute posts seed opening) fits = fits
 fits-dispute shape before shuffle _ fits = absurd fits
 
@@ -70,28 +74,36 @@ fits-differ shape before (Differ posts) fits = fits
 fits-differ shape before _ fits = absurd fits
 
 -- one of two
-either-at : (shape : Shape) (before : ℕ) (kind : StageKind) (form other found : BodyForm) (body : Body) → (found ≡ form) ⊎ (found ≡ other) → Fits found body
-    → (Fits form body → IsBodyAt shape before kind body) → (Fits other body → IsBodyAt shape before kind body) → IsBodyAt shape before kind body
+either-at : (shape : Shape) (before : ℕ) (kind : StageKind) (form other found : BodyForm) (body : Body) → (found ≡ form) ⊎ (found ≡ other)
+    → Fits found body
+    → (Fits form body → IsBodyAt shape before kind body) → (Fits other body → IsBodyAt shape before kind body)
+    → IsBodyAt shape before kind body
 either-at shape before kind form other found body (inl is) fits held held_other = fits-at shape before kind form found body is fits held
-either-at shape before kind form other found body (inr is) fits held held_other = fits-at shape before kind other found body is fits held_other
+either-at shape before kind form other found body (inr is) fits held held_other = fits-at shape before kind other found body is fits
+    held_other
 
 held-at : (shape : Shape) (before : ℕ) (kind : StageKind) (body : Body) → HasForm shape before kind body → IsBodyAt shape before kind body
-held-at shape before AtKeys body has = fits-at shape before AtKeys OfKeys has.0 body (only-form 1 OfKeys (kind_number body) has.0 has.1) has.2 (fits-keys shape before body)
+held-at shape before AtKeys body has = fits-at shape before AtKeys OfKeys has.0 body (only-form 1 OfKeys (kind_number body) has.0 has.1)
+    has.2 (fits-keys shape before body)
 held-at shape before (AtSubmit shuffle) body has =
     let form = OfSubmit (level shape.members shuffle 0) in
-    fits-at shape before (AtSubmit shuffle) form has.0 body (only-form 2 form (kind_number body) has.0 has.1) has.2 (fits-submit shape before shuffle body)
+    fits-at shape before (AtSubmit shuffle) form has.0 body (only-form 2 form (kind_number body) has.0 has.1) has.2
+    (fits-submit shape before shuffle body)
 held-at shape before (AtShuffle shuffle k) body has =
     let form = OfShuffled shape.members (level shape.members shuffle k) in
     either-at shape before (AtShuffle shuffle k) form OfAbort has.0 body (either-form 3 form 4 OfAbort (kind_number body) has.0 has.1) has.2
     (fits-shuffled shape before shuffle k body) (fits-abort shape before shuffle k body)
-held-at shape before (AtGo shuffle) body has = fits-at shape before (AtGo shuffle) OfGo has.0 body (only-form 5 OfGo (kind_number body) has.0 has.1) has.2 (fits-go shape before shuffle body)
+held-at shape before (AtGo shuffle) body has = fits-at shape before (AtGo shuffle) OfGo has.0 body
+    (only-form 5 OfGo (kind_number body) has.0 has.1) has.2 (fits-go shape before shuffle body)
 held-at shape before (AtFinal shuffle) body has =
     either-at shape before (AtFinal shuffle) (OfReveal shape.members) (OfDispute before) has.0 body
     (either-form 6 (OfReveal shape.members) 7 (OfDispute before) (kind_number body) has.0 has.1) has.2
     (fits-reveal shape before shuffle body) (fits-dispute shape before shuffle body)
 held-at shape before AtPad body has =
-    fits-at shape before AtPad (OfPads shape.members) has.0 body (only-form 8 (OfPads shape.members) (kind_number body) has.0 has.1) has.2 (fits-pads shape before body)
-held-at shape before AtCheck body has = fits-at shape before AtCheck OfCheck has.0 body (only-form 9 OfCheck (kind_number body) has.0 has.1) has.2 (fits-check shape before body)
+    fits-at shape before AtPad (OfPads shape.members) has.0 body (only-form 8 (OfPads shape.members) (kind_number body) has.0 has.1) has.2
+    (fits-pads shape before body)
+held-at shape before AtCheck body has = fits-at shape before AtCheck OfCheck has.0 body (only-form 9 OfCheck (kind_number body) has.0 has.1)
+    has.2 (fits-check shape before body)
 held-at shape before AtConfirm body has =
     either-at shape before AtConfirm (OfConfirm shape.members) (OfDiffer before) has.0 body
     (either-form 10 (OfConfirm shape.members) 11 (OfDiffer before) (kind_number body) has.0 has.1) has.2

@@ -23,8 +23,10 @@ turns-follow before shuffle a (suc n) kinds rest = (tt, turns-follow (Some (Shuf
 
 stages-follow : (shape : Shape) → AllFollow None (stages shape)
 stages-follow shape =
-    let b : (o : Option StageKind) → AllFollow o (turns 2 shape.members ++ last) = λ o. turns-follow o 2 1 shape.members last (λ o. (tt, (refl, tt))) in
-    let a : (o : Option StageKind) → AllFollow o (middle ++ (turns 2 shape.members ++ last)) = λ o. (tt, (refl, (tt, (tt, (refl, (tt, b (Some (Submit 2)))))))) in
+    let b : (o : Option StageKind) → AllFollow o (turns 2 shape.members ++ last) = λ o. turns-follow o 2 1 shape.members last
+    (λ o. (tt, (refl, tt))) in
+    let a : (o : Option StageKind) → AllFollow o (middle ++ (turns 2 shape.members ++ last)) = λ o.
+    (tt, (refl, (tt, (tt, (refl, (tt, b (Some (Submit 2)))))))) in
     (tt, (tt, turns-follow (Some (Submit 1)) 1 1 shape.members (middle ++ (turns 2 shape.members ++ last)) a))
   where
     last : List StageKind
@@ -52,7 +54,8 @@ follows-at before (head ∷ kinds) (suc (suc i)) kind vote all at is = follows-a
 pub closing-follows : (shape : Shape) (stage : ℕ) (kind vote : StageKind) → kind_of_stage shape stage ≡ Some kind → vote_of kind ≡ Some vote
     → (1 ≤ stage) × (kind_of_stage shape (stage - 1) ≡ Some vote)
 unfolding before_at
-closing-follows shape zero kind vote at is = absurd (let none = follows-at None (stages shape) 0 kind vote (stages-follow shape) at is in cc)
+closing-follows shape zero kind vote at is = absurd (let none = follows-at None (stages shape) 0 kind vote (stages-follow shape) at is in
+    cc)
 closing-follows shape (suc stage) kind vote at is =
     let place : suc stage - 1 ≡ stage = omega arith in
     (omega arith, ap (slice_get (stages shape)) place ∙ follows-at None (stages shape) (suc stage) kind vote (stages-follow shape) at is)

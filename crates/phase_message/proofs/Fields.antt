@@ -17,7 +17,8 @@ ok_is : {A : Type 0} (x y : A) → done x ≡ done y → x ≡ y
 ok_is x y e = cc
 
 -- n bytes that were read were there
-pub bytes_at-parts : (n : ℕ) (r : Reading) (x : List ℕ × Reading) → bytes_at n r ≡ Ok x → (n ≤ length r.rest) × (take n r.rest ≡ x.0) × (advanced n r ≡ x.1)
+pub bytes_at-parts : (n : ℕ) (r : Reading) (x : List ℕ × Reading) → bytes_at n r ≡ Ok x → (n ≤ length r.rest) × (take n r.rest ≡ x.0)
+    × (advanced n r ≡ x.1)
 bytes_at-parts n r x e =
     let g = guard_ok (ltb (length r.rest) n) (record { at = r.place; need = n; have = length r.rest }) (take n r.rest, advanced n r) x e in
     (ltb-false _ _ g.0, ap (λ (p : List ℕ × Reading). p.0) g.1, ap (λ (p : List ℕ × Reading). p.1) g.1)
@@ -48,18 +49,63 @@ bytes_at-rest n r x e =
 header_takes : (r : Reading) (x : Header × Reading) → header_at r ≡ Ok x → 75 + length x.1.rest ≡ length r.rest
 unfolding header_at
 header_takes r x e =
-    let a = bind_ok (number_at w8 r) (λ version. bytes_at 32 version.1 >>= λ group. number_at w64 group.1 >>= λ round. number_at w8 round.1 >>= λ stage. number_at w8 stage.1 >>= λ sender. bytes_at 32 sender.1 >>= λ view. Ok (record { version = version.0; group = group.0; round = round.0; stage = stage.0; sender = sender.0; view = view.0 }, view.1)) x e in
-    let b = bind_ok (bytes_at 32 a.0.1) (λ group. number_at w64 group.1 >>= λ round. number_at w8 round.1 >>= λ stage. number_at w8 stage.1 >>= λ sender. bytes_at 32 sender.1 >>= λ view. Ok (record { version = a.0.0; group = group.0; round = round.0; stage = stage.0; sender = sender.0; view = view.0 }, view.1)) x a.2 in
-    let c = bind_ok (number_at w64 b.0.1) (λ round. number_at w8 round.1 >>= λ stage. number_at w8 stage.1 >>= λ sender. bytes_at 32 sender.1 >>= λ view. Ok (record { version = a.0.0; group = b.0.0; round = round.0; stage = stage.0; sender = sender.0; view = view.0 }, view.1)) x b.2 in
-    let d = bind_ok (number_at w8 c.0.1) (λ stage. number_at w8 stage.1 >>= λ sender. bytes_at 32 sender.1 >>= λ view. Ok (record { version = a.0.0; group = b.0.0; round = c.0.0; stage = stage.0; sender = sender.0; view = view.0 }, view.1)) x c.2 in
-    let f = bind_ok (number_at w8 d.0.1) (λ sender. bytes_at 32 sender.1 >>= λ view. Ok (record { version = a.0.0; group = b.0.0; round = c.0.0; stage = d.0.0; sender = sender.0; view = view.0 }, view.1)) x d.2 in
-    let g = bind_ok (bytes_at 32 f.0.1) (λ view. Ok (record { version = a.0.0; group = b.0.0; round = c.0.0; stage = d.0.0; sender = f.0.0; view = view.0 }, view.1)) x f.2 in
-    let made : Header × Reading = (record { version = a.0.0; group = b.0.0; round = c.0.0; stage = d.0.0; sender = f.0.0; view = g.0.0 }, g.0.1) in
+    let a = bind_ok (number_at w8 r) (λ version. bytes_at 32 version.1 >>= λ group. number_at w64 group.1 >>= λ round. number_at w8 round.1
+    >>= λ stage. number_at w8 stage.1 >>= λ sender. bytes_at 32 sender.1 >>= λ view. Ok
+    (record { version = version.0; group = group.0; round = round.0; stage = stage.0; sender = sender.0; view = view.0 }, view.1)) x e
+    in
+    let b = bind_ok (bytes_at 32 a.0.1) (λ group. number_at w64 group.1 >>= λ round. number_at w8 round.1 >>= λ stage. number_at w8 stage.1
+    >>= λ sender. bytes_at 32 sender.1 >>= λ view. Ok (
+      record
+          { version = a.0.0; group = group.0; round = round.0; stage = stage.0; sender = sender.0; view = view.0 },
+      view.1,
+    )) x a.2 in
+    let c = bind_ok (number_at w64 b.0.1) (λ round. number_at w8 round.1 >>= λ stage. number_at w8 stage.1 >>= λ sender. bytes_at 32
+    sender.1 >>= λ view. Ok (
+      record {
+        version = a.0.0;
+        group = b.0.0;
+        round = round.0;
+        stage = stage.0;
+        sender = sender.0;
+        view = view.0;
+      },
+      view.1,
+    )) x b.2 in
+    let d = bind_ok (number_at w8 c.0.1) (λ stage. number_at w8 stage.1 >>= λ sender. bytes_at 32 sender.1 >>= λ view. Ok
+    (record { version = a.0.0; group = b.0.0; round = c.0.0; stage = stage.0; sender = sender.0; view = view.0 }, view.1)) x c.2 in
+    let f = bind_ok (number_at w8 d.0.1) (λ sender. bytes_at 32 sender.1 >>= λ view. Ok
+    (record { version = a.0.0; group = b.0.0; round = c.0.0; stage = d.0.0; sender = sender.0; view = view.0 }, view.1)) x d.2 in
+    let g = bind_ok (bytes_at 32 f.0.1) (λ view. Ok (
+      record {
+        version = a.0.0;
+        group = b.0.0;
+        round = c.0.0;
+        stage = d.0.0;
+        sender = f.0.0;
+        view = view.0;
+      },
+      view.1,
+    )) x f.2 in
+    let made : Header × Reading = (
+      record { version = a.0.0; group = b.0.0; round = c.0.0; stage = d.0.0; sender = f.0.0; view = g.0.0 },
+      g.0.1,
+    ) in
     let same : g.0.1 ≡ x.1 = ap (λ (p : Header × Reading). p.1) (ok_is made x g.2) in
     let left : length g.0.1.rest ≡ length x.1.rest = ap (λ (q : Reading). length q.rest) same in
-    omega (arith, number_at-length w8 r a.0 a.1, bytes_at-rest 32 a.0.1 b.0 b.1, number_at-length w64 b.0.1 c.0 c.1, number_at-length w8 c.0.1 d.0 d.1, number_at-length w8 d.0.1 f.0 f.1, bytes_at-rest 32 f.0.1 g.0 g.1, left)
+    omega (
+      arith,
+      number_at-length w8 r a.0 a.1,
+      bytes_at-rest 32 a.0.1 b.0 b.1,
+      number_at-length w64 b.0.1 c.0 c.1,
+      number_at-length w8
+          c.0.1 d.0 d.1,
+      number_at-length w8 d.0.1 f.0 f.1,
+      bytes_at-rest 32 f.0.1 g.0 g.1,
+      left,
+    )
 
-number_at-long : (w : Width) (r : Reading) → byte_len w ≤ length r.rest → number_at w r ≡ Ok (from_be_bytes w (take (byte_len w) r.rest), advanced (byte_len w) r)
+number_at-long : (w : Width) (r : Reading) → byte_len w ≤ length r.rest
+    → number_at w r ≡ Ok (from_be_bytes w (take (byte_len w) r.rest), advanced (byte_len w) r)
 number_at-long w r le = rw (bytes_at-enough (byte_len w) r le) refl
 
 -- 75 bytes have a header
@@ -82,7 +128,18 @@ header_long r le =
     let e3 = number_at-long w8 r3 (omega arith) in
     let e4 = number_at-long w8 r4 (omega arith) in
     let e5 = bytes_at-enough 32 r5 (omega arith) in (
-      (record { version = from_be_bytes w8 (take 1 r.rest); group = take 32 r1.rest; round = from_be_bytes w64 (take 8 r2.rest); stage = from_be_bytes w8 (take 1 r3.rest); sender = from_be_bytes w8 (take 1 r4.rest); view = take 32 r5.rest }, advanced 32 r5),
+      (
+        record {
+          version = from_be_bytes w8 (take 1 r.rest);
+          group = take 32 r1.rest;
+          round = from_be_bytes w64 (take 8 r2.rest);
+          stage =
+              from_be_bytes w8 (take 1 r3.rest);
+          sender = from_be_bytes w8 (take 1 r4.rest);
+          view = take 32 r5.rest;
+        },
+        advanced 32 r5,
+      ),
       rw (e0, e1, e2, e3, e4, e5) refl,
     )
 
@@ -95,13 +152,15 @@ pub header_ok-length : (content : List ℕ) → IsOk (header_of content) → 75 
 header_ok-length content ok = ok_length content (header_of content) refl ok
   where
     ok_length : (content : List ℕ) (read : Result Header Short) → header_of content ≡ read → IsOk read → 75 ≤ length content
-    ok_length content (Ok h) e ok = let y = value_ok (header_at (reading_of content)) h e in omega (arith, header_takes (reading_of content) y.0 y.1)
+    ok_length content (Ok h) e ok = let y = value_ok (header_at (reading_of content)) h e in omega
+        (arith, header_takes (reading_of content) y.0 y.1)
     ok_length content (Err d) e ok = absurd cc
 
 pub length-header_ok : (content : List ℕ) → 75 ≤ length content → IsOk (header_of content)
 length-header_ok content le = let x = header_long (reading_of content) le in rw x.1 refl
 
 -- what the fields give at the front of a content is its header
-pub is_header : (content : List ℕ) (front : Reading) (r : Result Header Short) (after : Reading) → front ≡ reading_of content → Reads (λ x. x) r after (header_at front) → r ≡ header_of content
+pub is_header : (content : List ℕ) (front : Reading) (r : Result Header Short) (after : Reading) → front ≡ reading_of content
+    → Reads (λ x. x) r after (header_at front) → r ≡ header_of content
 is_header content front (Ok h) after e reads = rw (← e, reads) refl
 is_header content front (Err d) after e reads = rw (← e, reads) refl

@@ -31,7 +31,8 @@ given : {A : Type 0} (x y : A × Reading) → (let told : A × Reading → Resul
 given x y e = cc
 
 -- so many values are read
-repeated-count : {A : Type 0} (count : ℕ) (read : Reading → Result (A × Reading) Offence) (r : Reading) (x : List A × Reading) → repeated count read r ≡ Ok x → length x.0 ≡ count
+repeated-count : {A : Type 0} (count : ℕ) (read : Reading → Result (A × Reading) Offence) (r : Reading) (x : List A × Reading)
+    → repeated count read r ≡ Ok x → length x.0 ≡ count
 unfolding repeated
 repeated-count {A} zero read r x e = ap (λ (y : List A × Reading). length y.0) (sym (given ([], r) x e))
 repeated-count {A} (suc count) read r x e =
@@ -55,7 +56,8 @@ HasCount (OfConfirm count) (Confirm votes) = length votes ≡ count
 HasCount (OfDiffer count) (Differ posts) = length posts ≡ count
 HasCount _ _ = ⊥
 
-held-count : {A : Type 0} (body : A → Body) (form : BodyForm) (read : Result (A × Reading) Offence) (x : Body × Reading) → ((y : A × Reading) → read ≡ Ok y → HasCount form (body y.0)) → held_in body read ≡ Ok x → HasCount form x.0
+held-count : {A : Type 0} (body : A → Body) (form : BodyForm) (read : Result (A × Reading) Offence) (x : Body × Reading)
+    → ((y : A × Reading) → read ≡ Ok y → HasCount form (body y.0)) → held_in body read ≡ Ok x → HasCount form x.0
 held-count body form read x each e =
     let y = bind_ok read (λ y. Ok (body y.0, y.1)) x e in
     subst (λ (x : Body × Reading). HasCount form x.0) (given (body y.0.0, y.0.1) x y.2) (each y.0 y.1)
@@ -65,15 +67,19 @@ unfolding body_at
 reveal-count count r x e =
     let votes = bind_ok (items_at Post count r) (λ votes. field_at 32 votes.1 >>= λ seed. Ok (Reveal votes.0 seed.0, seed.1)) x e in
     let seed = bind_ok (field_at 32 votes.0.1) (λ seed. Ok (Reveal votes.0.0 seed.0, seed.1)) x votes.2 in
-    subst (λ (x : Body × Reading). HasCount (OfReveal count) x.0) (given (Reveal votes.0.0 seed.0.0, seed.0.1) x seed.2) (repeated-count count (item_at Post) r votes.0 votes.1)
+    subst (λ (x : Body × Reading). HasCount (OfReveal count) x.0) (given (Reveal votes.0.0 seed.0.0, seed.0.1) x seed.2)
+    (repeated-count count (item_at Post) r votes.0 votes.1)
 
 dispute-count : (count : ℕ) (r : Reading) (x : Body × Reading) → body_at (OfDispute count) r ≡ Ok x → HasCount (OfDispute count) x.0
 unfolding body_at
 dispute-count count r x e =
-    let posts = bind_ok (items_at Post count r) (λ posts. field_at 32 posts.1 >>= λ seed. field_at 32 seed.1 >>= λ opening. Ok (Dispute posts.0 seed.0 opening.0, opening.1)) x e in
-    let seed = bind_ok (field_at 32 posts.0.1) (λ seed. field_at 32 seed.1 >>= λ opening. Ok (Dispute posts.0.0 seed.0 opening.0, opening.1)) x posts.2 in
+    let posts = bind_ok (items_at Post count r) (λ posts. field_at 32 posts.1 >>= λ seed. field_at 32 seed.1 >>= λ opening. Ok
+    (Dispute posts.0 seed.0 opening.0, opening.1)) x e in
+    let seed = bind_ok (field_at 32 posts.0.1) (λ seed. field_at 32 seed.1 >>= λ opening. Ok
+    (Dispute posts.0.0 seed.0 opening.0, opening.1)) x posts.2 in
     let opening = bind_ok (field_at 32 seed.0.1) (λ opening. Ok (Dispute posts.0.0 seed.0.0 opening.0, opening.1)) x seed.2 in
-    subst (λ (x : Body × Reading). HasCount (OfDispute count) x.0) (given (Dispute posts.0.0 seed.0.0 opening.0.0, opening.0.1) x opening.2) (repeated-count count (item_at Post) r posts.0 posts.1)
+    subst (λ (x : Body × Reading). HasCount (OfDispute count) x.0) (given (Dispute posts.0.0 seed.0.0 opening.0.0, opening.0.1) x opening.2)
+    (repeated-count count (item_at Post) r posts.0 posts.1)
 
 body-count : (form : BodyForm) (r : Reading) (x : Body × Reading) → body_at form r ≡ Ok x → HasCount form x.0
 unfolding body_at
@@ -86,8 +92,10 @@ body-count (OfReveal count) r x e = reveal-count count r x e
 body-count (OfDispute count) r x e = dispute-count count r x e
 body-count (OfPads count) r x e = held-count Pads (OfPads count) (items_at Pad count r) x (λ y is. tt) e
 body-count OfCheck r x e = held-count Check OfCheck (flag_at r) x (λ y is. tt) e
-body-count (OfConfirm count) r x e = held-count Confirm (OfConfirm count) (items_at Post count r) x (λ y is. repeated-count count (item_at Post) r y is) e
-body-count (OfDiffer count) r x e = held-count Differ (OfDiffer count) (items_at Post count r) x (λ y is. repeated-count count (item_at Post) r y is) e
+body-count (OfConfirm count) r x e = held-count Confirm (OfConfirm count) (items_at Post count r) x
+    (λ y is. repeated-count count (item_at Post) r y is) e
+body-count (OfDiffer count) r x e = held-count Differ (OfDiffer count) (items_at Post count r) x
+    (λ y is. repeated-count count (item_at Post) r y is) e
 
 -- ---- forms
 
@@ -113,23 +121,43 @@ HasForm shape h = (kind : ℕ) × (is_slot shape h.0.stage h.0.sender ≡ true) 
 head-form : (shape : Shape) (r : Reading) (x : (Header × BodyForm) × Reading) → head_at shape r ≡ Ok x → HasForm shape x.0
 unfolding head_at
 head-form shape r x e =
-    let h = bind_ok (fault_as cut (header_at r)) (λ header. unless (not (header.0.version == shape.version)) (offence 8 0) header.1 >>= λ version. unless (not (is_slot shape header.0.stage header.0.sender)) (offence 9 41) header.1 >>= λ slot. fault_as cut (number_at w8 header.1) >>= λ kind. ok_or (body_form shape header.0.stage kind.0) (offence 1 75) >>= λ form. Ok ((header.0, form), kind.1)) x e in
-    let v = bind_ok (unless (not (h.0.0.version == shape.version)) (offence 8 0) h.0.1) (λ version. unless (not (is_slot shape h.0.0.stage h.0.0.sender)) (offence 9 41) h.0.1 >>= λ slot. fault_as cut (number_at w8 h.0.1) >>= λ kind. ok_or (body_form shape h.0.0.stage kind.0) (offence 1 75) >>= λ form. Ok ((h.0.0, form), kind.1)) x h.2 in
-    let s = bind_ok (unless (not (is_slot shape h.0.0.stage h.0.0.sender)) (offence 9 41) h.0.1) (λ slot. fault_as cut (number_at w8 h.0.1) >>= λ kind. ok_or (body_form shape h.0.0.stage kind.0) (offence 1 75) >>= λ form. Ok ((h.0.0, form), kind.1)) x v.2 in
-    let k = bind_ok (fault_as cut (number_at w8 h.0.1)) (λ kind. ok_or (body_form shape h.0.0.stage kind.0) (offence 1 75) >>= λ form. Ok ((h.0.0, form), kind.1)) x s.2 in
+    let h = bind_ok (fault_as cut (header_at r)) (λ header. unless (not (header.0.version == shape.version)) (offence 8 0) header.1 >>= λ
+    version. unless (not (is_slot shape header.0.stage header.0.sender)) (offence 9 41) header.1 >>= λ slot. fault_as cut
+    (number_at w8 header.1) >>= λ kind. ok_or (body_form shape header.0.stage kind.0) (offence 1 75) >>= λ form. Ok
+    ((header.0, form), kind.1)) x e in
+    let v = bind_ok (unless (not (h.0.0.version == shape.version)) (offence 8 0) h.0.1)
+    (λ version. unless (not (is_slot shape h.0.0.stage h.0.0.sender)) (offence 9 41) h.0.1 >>= λ slot. fault_as cut (number_at w8 h.0.1)
+    >>= λ kind. ok_or (body_form shape h.0.0.stage kind.0) (offence 1 75) >>= λ form. Ok ((h.0.0, form), kind.1)) x h.2 in
+    let s = bind_ok (unless (not (is_slot shape h.0.0.stage h.0.0.sender)) (offence 9 41) h.0.1)
+    (λ slot. fault_as cut (number_at w8 h.0.1) >>= λ kind. ok_or (body_form shape h.0.0.stage kind.0) (offence 1 75) >>= λ form. Ok
+    ((h.0.0, form), kind.1)) x v.2 in
+    let k = bind_ok (fault_as cut (number_at w8 h.0.1)) (λ kind. ok_or (body_form shape h.0.0.stage kind.0) (offence 1 75) >>= λ form. Ok
+    ((h.0.0, form), kind.1)) x s.2 in
     let f = bind_ok (ok_or (body_form shape h.0.0.stage k.0.0) (offence 1 75)) (λ form. Ok ((h.0.0, form), k.0.1)) x k.2 in
     let slot = not-false _ (guard_ok (not (is_slot shape h.0.0.stage h.0.0.sender)) (offence 9 41) h.0.1 s.0 s.1).0 in
-    subst (λ (x : (Header × BodyForm) × Reading). HasForm shape x.0) (given ((h.0.0, f.0), k.0.1) x f.2) (k.0.0, slot, refused-some _ _ f.0 f.1)
+    subst (λ (x : (Header × BodyForm) × Reading). HasForm shape x.0) (given ((h.0.0, f.0), k.0.1) x f.2)
+    (k.0.0, slot, refused-some _ _ f.0 f.1)
 
 pub content-form : (shape : Shape) (bytes : List ℕ) (c : Content) → content_read shape bytes ≡ Ok c → IsReadAs shape c
 unfolding content_read
 content-form shape bytes c e =
-    let w = bind_ok (unless (nat_lt (length bytes) 76) (offence 7 (length bytes)) (reading_of bytes)) (λ whole. head_at shape (reading_of bytes) >>= λ head. body_at head.0.1 head.1 >>= λ body. unless (nat_lt 0 (length body.1.rest)) (offence 3 body.1.place) (record { header = head.0.0; body = body.0 })) c e in
-    let h = bind_ok (head_at shape (reading_of bytes)) (λ head. body_at head.0.1 head.1 >>= λ body. unless (nat_lt 0 (length body.1.rest)) (offence 3 body.1.place) (record { header = head.0.0; body = body.0 })) c w.2 in
-    let b = bind_ok (body_at h.0.0.1 h.0.1) (λ body. unless (nat_lt 0 (length body.1.rest)) (offence 3 body.1.place) (record { header = h.0.0.0; body = body.0 })) c h.2 in
+    let w = bind_ok (unless (nat_lt (length bytes) 76) (offence 7 (length bytes)) (reading_of bytes))
+    (λ whole. head_at shape (reading_of bytes) >>= λ head. body_at head.0.1 head.1 >>= λ body. unless (nat_lt 0 (length body.1.rest))
+    (offence 3 body.1.place) (record { header = head.0.0; body = body.0 })) c e in
+    let h = bind_ok (head_at shape (reading_of bytes)) (λ head. body_at head.0.1 head.1 >>= λ body. unless (nat_lt 0 (length body.1.rest))
+    (offence 3 body.1.place) (record { header = head.0.0; body = body.0 })) c w.2 in
+    let b = bind_ok (body_at h.0.0.1 h.0.1) (λ body. unless (nat_lt 0 (length body.1.rest)) (offence 3 body.1.place)
+    (record { header = h.0.0.0; body = body.0 })) c h.2 in
     let ended = guard_ok (nat_lt 0 (length b.0.1.rest)) (offence 3 b.0.1.place) (record { header = h.0.0.0; body = b.0.0 }) c b.2 in
     let has = head-form shape (reading_of bytes) h.0 h.1 in
-    subst (IsReadAs shape) ended.1 (record { form = h.0.0.1; kind = has.0; slot = has.1; form_is = has.2; counts = body-count h.0.0.1 h.0.1 b.0 b.1 })
+    subst (IsReadAs shape) ended.1 (record {
+      form = h.0.0.1;
+      kind = has.0;
+      slot = has.1;
+      form_is = has.2;
+      counts = body-count h.0.0.1 h.0.1
+          b.0 b.1;
+    })
 
 -- ---- closing stages
 
@@ -142,29 +170,36 @@ only-form number form kind found e = by-test (kind == number) e
     by-test false e = absurd cc
 
 -- one of two forms
-pub either-form : (number : ℕ) (form : BodyForm) (other_number : ℕ) (other : BodyForm) (kind : ℕ) (found : BodyForm) → either number form other_number other kind ≡ Some found → (found ≡ form) ⊎ (found ≡ other)
+pub either-form : (number : ℕ) (form : BodyForm) (other_number : ℕ) (other : BodyForm) (kind : ℕ) (found : BodyForm)
+    → either number form other_number other kind ≡ Some found → (found ≡ form) ⊎ (found ≡ other)
 either-form number form other_number other kind found e = elim (cases_Bool (kind == number)) [
   | inl is ↦ inl (same _ _ (sym e ∙ cond-true (kind == number) (Some form) (only other_number other kind) is))
-  | inr not_it ↦ inr (only-form other_number other kind found (sym (cond-false (kind == number) (Some form) (only other_number other kind) not_it) ∙ e))
+  | inr not_it ↦ inr (only-form other_number other kind found (sym
+      (cond-false (kind == number) (Some form) (only other_number other kind) not_it) ∙ e))
 ]
   where
     same : (x y : BodyForm) → (let told : BodyForm → Option BodyForm = λ z. Some z in told x ≡ told y) → x ≡ y
     same x y e = cc
 
 -- what stands at the end of a shuffle, and what stands behind the checks
-final-forms : (shape : Shape) (stage shuffle kind : ℕ) (form : BodyForm) → kind_of_stage shape stage ≡ Some (AtFinal shuffle) → body_form shape stage kind ≡ Some form
+final-forms : (shape : Shape) (stage shuffle kind : ℕ) (form : BodyForm) → kind_of_stage shape stage ≡ Some (AtFinal shuffle)
+    → body_form shape stage kind ≡ Some form
     → (form ≡ OfReveal shape.members) ⊎ (form ≡ OfDispute (slots_before shape stage))
 unfolding body_form
 final-forms shape stage shuffle kind form is e =
-    either-form 6 (OfReveal shape.members) 7 (OfDispute (slots_before shape stage)) kind form (sym (ap (λ (o : Option StageKind). form_of shape (slots_before shape stage) o kind) is) ∙ e)
+    either-form 6 (OfReveal shape.members) 7 (OfDispute (slots_before shape stage)) kind form
+    (sym (ap (λ (o : Option StageKind). form_of shape (slots_before shape stage) o kind) is) ∙ e)
 
-confirm-forms : (shape : Shape) (stage kind : ℕ) (form : BodyForm) → kind_of_stage shape stage ≡ Some AtConfirm → body_form shape stage kind ≡ Some form
+confirm-forms : (shape : Shape) (stage kind : ℕ) (form : BodyForm) → kind_of_stage shape stage ≡ Some AtConfirm
+    → body_form shape stage kind ≡ Some form
     → (form ≡ OfConfirm shape.members) ⊎ (form ≡ OfDiffer (slots_before shape stage))
 unfolding body_form
 confirm-forms shape stage kind form is e =
-    either-form 10 (OfConfirm shape.members) 11 (OfDiffer (slots_before shape stage)) kind form (sym (ap (λ (o : Option StageKind). form_of shape (slots_before shape stage) o kind) is) ∙ e)
+    either-form 10 (OfConfirm shape.members) 11 (OfDiffer (slots_before shape stage)) kind form
+    (sym (ap (λ (o : Option StageKind). form_of shape (slots_before shape stage) o kind) is) ∙ e)
 
-reveals : (shape : Shape) (stage shuffle : ℕ) (form : BodyForm) (body : Body) → HasCount form body → (form ≡ OfReveal shape.members) ⊎ (form ≡ OfDispute (slots_before shape stage)) → IsClosingBody shape stage (AtFinal shuffle) body
+reveals : (shape : Shape) (stage shuffle : ℕ) (form : BodyForm) (body : Body) → HasCount form body → (form ≡ OfReveal shape.members)
+    ⊎ (form ≡ OfDispute (slots_before shape stage)) → IsClosingBody shape stage (AtFinal shuffle) body
 reveals shape stage shuffle form body counts (inl is) = reveal_is body (subst (λ (f : BodyForm). HasCount f body) is counts)
   where
     reveal_is : (body : Body) → HasCount (OfReveal shape.members) body → IsClosingBody shape stage (AtFinal shuffle) body
@@ -176,7 +211,8 @@ reveals shape stage shuffle form body counts (inr is) = dispute_is body (subst (
     dispute_is (Dispute posts seed opening) counts = counts
     dispute_is _ counts = absurd counts
 
-confirms : (shape : Shape) (stage : ℕ) (form : BodyForm) (body : Body) → HasCount form body → (form ≡ OfConfirm shape.members) ⊎ (form ≡ OfDiffer (slots_before shape stage)) → IsClosingBody shape stage AtConfirm body
+confirms : (shape : Shape) (stage : ℕ) (form : BodyForm) (body : Body) → HasCount form body → (form ≡ OfConfirm shape.members)
+    ⊎ (form ≡ OfDiffer (slots_before shape stage)) → IsClosingBody shape stage AtConfirm body
 confirms shape stage form body counts (inl is) = confirm_is body (subst (λ (f : BodyForm). HasCount f body) is counts)
   where
     confirm_is : (body : Body) → HasCount (OfConfirm shape.members) body → IsClosingBody shape stage AtConfirm body
@@ -194,9 +230,12 @@ closings_are_read shape bytes c kind vote e is closes = by_kind kind is closes
     read : IsReadAs shape c
     read = content-form shape bytes c e
 
-    by_kind : (kind : StageKind) → kind_of_stage shape c.header.stage ≡ Some kind → vote_of kind ≡ Some vote → IsClosingBody shape c.header.stage kind c.body
-    by_kind (AtFinal shuffle) is closes = reveals shape c.header.stage shuffle read.form c.body read.counts (final-forms shape c.header.stage shuffle read.kind read.form is read.form_is)
-    by_kind AtConfirm is closes = confirms shape c.header.stage read.form c.body read.counts (confirm-forms shape c.header.stage read.kind read.form is read.form_is)
+    by_kind : (kind : StageKind) → kind_of_stage shape c.header.stage ≡ Some kind → vote_of kind ≡ Some vote
+        → IsClosingBody shape c.header.stage kind c.body
+    by_kind (AtFinal shuffle) is closes = reveals shape c.header.stage shuffle read.form c.body read.counts
+        (final-forms shape c.header.stage shuffle read.kind read.form is read.form_is)
+    by_kind AtConfirm is closes = confirms shape c.header.stage read.form c.body read.counts
+        (confirm-forms shape c.header.stage read.kind read.form is read.form_is)
     by_kind AtKeys is closes = absurd cc
     by_kind (AtSubmit shuffle) is closes = absurd cc
     by_kind (AtShuffle shuffle k) is closes = absurd cc

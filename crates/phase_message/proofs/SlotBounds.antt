@@ -18,9 +18,14 @@ abbrev AreBounded : ℕ → List StageKind → Type 0
 AreBounded n [] = Unit {0}
 AreBounded n (kind ∷ kinds) = IsBounded n kind × AreBounded n kinds
 
-turns-bounded : (n shuffle a m : ℕ) (kinds : List StageKind) → 1 ≤ a → a + m ≤ n + 1 → AreBounded n kinds → AreBounded n (map (λ k. Shuffle shuffle k) (range_with_len a m) ++ kinds)
+turns-bounded : (n shuffle a m : ℕ) (kinds : List StageKind) → 1 ≤ a → a + m ≤ n + 1 → AreBounded n kinds
+    → AreBounded n (map (λ k. Shuffle shuffle k) (range_with_len a m) ++ kinds)
 turns-bounded n shuffle a zero kinds least most rest = rest
-turns-bounded n shuffle a (suc m) kinds least most rest = ((least, omega (arith, most)), turns-bounded n shuffle (a + 1) m kinds (omega arith) (omega (arith, most)) rest)
+turns-bounded n shuffle a (suc m) kinds least most rest = (
+  (least, omega (arith, most)),
+  turns-bounded n shuffle (a + 1) m kinds
+      (omega arith) (omega (arith, most)) rest,
+)
 
 stages-bounded : (shape : Shape) → AreBounded shape.members (stages shape)
 stages-bounded shape =
@@ -34,19 +39,22 @@ stages-bounded shape =
     middle : List StageKind
     middle = Go 1 ∷ Final 1 ∷ Pad ∷ Check ∷ Confirm ∷ Submit 2 ∷ []
 
-bounded-at : (n : ℕ) (kinds : List StageKind) (i : ℕ) (kind : StageKind) → AreBounded n kinds → slice_get kinds i ≡ Some kind → IsBounded n kind
+bounded-at : (n : ℕ) (kinds : List StageKind) (i : ℕ) (kind : StageKind) → AreBounded n kinds → slice_get kinds i ≡ Some kind
+    → IsBounded n kind
 bounded-at n [] i kind all e = absurd cc
 bounded-at n (first ∷ kinds) zero kind all e = let same : first ≡ kind = cc in subst (λ (k : StageKind). IsBounded n k) same all.0
 bounded-at n (first ∷ kinds) (suc i) kind all e = bounded-at n kinds i kind all.1 e
 
 -- a slot's stage is one of the round, and its sender a member
-pub slot-bounds : (shape : Shape) (stage sender : ℕ) → is_slot shape stage sender ≡ true → (stage < stage_count shape) × (1 ≤ sender) × (sender ≤ shape.members)
+pub slot-bounds : (shape : Shape) (stage sender : ℕ) → is_slot shape stage sender ≡ true → (stage < stage_count shape) × (1 ≤ sender)
+    × (sender ≤ shape.members)
 slot-bounds shape stage sender speaks_there = by_kind (kind_of_stage shape stage) refl
   where
     member : (n : ℕ) → is_sender shape Keys sender ≡ true → (1 ≤ sender) × (sender ≤ shape.members)
     member n e = let parts = and_parts _ _ e in (leb-true _ _ parts.0, leb-true _ _ parts.1)
 
-    by_sender : (kind : StageKind) → IsBounded shape.members kind → is_sender shape kind sender ≡ true → (1 ≤ sender) × (sender ≤ shape.members)
+    by_sender : (kind : StageKind) → IsBounded shape.members kind → is_sender shape kind sender ≡ true → (1 ≤ sender)
+        × (sender ≤ shape.members)
     by_sender (Shuffle shuffle k) bounded e = let same : sender ≡ k = eqb-true _ _ e in (omega (arith, bounded.0), omega (arith, bounded.1))
     by_sender Keys bounded e = member 0 e
     by_sender (Submit shuffle) bounded e = member 0 e

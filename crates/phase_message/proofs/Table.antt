@@ -17,7 +17,8 @@ pub slice_get_right : {A : Type 0} (xs ys : List A) (k : ℕ) → slice_get (xs 
 slice_get_right [] ys k = let e : 0 + k ≡ k = omega arith in rw e refl
 slice_get_right (x ∷ xs) ys k = let e : suc (length xs) + k ≡ suc (length xs + k) = omega arith in rw e (slice_get_right xs ys k)
 
-turn_from : (shuffle a n i k : ℕ) → i < n → k ≡ a + i → slice_get (map (λ m. Shuffle shuffle m) (range_with_len a n)) i ≡ Some (Shuffle shuffle k)
+turn_from : (shuffle a n i k : ℕ) → i < n → k ≡ a + i → slice_get (map (λ m. Shuffle shuffle m) (range_with_len a n)) i ≡ Some
+    (Shuffle shuffle k)
 turn_from shuffle a zero i k lt e = absurd (omega arith)
 turn_from shuffle a (suc n) zero k lt e = let same : k ≡ a = omega arith in rw same refl
 turn_from shuffle a (suc n) (suc i) k lt e = turn_from shuffle (a + 1) n i k (omega arith) (omega arith)
@@ -36,7 +37,8 @@ pub turn_a : (shape : Shape) (stage k : ℕ) → stage ≡ k + 1 → 1 ≤ k →
 turn_a shape stage k e least most =
     let place : stage ≡ suc (suc (k - 1)) = omega arith in
     let long = length-map-range_with_len (λ m. Shuffle 1 m) 1 shape.members in
-    rw place (slice_get_left (turns 1 shape.members) (from_go shape.members) (k - 1) (omega arith) ∙ turn_from 1 1 shape.members (k - 1) k (omega arith) (omega arith))
+    rw place (slice_get_left (turns 1 shape.members) (from_go shape.members) (k - 1) (omega arith)
+    ∙ turn_from 1 1 shape.members (k - 1) k (omega arith) (omega arith))
 
 behind_a : (shape : Shape) (stage k : ℕ) → stage ≡ shape.members + 2 + k → kind_of_stage shape stage ≡ slice_get (from_go shape.members) k
 behind_a shape stage k e =
@@ -44,7 +46,8 @@ behind_a shape stage k e =
     let place : stage ≡ suc (suc (length (turns 1 shape.members) + k)) = omega arith in
     rw place (slice_get_right (turns 1 shape.members) (from_go shape.members) k)
 
-pub turn_b : (shape : Shape) (stage k : ℕ) → stage ≡ shape.members + 7 + k → 1 ≤ k → k ≤ shape.members → kind_of_stage shape stage ≡ Some (Shuffle 2 k)
+pub turn_b : (shape : Shape) (stage k : ℕ) → stage ≡ shape.members + 7 + k → 1 ≤ k → k ≤ shape.members
+    → kind_of_stage shape stage ≡ Some (Shuffle 2 k)
 turn_b shape stage k e least most =
     let long = length-map-range_with_len (λ m. Shuffle 2 m) 1 shape.members in
     let place : 5 + k ≡ 6 + (k - 1) = omega arith in

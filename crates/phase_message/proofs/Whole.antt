@@ -34,17 +34,58 @@ made x y e = cc
 header-takes : (r : Reading) (x : Header × Reading) → IsBytes r.rest → header_at r ≡ Ok x → Takes (header_text x.0) r x.1 × HasWidths x.0
 unfolding header_at
 header-takes r x bytes e =
-    let a = bind_ok (number_at w8 r) (λ version. bytes_at 32 version.1 >>= λ group. number_at w64 group.1 >>= λ round. number_at w8 round.1 >>= λ stage. number_at w8 stage.1 >>= λ sender. bytes_at 32 sender.1 >>= λ view. Ok (record { version = version.0; group = group.0; round = round.0; stage = stage.0; sender = sender.0; view = view.0 }, view.1)) x e in
-    let b = bind_ok (bytes_at 32 a.0.1) (λ group. number_at w64 group.1 >>= λ round. number_at w8 round.1 >>= λ stage. number_at w8 stage.1 >>= λ sender. bytes_at 32 sender.1 >>= λ view. Ok (record { version = a.0.0; group = group.0; round = round.0; stage = stage.0; sender = sender.0; view = view.0 }, view.1)) x a.2 in
-    let c = bind_ok (number_at w64 b.0.1) (λ round. number_at w8 round.1 >>= λ stage. number_at w8 stage.1 >>= λ sender. bytes_at 32 sender.1 >>= λ view. Ok (record { version = a.0.0; group = b.0.0; round = round.0; stage = stage.0; sender = sender.0; view = view.0 }, view.1)) x b.2 in
-    let d = bind_ok (number_at w8 c.0.1) (λ stage. number_at w8 stage.1 >>= λ sender. bytes_at 32 sender.1 >>= λ view. Ok (record { version = a.0.0; group = b.0.0; round = c.0.0; stage = stage.0; sender = sender.0; view = view.0 }, view.1)) x c.2 in
-    let f = bind_ok (number_at w8 d.0.1) (λ sender. bytes_at 32 sender.1 >>= λ view. Ok (record { version = a.0.0; group = b.0.0; round = c.0.0; stage = d.0.0; sender = sender.0; view = view.0 }, view.1)) x d.2 in
-    let g = bind_ok (bytes_at 32 f.0.1) (λ view. Ok (record { version = a.0.0; group = b.0.0; round = c.0.0; stage = d.0.0; sender = f.0.0; view = view.0 }, view.1)) x f.2 in
+    let a = bind_ok (number_at w8 r) (λ version. bytes_at 32 version.1 >>= λ group. number_at w64 group.1 >>= λ round. number_at w8 round.1
+    >>= λ stage. number_at w8 stage.1 >>= λ sender. bytes_at 32 sender.1 >>= λ view. Ok
+    (record { version = version.0; group = group.0; round = round.0; stage = stage.0; sender = sender.0; view = view.0 }, view.1)) x e
+    in
+    let b = bind_ok (bytes_at 32 a.0.1) (λ group. number_at w64 group.1 >>= λ round. number_at w8 round.1 >>= λ stage. number_at w8 stage.1
+    >>= λ sender. bytes_at 32 sender.1 >>= λ view. Ok (
+      record
+          { version = a.0.0; group = group.0; round = round.0; stage = stage.0; sender = sender.0; view = view.0 },
+      view.1,
+    )) x a.2 in
+    let c = bind_ok (number_at w64 b.0.1) (λ round. number_at w8 round.1 >>= λ stage. number_at w8 stage.1 >>= λ sender. bytes_at 32
+    sender.1 >>= λ view. Ok (
+      record {
+        version = a.0.0;
+        group = b.0.0;
+        round = round.0;
+        stage = stage.0;
+        sender = sender.0;
+        view = view.0;
+      },
+      view.1,
+    )) x b.2 in
+    let d = bind_ok (number_at w8 c.0.1) (λ stage. number_at w8 stage.1 >>= λ sender. bytes_at 32 sender.1 >>= λ view. Ok
+    (record { version = a.0.0; group = b.0.0; round = c.0.0; stage = stage.0; sender = sender.0; view = view.0 }, view.1)) x c.2 in
+    let f = bind_ok (number_at w8 d.0.1) (λ sender. bytes_at 32 sender.1 >>= λ view. Ok
+    (record { version = a.0.0; group = b.0.0; round = c.0.0; stage = d.0.0; sender = sender.0; view = view.0 }, view.1)) x d.2 in
+    let g = bind_ok (bytes_at 32 f.0.1) (λ view. Ok (
+      record {
+        version = a.0.0;
+        group = b.0.0;
+        round = c.0.0;
+        stage = d.0.0;
+        sender = f.0.0;
+        view = view.0;
+      },
+      view.1,
+    )) x f.2 in
     let same = made (record { version = a.0.0; group = b.0.0; round = c.0.0; stage = d.0.0; sender = f.0.0; view = g.0.0 }, g.0.1) x g.2 in
     let read = fields-take r a.0 b.0 c.0 d.0 f.0 g.0 bytes a.1 b.1 c.1 d.1 f.1 g.1 in
     subst (λ (x : Header × Reading). Takes (header_text x.0) r x.1 × HasWidths x.0) same read
   where
-    fields-take : (r : Reading) (a : ℕ × Reading) (b : List ℕ × Reading) (c d f : ℕ × Reading) (g : List ℕ × Reading) → IsBytes r.rest → number_at w8 r ≡ Ok a → bytes_at 32 a.1 ≡ Ok b → number_at w64 b.1 ≡ Ok c → number_at w8 c.1 ≡ Ok d → number_at w8 d.1 ≡ Ok f → bytes_at 32 f.1 ≡ Ok g → Takes (header_text (record { version = a.0; group = b.0; round = c.0; stage = d.0; sender = f.0; view = g.0 })) r g.1 × HasWidths (record { version = a.0; group = b.0; round = c.0; stage = d.0; sender = f.0; view = g.0 })
+    fields-take : (r : Reading) (a : ℕ × Reading) (b : List ℕ × Reading) (c d f : ℕ × Reading) (g : List ℕ × Reading) → IsBytes r.rest
+        → number_at w8 r ≡ Ok a → bytes_at 32 a.1 ≡ Ok b → number_at w64 b.1 ≡ Ok c → number_at w8 c.1 ≡ Ok d → number_at w8 d.1 ≡ Ok f
+        → bytes_at 32 f.1 ≡ Ok g → Takes (header_text (record {
+          version = a.0;
+          group = b.0;
+          round = c.0;
+          stage = d.0;
+          sender = f.0;
+          view =
+              g.0;
+        })) r g.1 × HasWidths (record { version = a.0; group = b.0; round = c.0; stage = d.0; sender = f.0; view = g.0 })
     fields-take r a b c d f g bytes ea eb ec ed ef eg =
         let version = number_at-takes_1 r a bytes ea in
         let left_1 : IsBytes a.1.rest = (Takes-bytes (a.0 ∷ []) r a.1 version.0 bytes).1 in
@@ -59,23 +100,29 @@ header-takes r x bytes e =
         let last = Takes-append (f.0 ∷ []) g.0 d.1 f.1 g.1 sender.0 view.0 in
         let last_3 = Takes-append (d.0 ∷ []) ((f.0 ∷ []) ++ g.0) c.1 d.1 g.1 stage.0 last in
         let last_4 = Takes-append (to_be_bytes w64 c.0) ((d.0 ∷ []) ++ ((f.0 ∷ []) ++ g.0)) b.1 c.1 g.1 round.0 last_3 in
-        let last_5 = Takes-append b.0 (to_be_bytes w64 c.0 ++ ((d.0 ∷ []) ++ ((f.0 ∷ []) ++ g.0))) a.1 b.1 g.1 group.0 last_4 in
-        (Takes-append (a.0 ∷ []) (b.0 ++ (to_be_bytes w64 c.0 ++ ((d.0 ∷ []) ++ ((f.0 ∷ []) ++ g.0)))) r a.1 g.1 version.0 last_5, record { group_long = group.1; round_small = round.1; view_long = view.1 })
+        let last_5 = Takes-append b.0 (to_be_bytes w64 c.0 ++ ((d.0 ∷ []) ++ ((f.0 ∷ []) ++ g.0))) a.1 b.1 g.1 group.0 last_4 in (
+          Takes-append (a.0 ∷ []) (b.0 ++ (to_be_bytes w64 c.0 ++ ((d.0 ∷ []) ++ ((f.0 ∷ []) ++ g.0)))) r a.1 g.1 version.0 last_5,
+          record
+              { group_long = group.1; round_small = round.1; view_long = view.1 },
+        )
 
-header-again : (h : Header) (place : ℕ) (rest : List ℕ) → HasWidths h → header_at (reading_at place (header_text h ++ rest)) ≡ Ok (h, reading_at (place + length (header_text h)) rest)
+header-again : (h : Header) (place : ℕ) (rest : List ℕ) → HasWidths h
+    → header_at (reading_at place (header_text h ++ rest)) ≡ Ok (h, reading_at (place + length (header_text h)) rest)
 unfolding header_at
 header-again h place rest fits =
     let told : ℕ → Result (Header × Reading) Short = λ k. Ok (h, reading_at k rest) in
     let round : List ℕ = to_be_bytes w64 h.round in
     let last : List ℕ = h.stage ∷ (h.sender ∷ h.view) in
-    let text : (h.group ++ (round ++ last)) ++ rest ≡ h.group ++ (round ++ (last ++ rest)) = append_assoc h.group (round ++ last) rest ∙ ap (λ (t : List ℕ). h.group ++ t) (append_assoc round last rest) in
+    let text : (h.group ++ (round ++ last)) ++ rest ≡ h.group ++ (round ++ (last ++ rest)) = append_assoc h.group (round ++ last) rest
+    ∙ ap (λ (t : List ℕ). h.group ++ t) (append_assoc round last rest) in
     let e0 = number_at-again_1 h.version place (h.group ++ (round ++ (last ++ rest))) in
     let e1 = bytes_at-again 32 h.group (round ++ (last ++ rest)) (place + 1) fits.group_long in
     let e2 = number_at-again_8 h.round (place + 1 + 32) (last ++ rest) fits.round_small in
     let e3 = number_at-again_1 h.stage (place + 1 + 32 + 8) (h.sender ∷ (h.view ++ rest)) in
     let e4 = number_at-again_1 h.sender (place + 1 + 32 + 8 + 1) (h.view ++ rest) in
     let e5 = bytes_at-again 32 h.view rest (place + 1 + 32 + 8 + 1 + 1) fits.view_long in
-    let ends : place + 1 + 32 + 8 + 1 + 1 + 32 ≡ place + length (header_text h) = omega (arith, length-append h.group (round ++ last), length-append round last, fits.group_long, fits.view_long) in
+    let ends : place + 1 + 32 + 8 + 1 + 1 + 32 ≡ place + length (header_text h) = omega
+    (arith, length-append h.group (round ++ last), length-append round last, fits.group_long, fits.view_long) in
     rw (text, e0, e1, e2, e3, e4, e5) (ap told ends)
 
 -- ---- kinds
@@ -103,7 +150,8 @@ only-number number kind form f is e =
       | inr next ↦ absurd (let e : None ≡ Some f = next.1 in cc)
     ]
 
-either-number : (number other_number kind : ℕ) (form other f : BodyForm) → form_number form ≡ number → form_number other ≡ other_number → either number form other_number other kind ≡ Some f → kind ≡ form_number f
+either-number : (number other_number kind : ℕ) (form other f : BodyForm) → form_number form ≡ number → form_number other ≡ other_number
+    → either number form other_number other kind ≡ Some f → kind ≡ form_number f
 either-number number other_number kind form other f is other_is e =
     elim (chosen (kind == number) (Some form) (only other_number other kind) (Some f) e) [
       | inl here ↦
@@ -112,17 +160,20 @@ either-number number other_number kind form other f is other_is e =
       | inr next ↦ only-number other_number kind other f other_is next.1
     ]
 
-in-number : (shape : Shape) (before : ℕ) (stage : StageKind) (kind : ℕ) (f : BodyForm) → form_in shape before stage kind ≡ Some f → kind ≡ form_number f
+in-number : (shape : Shape) (before : ℕ) (stage : StageKind) (kind : ℕ) (f : BodyForm) → form_in shape before stage kind ≡ Some f
+    → kind ≡ form_number f
 in-number shape before AtKeys kind f e = only-number 1 kind OfKeys f refl e
 in-number shape before (AtSubmit shuffle) kind f e = only-number 2 kind (OfSubmit (level shape.members shuffle 0)) f refl e
-in-number shape before (AtShuffle shuffle k) kind f e = either-number 3 4 kind (OfShuffled shape.members (level shape.members shuffle k)) OfAbort f refl refl e
+in-number shape before (AtShuffle shuffle k) kind f e = either-number 3 4 kind (OfShuffled shape.members (level shape.members shuffle k))
+    OfAbort f refl refl e
 in-number shape before (AtGo shuffle) kind f e = only-number 5 kind OfGo f refl e
 in-number shape before (AtFinal shuffle) kind f e = either-number 6 7 kind (OfReveal shape.members) (OfDispute before) f refl refl e
 in-number shape before AtPad kind f e = only-number 8 kind (OfPads shape.members) f refl e
 in-number shape before AtCheck kind f e = only-number 9 kind OfCheck f refl e
 in-number shape before AtConfirm kind f e = either-number 10 11 kind (OfConfirm shape.members) (OfDiffer before) f refl refl e
 
-of-number : (shape : Shape) (before : ℕ) (o : Option StageKind) (kind : ℕ) (f : BodyForm) → form_of shape before o kind ≡ Some f → kind ≡ form_number f
+of-number : (shape : Shape) (before : ℕ) (o : Option StageKind) (kind : ℕ) (f : BodyForm) → form_of shape before o kind ≡ Some f
+    → kind ≡ form_number f
 of-number shape before None kind f e = absurd cc
 of-number shape before (Some stage) kind f e = in-number shape before stage kind f e
 
@@ -158,22 +209,34 @@ given : {A : Type 0} (x y : A × Reading) → (let told : A × Reading → Resul
 given x y e = cc
 
 abbrev IsHead : Shape → Reading → (Header × BodyForm) × Reading → Type 0
-IsHead shape r x = Takes (header_text x.0.0 ++ (form_number x.0.1 ∷ [])) r x.1 × IsHeader shape x.0.0 × (body_form shape x.0.0.stage (form_number x.0.1) ≡ Some x.0.1)
+IsHead shape r x = Takes (header_text x.0.0 ++ (form_number x.0.1 ∷ [])) r x.1 × IsHeader shape x.0.0
+    × (body_form shape x.0.0.stage (form_number x.0.1) ≡ Some x.0.1)
 
 head-takes : (shape : Shape) (r : Reading) (x : (Header × BodyForm) × Reading) → IsBytes r.rest → head_at shape r ≡ Ok x → IsHead shape r x
 unfolding head_at
 head-takes shape r x bytes e =
-    let h = bind_ok (fault_as cut (header_at r)) (λ header. unless (not (header.0.version == shape.version)) (offence 8 0) header.1 >>= λ version. unless (not (is_slot shape header.0.stage header.0.sender)) (offence 9 41) header.1 >>= λ slot. fault_as cut (number_at w8 header.1) >>= λ kind. ok_or (body_form shape header.0.stage kind.0) (offence 1 75) >>= λ form. Ok ((header.0, form), kind.1)) x e in
-    let v = bind_ok (unless (not (h.0.0.version == shape.version)) (offence 8 0) h.0.1) (λ version. unless (not (is_slot shape h.0.0.stage h.0.0.sender)) (offence 9 41) h.0.1 >>= λ slot. fault_as cut (number_at w8 h.0.1) >>= λ kind. ok_or (body_form shape h.0.0.stage kind.0) (offence 1 75) >>= λ form. Ok ((h.0.0, form), kind.1)) x h.2 in
-    let s = bind_ok (unless (not (is_slot shape h.0.0.stage h.0.0.sender)) (offence 9 41) h.0.1) (λ slot. fault_as cut (number_at w8 h.0.1) >>= λ kind. ok_or (body_form shape h.0.0.stage kind.0) (offence 1 75) >>= λ form. Ok ((h.0.0, form), kind.1)) x v.2 in
-    let k = bind_ok (fault_as cut (number_at w8 h.0.1)) (λ kind. ok_or (body_form shape h.0.0.stage kind.0) (offence 1 75) >>= λ form. Ok ((h.0.0, form), kind.1)) x s.2 in
+    let h = bind_ok (fault_as cut (header_at r)) (λ header. unless (not (header.0.version == shape.version)) (offence 8 0) header.1 >>= λ
+    version. unless (not (is_slot shape header.0.stage header.0.sender)) (offence 9 41) header.1 >>= λ slot. fault_as cut
+    (number_at w8 header.1) >>= λ kind. ok_or (body_form shape header.0.stage kind.0) (offence 1 75) >>= λ form. Ok
+    ((header.0, form), kind.1)) x e in
+    let v = bind_ok (unless (not (h.0.0.version == shape.version)) (offence 8 0) h.0.1)
+    (λ version. unless (not (is_slot shape h.0.0.stage h.0.0.sender)) (offence 9 41) h.0.1 >>= λ slot. fault_as cut (number_at w8 h.0.1)
+    >>= λ kind. ok_or (body_form shape h.0.0.stage kind.0) (offence 1 75) >>= λ form. Ok ((h.0.0, form), kind.1)) x h.2 in
+    let s = bind_ok (unless (not (is_slot shape h.0.0.stage h.0.0.sender)) (offence 9 41) h.0.1)
+    (λ slot. fault_as cut (number_at w8 h.0.1) >>= λ kind. ok_or (body_form shape h.0.0.stage kind.0) (offence 1 75) >>= λ form. Ok
+    ((h.0.0, form), kind.1)) x v.2 in
+    let k = bind_ok (fault_as cut (number_at w8 h.0.1)) (λ kind. ok_or (body_form shape h.0.0.stage kind.0) (offence 1 75) >>= λ form. Ok
+    ((h.0.0, form), kind.1)) x s.2 in
     let f = bind_ok (ok_or (body_form shape h.0.0.stage k.0.0) (offence 1 75)) (λ form. Ok ((h.0.0, form), k.0.1)) x k.2 in
     let version = not-false _ (guard_ok (not (h.0.0.version == shape.version)) (offence 8 0) h.0.1 v.0 v.1).0 in
     let slot = not-false _ (guard_ok (not (is_slot shape h.0.0.stage h.0.0.sender)) (offence 9 41) h.0.1 s.0 s.1).0 in
     subst (IsHead shape r) (given ((h.0.0, f.0), k.0.1) x f.2)
-    (parts shape r h.0 k.0 f.0 bytes (fault_as_ok cut (header_at r) h.0 h.1) (fault_as_ok cut (number_at w8 h.0.1) k.0 k.1) version slot (refused-some _ _ f.0 f.1))
+    (parts shape r h.0 k.0 f.0 bytes (fault_as_ok cut (header_at r) h.0 h.1) (fault_as_ok cut (number_at w8 h.0.1) k.0 k.1) version slot
+    (refused-some _ _ f.0 f.1))
   where
-    parts : (shape : Shape) (r : Reading) (h : Header × Reading) (k : ℕ × Reading) (form : BodyForm) → IsBytes r.rest → header_at r ≡ Ok h → number_at w8 h.1 ≡ Ok k → (h.0.version == shape.version) ≡ true → is_slot shape h.0.stage h.0.sender ≡ true → body_form shape h.0.stage k.0 ≡ Some form → IsHead shape r ((h.0, form), k.1)
+    parts : (shape : Shape) (r : Reading) (h : Header × Reading) (k : ℕ × Reading) (form : BodyForm) → IsBytes r.rest → header_at r ≡ Ok h
+        → number_at w8 h.1 ≡ Ok k → (h.0.version == shape.version) ≡ true → is_slot shape h.0.stage h.0.sender ≡ true
+        → body_form shape h.0.stage k.0 ≡ Some form → IsHead shape r ((h.0, form), k.1)
     parts shape r h k form bytes eh ek version slot has =
         let header = header-takes r h bytes eh in
         let left : IsBytes h.1.rest = (Takes-bytes (header_text h.0) r h.1 header.0 bytes).1 in
@@ -181,14 +244,28 @@ head-takes shape r x bytes e =
         let number = body_form-number shape h.0.stage k.0 form has in
         let spelled = Takes-append (header_text h.0) (k.0 ∷ []) r h.1 k.1 header.0 kind.0 in (
           subst (λ (m : ℕ). Takes (header_text h.0 ++ (m ∷ [])) r k.1) number spelled,
-          record { version_is = eqb-true h.0.version shape.version version; group_long = header.1.group_long; round_small = header.1.round_small; slot_is = slot; view_long = header.1.view_long },
+          record {
+            version_is = eqb-true h.0.version shape.version version;
+            group_long = header.1.group_long;
+            round_small =
+                header.1.round_small;
+            slot_is = slot;
+            view_long = header.1.view_long;
+          },
           subst (λ (m : ℕ). body_form shape h.0.stage m ≡ Some form) number has,
         )
 
-head-again : (shape : Shape) (h : Header) (kind : ℕ) (form : BodyForm) (place : ℕ) (rest : List ℕ) → IsHeader shape h → body_form shape h.stage kind ≡ Some form → head_at shape (reading_at place (header_text h ++ (kind ∷ rest))) ≡ Ok ((h, form), reading_at (place + length (header_text h) + 1) rest)
+head-again : (shape : Shape) (h : Header) (kind : ℕ) (form : BodyForm) (place : ℕ) (rest : List ℕ) → IsHeader shape h
+    → body_form shape h.stage kind ≡ Some form → head_at shape (reading_at place (header_text h ++ (kind ∷ rest))) ≡ Ok
+    ((h, form), reading_at (place + length (header_text h) + 1) rest)
 unfolding head_at
 head-again shape h kind form place rest is has =
-    let header = header-again h place (kind ∷ rest) (record { group_long = is.group_long; round_small = is.round_small; view_long = is.view_long }) in
+    let header = header-again h place (kind ∷ rest) (record {
+      group_long = is.group_long;
+      round_small = is.round_small;
+      view_long =
+          is.view_long;
+    }) in
     let version : (h.version == shape.version) ≡ true = eq-eqb h.version shape.version is.version_is in
     let number = number_at-again_1 kind (place + length (header_text h)) rest in
     rw (header, version, is.slot_is, number, has) refl
@@ -199,17 +276,24 @@ nothing_left : (rest : List ℕ) → nat_lt 0 (length rest) ≡ false → rest �
 nothing_left [] e = refl
 nothing_left (b ∷ rest) e = let le = ltb-false 0 (length (b ∷ rest)) e in absurd (omega arith)
 
-pub content-is_spelled : (shape : Shape) (bytes : List ℕ) (c : Content) → IsBytes bytes → content_read shape bytes ≡ Ok c → (bytes ≡ content_text c) × OfGrammar shape c
+pub content-is_spelled : (shape : Shape) (bytes : List ℕ) (c : Content) → IsBytes bytes → content_read shape bytes ≡ Ok c
+    → (bytes ≡ content_text c) × OfGrammar shape c
 unfolding content_read
 content-is_spelled shape bytes c are e =
-    let w = bind_ok (unless (nat_lt (length bytes) 76) (offence 7 (length bytes)) (reading_of bytes)) (λ whole. head_at shape (reading_of bytes) >>= λ head. body_at head.0.1 head.1 >>= λ body. unless (nat_lt 0 (length body.1.rest)) (offence 3 body.1.place) (record { header = head.0.0; body = body.0 })) c e in
-    let h = bind_ok (head_at shape (reading_of bytes)) (λ head. body_at head.0.1 head.1 >>= λ body. unless (nat_lt 0 (length body.1.rest)) (offence 3 body.1.place) (record { header = head.0.0; body = body.0 })) c w.2 in
-    let b = bind_ok (body_at h.0.0.1 h.0.1) (λ body. unless (nat_lt 0 (length body.1.rest)) (offence 3 body.1.place) (record { header = h.0.0.0; body = body.0 })) c h.2 in
+    let w = bind_ok (unless (nat_lt (length bytes) 76) (offence 7 (length bytes)) (reading_of bytes))
+    (λ whole. head_at shape (reading_of bytes) >>= λ head. body_at head.0.1 head.1 >>= λ body. unless (nat_lt 0 (length body.1.rest))
+    (offence 3 body.1.place) (record { header = head.0.0; body = body.0 })) c e in
+    let h = bind_ok (head_at shape (reading_of bytes)) (λ head. body_at head.0.1 head.1 >>= λ body. unless (nat_lt 0 (length body.1.rest))
+    (offence 3 body.1.place) (record { header = head.0.0; body = body.0 })) c w.2 in
+    let b = bind_ok (body_at h.0.0.1 h.0.1) (λ body. unless (nat_lt 0 (length body.1.rest)) (offence 3 body.1.place)
+    (record { header = h.0.0.0; body = body.0 })) c h.2 in
     let ended = guard_ok (nat_lt 0 (length b.0.1.rest)) (offence 3 b.0.1.place) (record { header = h.0.0.0; body = b.0.0 }) c b.2 in
     subst (λ (c : Content). (bytes ≡ content_text c) × OfGrammar shape c) ended.1
     (parts shape bytes h.0 b.0 are h.1 b.1 (nothing_left b.0.1.rest ended.0))
   where
-    parts : (shape : Shape) (bytes : List ℕ) (h : (Header × BodyForm) × Reading) (b : Body × Reading) → IsBytes bytes → head_at shape (reading_of bytes) ≡ Ok h → body_at h.0.1 h.1 ≡ Ok b → b.1.rest ≡ [] → (bytes ≡ content_text (record { header = h.0.0; body = b.0 })) × OfGrammar shape (record { header = h.0.0; body = b.0 })
+    parts : (shape : Shape) (bytes : List ℕ) (h : (Header × BodyForm) × Reading) (b : Body × Reading) → IsBytes bytes
+        → head_at shape (reading_of bytes) ≡ Ok h → body_at h.0.1 h.1 ≡ Ok b → b.1.rest ≡ []
+        → (bytes ≡ content_text (record { header = h.0.0; body = b.0 })) × OfGrammar shape (record { header = h.0.0; body = b.0 })
     parts shape bytes h b are eh eb ended =
         let head = head-takes shape (reading_of bytes) h are eh in
         let front : List ℕ = header_text h.0.0 ++ (form_number h.0.1 ∷ []) in
@@ -217,8 +301,10 @@ content-is_spelled shape bytes c are e =
         let body = body-takes h.0.1 h.1 b left eb in
         let number = fits-number h.0.1 b.0 body.1 in
         let whole = Takes-append front (body_text b.0) (reading_of bytes) h.1 b.1 head.0 body.0 in
-        let text : bytes ≡ front ++ body_text b.0 = whole.text_is ∙ ap (λ (t : List ℕ). (front ++ body_text b.0) ++ t) ended ∙ append-nil (front ++ body_text b.0) in (
-          text ∙ append_assoc (header_text h.0.0) (form_number h.0.1 ∷ []) (body_text b.0) ∙ ap (λ (m : ℕ). header_text h.0.0 ++ (m ∷ body_text b.0)) (sym number),
+        let text : bytes ≡ front ++ body_text b.0 = whole.text_is ∙ ap (λ (t : List ℕ). (front ++ body_text b.0) ++ t) ended
+        ∙ append-nil (front ++ body_text b.0) in (
+          text ∙ append_assoc (header_text h.0.0) (form_number h.0.1 ∷ []) (body_text b.0)
+              ∙ ap (λ (m : ℕ). header_text h.0.0 ++ (m ∷ body_text b.0)) (sym number),
           (head.1, (h.0.1, subst (λ (m : ℕ). body_form shape h.0.0.stage m ≡ Some h.0.1) (sym number) head.2, body.1)),
         )
 
@@ -234,23 +320,38 @@ pub content-is_read : (shape : Shape) (c : Content) → OfGrammar shape c → co
 unfolding content_read
 content-is_read shape c is =
     let text : List ℕ = body_text c.body in
-    let long : 76 ≤ length (content_text c) = omega (arith, length-append (header_text c.header) (kind_number c.body ∷ text), length-header_text shape c.header is.0) in
+    let long : 76 ≤ length (content_text c) = omega (
+      arith,
+      length-append (header_text c.header) (kind_number c.body ∷ text),
+      length-header_text shape c.header is.0,
+    ) in
     let whole : nat_lt (length (content_text c)) 76 ≡ false = le-ltb (length (content_text c)) 76 long in
     let place : ℕ = 0 + length (header_text c.header) + 1 in
     let head = head-again shape c.header (kind_number c.body) is.1.0 0 text is.0 is.1.1 in
     let all : text ++ [] ≡ text = append-nil text in
-    let body : body_at is.1.0 (reading_at place text) ≡ Ok (c.body, reading_at (place + length text) []) = subst (λ (t : List ℕ). body_at is.1.0 (reading_at place t) ≡ Ok (c.body, reading_at (place + length text) [])) all (body-again is.1.0 c.body place [] is.1.2) in
+    let body : body_at is.1.0 (reading_at place text) ≡ Ok (c.body, reading_at (place + length text) []) = subst
+    (λ (t : List ℕ). body_at is.1.0 (reading_at place t) ≡ Ok (c.body, reading_at (place + length text) [])) all
+    (body-again is.1.0 c.body place [] is.1.2) in
     rw (whole, head, body) refl
 
 -- ---- the header alone
 
-head-header : (shape : Shape) (r : Reading) (x : (Header × BodyForm) × Reading) → head_at shape r ≡ Ok x → (y : Header × Reading) × (header_at r ≡ Ok y) × (y.0 ≡ x.0.0)
+head-header : (shape : Shape) (r : Reading) (x : (Header × BodyForm) × Reading) → head_at shape r ≡ Ok x → (y : Header × Reading)
+    × (header_at r ≡ Ok y) × (y.0 ≡ x.0.0)
 unfolding head_at
 head-header shape r x e =
-    let h = bind_ok (fault_as cut (header_at r)) (λ header. unless (not (header.0.version == shape.version)) (offence 8 0) header.1 >>= λ version. unless (not (is_slot shape header.0.stage header.0.sender)) (offence 9 41) header.1 >>= λ slot. fault_as cut (number_at w8 header.1) >>= λ kind. ok_or (body_form shape header.0.stage kind.0) (offence 1 75) >>= λ form. Ok ((header.0, form), kind.1)) x e in
-    let v = bind_ok (unless (not (h.0.0.version == shape.version)) (offence 8 0) h.0.1) (λ version. unless (not (is_slot shape h.0.0.stage h.0.0.sender)) (offence 9 41) h.0.1 >>= λ slot. fault_as cut (number_at w8 h.0.1) >>= λ kind. ok_or (body_form shape h.0.0.stage kind.0) (offence 1 75) >>= λ form. Ok ((h.0.0, form), kind.1)) x h.2 in
-    let s = bind_ok (unless (not (is_slot shape h.0.0.stage h.0.0.sender)) (offence 9 41) h.0.1) (λ slot. fault_as cut (number_at w8 h.0.1) >>= λ kind. ok_or (body_form shape h.0.0.stage kind.0) (offence 1 75) >>= λ form. Ok ((h.0.0, form), kind.1)) x v.2 in
-    let k = bind_ok (fault_as cut (number_at w8 h.0.1)) (λ kind. ok_or (body_form shape h.0.0.stage kind.0) (offence 1 75) >>= λ form. Ok ((h.0.0, form), kind.1)) x s.2 in
+    let h = bind_ok (fault_as cut (header_at r)) (λ header. unless (not (header.0.version == shape.version)) (offence 8 0) header.1 >>= λ
+    version. unless (not (is_slot shape header.0.stage header.0.sender)) (offence 9 41) header.1 >>= λ slot. fault_as cut
+    (number_at w8 header.1) >>= λ kind. ok_or (body_form shape header.0.stage kind.0) (offence 1 75) >>= λ form. Ok
+    ((header.0, form), kind.1)) x e in
+    let v = bind_ok (unless (not (h.0.0.version == shape.version)) (offence 8 0) h.0.1)
+    (λ version. unless (not (is_slot shape h.0.0.stage h.0.0.sender)) (offence 9 41) h.0.1 >>= λ slot. fault_as cut (number_at w8 h.0.1)
+    >>= λ kind. ok_or (body_form shape h.0.0.stage kind.0) (offence 1 75) >>= λ form. Ok ((h.0.0, form), kind.1)) x h.2 in
+    let s = bind_ok (unless (not (is_slot shape h.0.0.stage h.0.0.sender)) (offence 9 41) h.0.1)
+    (λ slot. fault_as cut (number_at w8 h.0.1) >>= λ kind. ok_or (body_form shape h.0.0.stage kind.0) (offence 1 75) >>= λ form. Ok
+    ((h.0.0, form), kind.1)) x v.2 in
+    let k = bind_ok (fault_as cut (number_at w8 h.0.1)) (λ kind. ok_or (body_form shape h.0.0.stage kind.0) (offence 1 75) >>= λ form. Ok
+    ((h.0.0, form), kind.1)) x s.2 in
     let f = bind_ok (ok_or (body_form shape h.0.0.stage k.0.0) (offence 1 75)) (λ form. Ok ((h.0.0, form), k.0.1)) x k.2 in
     let same = given ((h.0.0, f.0), k.0.1) x f.2 in
     (h.0, fault_as_ok cut (header_at r) h.0 h.1, ap (λ (x : (Header × BodyForm) × Reading). x.0.0) same)
@@ -260,7 +361,8 @@ header_ok bytes y h e same =
     let told : Header → Result Header Short = λ h. Ok h in
     rw e (ap told same)
 
-value_ok : {A E : Type 0} (read : Result (A × Reading) E) (x : A) → (read >>= λ y. Ok y.0) ≡ Ok x → (y : A × Reading) × (read ≡ Ok y) × (y.0 ≡ x)
+value_ok : {A E : Type 0} (read : Result (A × Reading) E) (x : A) → (read >>= λ y. Ok y.0) ≡ Ok x → (y : A × Reading) × (read ≡ Ok y)
+    × (y.0 ≡ x)
 value_ok (Ok y) x e = (y, refl, cc)
 value_ok (Err d) x e = absurd cc
 
@@ -273,20 +375,26 @@ header_of-begins bytes h are e =
 
 pub begins-header_of : (bytes : List ℕ) (h : Header) → BeginsWith h bytes → header_of bytes ≡ Ok h
 begins-header_of bytes h begins =
-    ap header_of begins.spelled ∙ header_ok (header_text h ++ begins.rest) (h, reading_at (0 + length (header_text h)) begins.rest) h (header-again h 0 begins.rest begins.widths) refl
+    ap header_of begins.spelled ∙ header_ok (header_text h ++ begins.rest) (h, reading_at (0 + length (header_text h)) begins.rest) h
+    (header-again h 0 begins.rest begins.widths) refl
 
 pub content-header : (shape : Shape) (bytes : List ℕ) (c : Content) → content_read shape bytes ≡ Ok c → header_of bytes ≡ Ok c.header
 unfolding content_read
 content-header shape bytes c e =
-    let w = bind_ok (unless (nat_lt (length bytes) 76) (offence 7 (length bytes)) (reading_of bytes)) (λ whole. head_at shape (reading_of bytes) >>= λ head. body_at head.0.1 head.1 >>= λ body. unless (nat_lt 0 (length body.1.rest)) (offence 3 body.1.place) (record { header = head.0.0; body = body.0 })) c e in
-    let h = bind_ok (head_at shape (reading_of bytes)) (λ head. body_at head.0.1 head.1 >>= λ body. unless (nat_lt 0 (length body.1.rest)) (offence 3 body.1.place) (record { header = head.0.0; body = body.0 })) c w.2 in
-    let b = bind_ok (body_at h.0.0.1 h.0.1) (λ body. unless (nat_lt 0 (length body.1.rest)) (offence 3 body.1.place) (record { header = h.0.0.0; body = body.0 })) c h.2 in
+    let w = bind_ok (unless (nat_lt (length bytes) 76) (offence 7 (length bytes)) (reading_of bytes))
+    (λ whole. head_at shape (reading_of bytes) >>= λ head. body_at head.0.1 head.1 >>= λ body. unless (nat_lt 0 (length body.1.rest))
+    (offence 3 body.1.place) (record { header = head.0.0; body = body.0 })) c e in
+    let h = bind_ok (head_at shape (reading_of bytes)) (λ head. body_at head.0.1 head.1 >>= λ body. unless (nat_lt 0 (length body.1.rest))
+    (offence 3 body.1.place) (record { header = head.0.0; body = body.0 })) c w.2 in
+    let b = bind_ok (body_at h.0.0.1 h.0.1) (λ body. unless (nat_lt 0 (length body.1.rest)) (offence 3 body.1.place)
+    (record { header = h.0.0.0; body = body.0 })) c h.2 in
     let ended = guard_ok (nat_lt 0 (length b.0.1.rest)) (offence 3 b.0.1.place) (record { header = h.0.0.0; body = b.0.0 }) c b.2 in
     let y = head-header shape (reading_of bytes) h.0 h.1 in
     header_ok bytes y.0 c.header y.1 (y.2 ∙ ap (λ (c : Content). c.header) ended.1)
 
 -- what a decoder answers is of the grammar, and spelled so
-pub is_found : (shape : Shape) (bytes : List ℕ) (r : Result Content DecodeRefusal) → IsBytes bytes → Gives fault (λ x. x) r (content_read shape bytes)
+pub is_found : (shape : Shape) (bytes : List ℕ) (r : Result Content DecodeRefusal) → IsBytes bytes
+    → Gives fault (λ x. x) r (content_read shape bytes)
     → IfOk r (λ c. OfGrammar shape c × (bytes ≡ content_text c))
 is_found shape bytes (Ok c) are given = let s = content-is_spelled shape bytes c are given in (s.1, s.0)
 is_found shape bytes (Err refusal) are given = tt

@@ -28,7 +28,8 @@ fits-short form (Check vote) fits = tt
 fits-short _ _ fits = absurd fits
 
 -- a list's pieces, and one more
-pub pieces-next : (f : List ℕ → List ℕ) (xs : List (List ℕ)) (i : ℕ) (x : List ℕ) → i < length xs → x ≡ get_or xs i x → flat_map f (take (i + 1) xs) ≡ flat_map f (take i xs) ++ f x
+pub pieces-next : (f : List ℕ → List ℕ) (xs : List (List ℕ)) (i : ℕ) (x : List ℕ) → i < length xs → x ≡ get_or xs i x
+    → flat_map f (take (i + 1) xs) ≡ flat_map f (take i xs) ++ f x
 pieces-next f xs i x within is =
     let next : i + 1 ≡ suc i = omega arith in
     ap (λ (k : ℕ). flat_map f (take k xs)) next

@@ -25,7 +25,8 @@ message_of_is_message : (v us : List ℕ) → IsMessage (message_of v us)
 message_of_is_message v us = record {
   length = length-message_of v us;
   bytes = λ j. ⊎_elim (byte_small v us j)
-      (λ past. let zero_there : get_or (message_of v us) j 0 ≡ 0 = get_or_past (message_of v us) j 0 (omega (arith, length-message_of v us)) in omega arith)
+      (λ past. let zero_there : get_or (message_of v us) j 0 ≡ 0 = get_or_past (message_of v us) j 0 (omega (arith, length-message_of v us))
+      in omega arith)
       (cases_lt j 32);
 }
 
@@ -44,11 +45,15 @@ opens_exactly seed capsule m = (
   λ e.
       let read = decoded seed capsule in
       let c = chosen (bytes_eq capsule (capsule_of (key_of_seed seed) read)) read m e in
-      let same : capsule ≡ capsule_of (key_of_seed seed) read = (bytes_eq-Decides capsule (capsule_of (key_of_seed seed) read)).0 c.0 in
-      (subst (λ (x : List ℕ). IsMessage x) c.1 (decoded_is_message seed capsule), same ∙ ap (λ (x : List ℕ). capsule_of (key_of_seed seed) x) c.1),
+      let same : capsule ≡ capsule_of (key_of_seed seed) read = (bytes_eq-Decides capsule (capsule_of (key_of_seed seed) read)).0 c.0 in (
+        subst (λ (x : List ℕ). IsMessage x) c.1 (decoded_is_message seed capsule),
+        same
+            ∙ ap (λ (x : List ℕ). capsule_of (key_of_seed seed) x) c.1,
+      ),
   λ h.
       let read : decoded seed capsule ≡ m = rw h.1 (sealed_is_decoded seed m h.0) in
-      let test : bytes_eq capsule (capsule_of (key_of_seed seed) m) ≡ true = (bytes_eq-Decides capsule (capsule_of (key_of_seed seed) m)).1 h.1 in
+      let test : bytes_eq capsule (capsule_of (key_of_seed seed) m) ≡ true = (bytes_eq-Decides capsule (capsule_of (key_of_seed seed) m)).1
+      h.1 in
       rw (read, test) refl,
 )
 
@@ -66,7 +71,8 @@ none_from None h = refl
 none_from (Some x) h = absurd (h x refl)
 
 -- what opens under one seed opens under another of the same key
-opens_there : (seed seed' capsule m : List ℕ) → key_of_seed seed ≡ key_of_seed seed' → opened seed capsule ≡ Some m → opened seed' capsule ≡ Some m
+opens_there : (seed seed' capsule m : List ℕ) → key_of_seed seed ≡ key_of_seed seed' → opened seed capsule ≡ Some m
+    → opened seed' capsule ≡ Some m
 opens_there seed seed' capsule m same e =
     let h = (opens_exactly seed capsule m).0 e in
     (opens_exactly seed' capsule m).1 (h.0, h.1 ∙ ap (λ (key : List ℕ). capsule_of key m) same)
@@ -84,12 +90,14 @@ opens_nothing seed capsule none =
     none_from (opened seed capsule) (λ m e. none m ((opens_exactly seed capsule m).0 e).1)
 
 -- the test by sealing again
-pub opened_by_test : (seed capsule m again : List ℕ) → m ≡ decoded seed capsule → again ≡ capsule_of (key_of_seed seed) m → opened seed capsule ≡ cond (bytes_eq capsule again) (Some m) None
+pub opened_by_test : (seed capsule m again : List ℕ) → m ≡ decoded seed capsule → again ≡ capsule_of (key_of_seed seed) m
+    → opened seed capsule ≡ cond (bytes_eq capsule again) (Some m) None
 unfolding opened
 opened_by_test seed capsule m again is-m is-again = rw (is-again, is-m) refl
 
 -- both sides of what `open_seed` promises
 pub opened_to : (seed capsule : List ℕ) (r : Option (List ℕ)) → r ≡ opened seed capsule
-    → IfSome r (λ m. IsMessage m × (capsule ≡ capsule_of (key_of_seed seed) m)) × IfNone r ((m : List ℕ) → IsMessage m → capsule ≢ capsule_of (key_of_seed seed) m)
+    → IfSome r (λ m. IsMessage m × (capsule ≡ capsule_of (key_of_seed seed) m))
+    × IfNone r ((m : List ℕ) → IsMessage m → capsule ≢ capsule_of (key_of_seed seed) m)
 opened_to seed capsule (Some m) e = ((opens_exactly seed capsule m).0 (sym e), tt)
 opened_to seed capsule None e = (tt, λ m is same. let there = (opens_exactly seed capsule m).1 (is, same) in let here = e in cc)

@@ -21,7 +21,8 @@ back_of : (bytes : List ℕ) (n : ℕ) → length bytes ≤ n + 32 → take n (d
 back_of bytes n long = take_all n (drop 32 bytes) (omega (arith, length-drop 32 bytes))
 
 -- what the code reads of a key's polynomial
-pub key_reads : (bytes : List ℕ) (n : ℕ) (r : Result (List ℕ) CoefficientTooLarge) → IsPublicKey bytes → r ≡ read_packed (take n (drop 32 bytes)) → length bytes ≤ n + 32 → r ≡ Ok (unpacked (drop 32 bytes))
+pub key_reads : (bytes : List ℕ) (n : ℕ) (r : Result (List ℕ) CoefficientTooLarge) → IsPublicKey bytes
+    → r ≡ read_packed (take n (drop 32 bytes)) → length bytes ≤ n + 32 → r ≡ Ok (unpacked (drop 32 bytes))
 key_reads bytes n r key e room =
     let none : first_too_large 0 (unpacked (drop 32 bytes)) ≡ None = none_from_all (unpacked (drop 32 bytes)) key.reduced in
     let whole : take n (drop 32 bytes) ≡ drop 32 bytes = back_of bytes n room in
@@ -33,22 +34,29 @@ refused cs None x e = cc
 refused cs (Some y) x e = cc
 
 -- bytes whose polynomial is refused, and bytes that are a key
-pub key_refused : (bytes : List ℕ) (n : ℕ) (r : Result (List ℕ) CoefficientTooLarge) (x : CoefficientTooLarge) → length bytes ≡ 1824 → length bytes ≤ n + 32 → r ≡ read_packed (take n (drop 32 bytes))
+pub key_refused : (bytes : List ℕ) (n : ℕ) (r : Result (List ℕ) CoefficientTooLarge) (x : CoefficientTooLarge) → length bytes ≡ 1824
+    → length bytes ≤ n + 32 → r ≡ read_packed (take n (drop 32 bytes))
     → r ≡ Err x → first_too_large 0 (unpacked (drop 32 bytes)) ≡ Some x
 key_refused bytes n r x long room e is =
     let whole : take n (drop 32 bytes) ≡ drop 32 bytes = back_of bytes n (omega arith) in
     refused (unpacked (drop 32 bytes)) (first_too_large 0 (unpacked (drop 32 bytes))) x (sym (ap read_packed whole) ∙ sym e ∙ is)
 
 -- bytes with a coefficient that is too large are no key
-pub refused_is_no_key : (bytes : List ℕ) (x : CoefficientTooLarge) → first_too_large 0 (unpacked (drop 32 bytes)) ≡ Some x → IsPublicKey bytes → ⊥
+pub refused_is_no_key : (bytes : List ℕ) (x : CoefficientTooLarge) → first_too_large 0 (unpacked (drop 32 bytes)) ≡ Some x
+    → IsPublicKey bytes → ⊥
 refused_is_no_key bytes x large key =
     let none : first_too_large 0 (unpacked (drop 32 bytes)) ≡ None = none_from_all (unpacked (drop 32 bytes)) key.reduced in
     cc
 
-pub key_read : (bytes : List ℕ) (n : ℕ) (r : Result (List ℕ) CoefficientTooLarge) (f : List ℕ) → length bytes ≡ 1824 → length bytes ≤ n + 32 → r ≡ read_packed (take n (drop 32 bytes)) → r ≡ Ok f → IsPublicKey bytes
+pub key_read : (bytes : List ℕ) (n : ℕ) (r : Result (List ℕ) CoefficientTooLarge) (f : List ℕ) → length bytes ≡ 1824 → length bytes ≤ n + 32
+    → r ≡ read_packed (take n (drop 32 bytes)) → r ≡ Ok f → IsPublicKey bytes
 key_read bytes n r f long room e is =
     let whole : take n (drop 32 bytes) ≡ drop 32 bytes = back_of bytes n (omega arith) in
-    record { length = long; reduced = all_from_none (unpacked (drop 32 bytes)) (read_gives (drop 32 bytes) f (sym (ap read_packed whole) ∙ sym e ∙ is)).1 }
+    record {
+      length = long;
+      reduced = all_from_none (unpacked (drop 32 bytes))
+          (read_gives (drop 32 bytes) f (sym (ap read_packed whole) ∙ sym e ∙ is)).1;
+    }
 
 -- a key that is put together
 pub key_of_parts : (rho b : List ℕ) → length rho ≡ 32 → IsPolynomial b → IsPublicKey (rho ++ packed b)
@@ -70,9 +78,13 @@ key_is_public_key seed =
 
 -- ---- two byte strings that are written one after the other
 pub joined : (front back bytes : List ℕ) (k : ℕ) → length front + length back ≡ length bytes → length bytes ≤ length front + k
-    → take (length front) (front ++ drop (length front) bytes) ++ (back ++ drop k (drop (length front) (front ++ drop (length front) bytes))) ≡ front ++ back
+    → take (length front) (front ++ drop (length front) bytes) ++
+    (back ++ drop k (drop (length front) (front ++ drop (length front) bytes))) ≡ front ++ back
 joined front back bytes k sum room =
-    let first : take (length front) (front ++ drop (length front) bytes) ≡ front = take_at front (drop (length front) bytes) (length front) refl in
-    let second : drop (length front) (front ++ drop (length front) bytes) ≡ drop (length front) bytes = drop_at front (drop (length front) bytes) (length front) refl in
-    let third : drop k (drop (length front) bytes) ≡ [] = drop_all k (drop (length front) bytes) (omega (arith, length-drop (length front) bytes)) in
+    let first : take (length front) (front ++ drop (length front) bytes) ≡ front = take_at front (drop (length front) bytes) (length front)
+    refl in
+    let second : drop (length front) (front ++ drop (length front) bytes) ≡ drop (length front) bytes = drop_at front
+    (drop (length front) bytes) (length front) refl in
+    let third : drop k (drop (length front) bytes) ≡ [] = drop_all k (drop (length front) bytes)
+    (omega (arith, length-drop (length front) bytes)) in
     rw (first, second, third, append-nil) refl

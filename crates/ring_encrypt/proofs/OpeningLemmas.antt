@@ -59,28 +59,34 @@ bit_read : (x y bit : ℕ) (e z : ℤ) → residue (pos x -ℤ pos y) ≡ residu
 bit_read x y bit e z hidden small binary =
     let apart : pos x +ℤ e +ℤ pos (6144 * bit) ≡ pos x +ℤ (e +ℤ pos (6144 * bit)) = omega (arith, ints) in
     let whole : z +ℤ (e +ℤ pos (6144 * bit)) ≡ z +ℤ e +ℤ pos (6144 * bit) = omega (arith, ints) in
-    let left : residue (pos (residue (pos x +ℤ (e +ℤ pos (6144 * bit)))) -ℤ pos y) ≡ residue (z +ℤ (e +ℤ pos (6144 * bit))) = residue_masked x y (e +ℤ pos (6144 * bit)) z hidden in
+    let left : residue (pos (residue (pos x +ℤ (e +ℤ pos (6144 * bit)))) -ℤ pos y) ≡ residue (z +ℤ (e +ℤ pos (6144 * bit))) = residue_masked
+    x y (e +ℤ pos (6144 * bit)) z hidden in
     rw (apart, left, whole) (bit_of_noise (z +ℤ e) bit small binary)
 
 -- ---- the parts of a key and of a capsule
 pub sum_of-reduced : (f g : List ℕ) → All (λ c. c < 12289) (sum_of f g)
-sum_of-reduced f g = All-from_get_or (λ c. c < 12289) (sum_of f g) 0 (λ k h. let below : k < 1024 = omega (arith, length-sum_of f g) in rw (get_or-sum_of f g k below) (residue_below (pos (slice_index f k) +ℤ pos (slice_index g k))))
+sum_of-reduced f g = All-from_get_or (λ c. c < 12289) (sum_of f g) 0
+    (λ k h. let below : k < 1024 = omega (arith, length-sum_of f g) in rw (get_or-sum_of f g k below)
+    (residue_below (pos (slice_index f k) +ℤ pos (slice_index g k))))
 
 length-carried : (product : List ℕ) (error : List ℤ) (m : List ℕ) → length (carried product error m) ≡ 256
 unfolding carried
-length-carried product error m = length-map-range_with_len (λ c. residue (pos (slice_index product c) +ℤ coefficient error c +ℤ pos (6144 * message_bit m c))) 0 256
+length-carried product error m = length-map-range_with_len (λ c. residue
+    (pos (slice_index product c) +ℤ coefficient error c +ℤ pos (6144 * message_bit m c))) 0 256
 
 get_or-carried : (product : List ℕ) (error : List ℤ) (m : List ℕ) (c : ℕ) → c < 256
     → get_or (carried product error m) c 0 ≡ residue (pos (slice_index product c) +ℤ coefficient error c +ℤ pos (6144 * message_bit m c))
 unfolding carried
 get_or-carried product error m c h =
-    get_or-map-range_with_len (λ c. residue (pos (slice_index product c) +ℤ coefficient error c +ℤ pos (6144 * message_bit m c))) 0 256 c c 0 h (omega arith)
+    get_or-map-range_with_len (λ c. residue (pos (slice_index product c) +ℤ coefficient error c +ℤ pos (6144 * message_bit m c))) 0 256 c c
+    0 h (omega arith)
 
 carried-reduced : (product : List ℕ) (error : List ℤ) (m : List ℕ) → All (λ c. c < 12289) (carried product error m)
 carried-reduced product error m =
     All-from_get_or (λ c. c < 12289) (carried product error m) 0
     (λ k h. let below : k < 256 = omega (arith, length-carried product error m) in
-    rw (get_or-carried product error m k below) (residue_below (pos (slice_index product k) +ℤ coefficient error k +ℤ pos (6144 * message_bit m k))))
+    rw (get_or-carried product error m k below) (residue_below (pos (slice_index product k) +ℤ coefficient error k +ℤ pos
+    (6144 * message_bit m k))))
 
 read_cases : (cs f : List ℕ) (o : Option CoefficientTooLarge) → unless_too_large cs o ≡ Ok f → (cs ≡ f) × (o ≡ None)
 read_cases cs f None e = (let x = e in cc, refl)
@@ -94,7 +100,8 @@ pub record Parts (capsule u v : List ℕ) : Type 0 where
   pub first : read_packed (take 1792 capsule) ≡ Ok u
   pub second : read_packed (drop 1792 capsule) ≡ Ok v
 
-parts_of : (u v : List ℕ) → length u ≡ 1024 → All (λ c. c < 12289) u → length v ≡ 256 → All (λ c. c < 12289) v → Parts (packed u ++ packed v) u v
+parts_of : (u v : List ℕ) → length u ≡ 1024 → All (λ c. c < 12289) u → length v ≡ 256 → All (λ c. c < 12289) v
+    → Parts (packed u ++ packed v) u v
 parts_of u v long reduced short reduced' =
     let p = packed_is_read_back 256 u long reduced in
     let q = packed_is_read_back 64 v short reduced' in
@@ -144,7 +151,8 @@ noise_small e r d s e' c te tr td ts te' h =
     let first : unsigned_abs (product_at e r c) ≤ 1024 = product_is_small e r 1 c te.length te.trits tr h in
     let second : unsigned_abs (product_at d s c) ≤ 1024 = product_is_small d s 1 c td.length td.trits ts h in
     let third : unsigned_abs (coefficient e' c) ≤ 1 = te'.trits c (pos 0) (omega (arith, te'.length)) in
-    let both : unsigned_abs (product_at e r c -ℤ product_at d s c) ≤ 2048 = abs-sub (product_at e r c) (product_at d s c) 1024 1024 first second in
+    let both : unsigned_abs (product_at e r c -ℤ product_at d s c) ≤ 2048 = abs-sub (product_at e r c) (product_at d s c) 1024 1024 first
+    second in
     abs-add (product_at e r c -ℤ product_at d s c) (coefficient e' c) 2048 1 both third
 
 -- a bit of what was sealed with any coins
@@ -161,11 +169,14 @@ bit_opened coins a m s e c long ts te h =
     let td = ternary_is_ternary coins 64 in
     let te' = ternary_is_ternary coins 128 in
     let below : c < 1024 = omega arith in
-    let hidden : residue (pos (slice_index (product_of b r) c) -ℤ pos (slice_index (product_of (u_of coins a) s) c)) ≡ residue (product_at e r c -ℤ product_at d s c)
+    let hidden : residue (pos (slice_index (product_of b r) c) -ℤ pos (slice_index (product_of (u_of coins a) s) c)) ≡ residue
+    (product_at e r c -ℤ product_at d s c)
     = mask_cancels a s r e d c long ts.length tr.length te.length td.length below in
     let small = noise_small e r d s e' c te tr td ts te' below in
-    let at : slice_index (v_of coins b m) c ≡ residue (pos (slice_index (product_of b r) c) +ℤ coefficient e' c +ℤ pos (6144 * message_bit m c)) = get_or-carried (product_of b r) e' m c h in
-    rw at (bit_read (slice_index (product_of b r) c) (slice_index (product_of (u_of coins a) s) c) (message_bit m c) (coefficient e' c) (product_at e r c -ℤ product_at d s c) hidden small (bit_at-lt (slice_index m (c / 8)) (c % 8)))
+    let at : slice_index (v_of coins b m) c ≡ residue (pos (slice_index (product_of b r) c) +ℤ coefficient e' c +ℤ pos
+    (6144 * message_bit m c)) = get_or-carried (product_of b r) e' m c h in
+    rw at (bit_read (slice_index (product_of b r) c) (slice_index (product_of (u_of coins a) s) c) (message_bit m c) (coefficient e' c)
+    (product_at e r c -ℤ product_at d s c) hidden small (bit_at-lt (slice_index m (c / 8)) (c % 8)))
 
 byte_from_bits : (m v us : List ℕ) → IsMessage m → ((c : ℕ) → c < 256 → opened_bit v us c ≡ message_bit m c) → (j : ℕ) → j < 32
     → number_of_bits (λ i. opened_bit v us (8 * j + i)) 8 ≡ get_or m j 0
@@ -184,7 +195,8 @@ byte_from_bits m v us is bits j below =
 message_from_bits : (m v us : List ℕ) → IsMessage m → ((c : ℕ) → c < 256 → opened_bit v us c ≡ message_bit m c) → message_of v us ≡ m
 unfolding message_of
 message_from_bits m v us is bits =
-    sym (fill_by_all (λ j. number_of_bits (λ i. opened_bit v us (8 * j + i)) 8) m 32 0 is.length (λ j below. sym (byte_from_bits m v us is bits j below)))
+    sym (fill_by_all (λ j. number_of_bits (λ i. opened_bit v us (8 * j + i)) 8) m 32 0 is.length
+    (λ j below. sym (byte_from_bits m v us is bits j below)))
 
 -- what is sealed under the key of a seed is read there
 pub sealed_is_decoded : SealedIsDecoded
@@ -196,17 +208,21 @@ sealed_is_decoded seed m is =
     let a = uniform rho in
     let b = masked_secret seed in
     let s = secret_of seed in
-    let read = packed_is_read_back 256 b (length-sum_of (product_of a s) (map residue (error_of seed))) (sum_of-reduced (product_of a s) (map residue (error_of seed))) in
+    let read = packed_is_read_back 256 b (length-sum_of (product_of a s) (map residue (error_of seed)))
+    (sum_of-reduced (product_of a s) (map residue (error_of seed))) in
     let front : take 32 key ≡ rho = key_front seed in
     let back : unpacked (drop 32 key) ≡ b = rw (key_back seed) (read_gives (packed b) b read.1).0 in
     let parts = sealed_parts coins a b m in
     let u = read_gives (take 1792 (sealed_with coins a b m)) (u_of coins a) parts.first in
     let v = read_gives (drop 1792 (sealed_with coins a b m)) (v_of coins b m) parts.second in
     rw (front, back, u.0, v.0) (message_from_bits m (v_of coins b m) (product_of (u_of coins a) s) is (λ c h.
-    bit_opened coins a m s (error_of seed) c (length-uniform rho) (ternary_is_ternary (hash_of RingSecret (seed ∷ [])) 0) (ternary_is_ternary (hash_of RingSecret (seed ∷ [])) 64) h))
+    bit_opened coins a m s (error_of seed) c (length-uniform rho) (ternary_is_ternary (hash_of RingSecret (seed ∷ [])) 0)
+    (ternary_is_ternary (hash_of RingSecret (seed ∷ [])) 64) h))
 
 -- a capsule's parts have no coefficient that is too large
-pub sealed_reads : (capsule key m : List ℕ) → capsule ≡ capsule_of key m → ((x : CoefficientTooLarge) → read_packed (take 1792 capsule) ≡ Err x → ⊥) × ((x : CoefficientTooLarge) → read_packed (drop 1792 capsule) ≡ Err x → ⊥)
+pub sealed_reads : (capsule key m : List ℕ) → capsule ≡ capsule_of key m
+    → ((x : CoefficientTooLarge) → read_packed (take 1792 capsule) ≡ Err x → ⊥)
+    × ((x : CoefficientTooLarge) → read_packed (drop 1792 capsule) ≡ Err x → ⊥)
 unfolding capsule_of
 sealed_reads capsule key m e =
     let coins = hash_of RingCoins (key ∷ m ∷ []) in
@@ -216,7 +232,8 @@ sealed_reads capsule key m e =
     rw e ((λ x refused. cc), (λ x refused. cc))
 
 -- what the code reads is what is decoded
-pub reads_decoded : (seed capsule front back u v us m : List ℕ) → front ≡ take 1792 capsule → back ≡ drop 1792 capsule → read_packed front ≡ Ok u → read_packed back ≡ Ok v
+pub reads_decoded : (seed capsule front back u v us m : List ℕ) → front ≡ take 1792 capsule → back ≡ drop 1792 capsule
+    → read_packed front ≡ Ok u → read_packed back ≡ Ok v
     → us ≡ product_of u (secret_of seed) → m ≡ message_of v us → m ≡ decoded seed capsule
 unfolding decoded
 reads_decoded seed capsule front back u v us m is-front is-back first second product message =

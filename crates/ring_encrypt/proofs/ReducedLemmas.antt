@@ -27,10 +27,12 @@ told : (cs : List ℕ) (o : Option CoefficientTooLarge) → is_ok (unless_too_la
 told cs None = refl
 told cs (Some e) = refl
 
-part_told : (part : List ℕ) (r : Result (List ℕ) CoefficientTooLarge) → r ≡ read_packed part → is_ok r ≡ is_none (first_too_large 0 (unpacked part))
+part_told : (part : List ℕ) (r : Result (List ℕ) CoefficientTooLarge) → r ≡ read_packed part
+    → is_ok r ≡ is_none (first_too_large 0 (unpacked part))
 part_told part r e = ap is_ok e ∙ told (unpacked part) (first_too_large 0 (unpacked part))
 
-pub not_reduced : (bytes capsule : List ℕ) (r : Result (List ℕ) CoefficientTooLarge) → bytes ≡ capsule → r ≡ read_packed (take 1792 bytes) → is_ok r ≡ false → false ≡ is_reduced capsule
+pub not_reduced : (bytes capsule : List ℕ) (r : Result (List ℕ) CoefficientTooLarge) → bytes ≡ capsule → r ≡ read_packed (take 1792 bytes)
+    → is_ok r ≡ false → false ≡ is_reduced capsule
 unfolding is_reduced
 not_reduced bytes capsule r same e bad =
     let first : is_none (first_too_large 0 (unpacked (take 1792 bytes))) ≡ false = sym (part_told (take 1792 bytes) r e) ∙ bad in
@@ -43,5 +45,6 @@ reduced_as_told bytes capsule r s same long e f good =
     let first : is_none (first_too_large 0 (unpacked (take 1792 bytes))) ≡ true = sym (part_told (take 1792 bytes) r e) ∙ good in
     let room : length (drop 1792 bytes) ≤ 448 = omega (arith, length-drop 1792 bytes) in
     let whole : take 448 (drop 1792 bytes) ≡ drop 1792 bytes = take_all 448 (drop 1792 bytes) room in
-    let second : is_ok s ≡ is_none (first_too_large 0 (unpacked (drop 1792 bytes))) = part_told (drop 1792 bytes) s (f ∙ ap read_packed whole) in
+    let second : is_ok s ≡ is_none (first_too_large 0 (unpacked (drop 1792 bytes))) = part_told (drop 1792 bytes) s
+    (f ∙ ap read_packed whole) in
     rw (← same, first) second

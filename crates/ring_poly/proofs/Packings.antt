@@ -26,16 +26,24 @@ number_third a b c d ha hb hc hd = omega arith
 number_fourth : (a b c d : ℕ) → a < 2 ^ 14 → b < 2 ^ 14 → c < 2 ^ 14 → d < 2 ^ 14 → group_number a b c d / 2 ^ 42 % 2 ^ 14 ≡ d
 number_fourth a b c d ha hb hc hd = omega arith
 
-pub group_of-number : (a b c d : ℕ) → a < 2 ^ 14 → b < 2 ^ 14 → c < 2 ^ 14 → d < 2 ^ 14 → group_of (group_number a b c d) ≡ a ∷ b ∷ c ∷ d ∷ []
+pub group_of-number : (a b c d : ℕ) → a < 2 ^ 14 → b < 2 ^ 14 → c < 2 ^ 14 → d < 2 ^ 14
+    → group_of (group_number a b c d) ≡ a ∷ b ∷ c ∷ d ∷ []
 group_of-number a b c d ha hb hc hd =
-    rw (number_low a b c d ha hb hc hd, number_second a b c d ha hb hc hd, number_third a b c d ha hb hc hd, number_fourth a b c d ha hb hc hd) refl
+    rw (
+      number_low a b c d ha hb hc hd,
+      number_second a b c d ha hb hc hd,
+      number_third a b c d ha hb hc hd,
+      number_fourth a b c d ha hb hc
+          hd,
+    ) refl
 
 -- a number of 56 bits is that of its four parts
 pub number-group_of : (n : ℕ) → n < 2 ^ 56 → group_number (n % 2 ^ 14) (n / 2 ^ 14 % 2 ^ 14) (n / 2 ^ 28 % 2 ^ 14) (n / 2 ^ 42 % 2 ^ 14) ≡ n
 number-group_of n h = omega arith
 
 -- a number of 56 bits is spelled by its seven bytes
-pub spelled-bytes : (n : ℕ) → n < 2 ^ 56 → spelled_number (n % 256) (n / 256 ^ 1 % 256) (n / 256 ^ 2 % 256) (n / 256 ^ 3 % 256) (n / 256 ^ 4 % 256) (n / 256 ^ 5 % 256) (n / 256 ^ 6 % 256) ≡ n
+pub spelled-bytes : (n : ℕ) → n < 2 ^ 56 → spelled_number (n % 256) (n / 256 ^ 1 % 256) (n / 256 ^ 2 % 256) (n / 256 ^ 3 % 256)
+    (n / 256 ^ 4 % 256) (n / 256 ^ 5 % 256) (n / 256 ^ 6 % 256) ≡ n
 spelled-bytes n h = omega arith
 
 -- seven bytes, read out of the number that they spell
@@ -93,7 +101,8 @@ length-packed (suc n) (a ∷ b ∷ c ∷ []) l = absurd (omega arith)
 pub packed-append : (n : ℕ) (cs ds : List ℕ) → length cs ≡ 4 * n → packed (cs ++ ds) ≡ packed cs ++ packed ds
 packed-append zero [] ds l = refl
 packed-append zero (a ∷ rest) ds l = absurd (omega arith)
-packed-append (suc n) (a ∷ b ∷ c ∷ d ∷ rest) ds l = ap (λ x. bytes_low_first 0 7 (group_number a b c d) ++ x) (packed-append n rest ds (omega arith))
+packed-append (suc n) (a ∷ b ∷ c ∷ d ∷ rest) ds l = ap (λ x. bytes_low_first 0 7 (group_number a b c d) ++ x)
+    (packed-append n rest ds (omega arith))
 packed-append (suc n) [] ds l = absurd (omega arith)
 packed-append (suc n) (a ∷ []) ds l = absurd (omega arith)
 packed-append (suc n) (a ∷ b ∷ []) ds l = absurd (omega arith)
@@ -114,7 +123,8 @@ length-unpacked (suc n) (a ∷ b ∷ c ∷ d ∷ e ∷ f ∷ []) l = absurd (ome
 pub unpacked-append : (n : ℕ) (bs ds : List ℕ) → length bs ≡ 7 * n → unpacked (bs ++ ds) ≡ unpacked bs ++ unpacked ds
 unpacked-append zero [] ds l = refl
 unpacked-append zero (a ∷ rest) ds l = absurd (omega arith)
-unpacked-append (suc n) (a ∷ b ∷ c ∷ d ∷ e ∷ f ∷ g ∷ rest) ds l = ap (λ x. group_of (spelled_number a b c d e f g) ++ x) (unpacked-append n rest ds (omega arith))
+unpacked-append (suc n) (a ∷ b ∷ c ∷ d ∷ e ∷ f ∷ g ∷ rest) ds l = ap (λ x. group_of (spelled_number a b c d e f g) ++ x)
+    (unpacked-append n rest ds (omega arith))
 unpacked-append (suc n) [] ds l = absurd (omega arith)
 unpacked-append (suc n) (a ∷ []) ds l = absurd (omega arith)
 unpacked-append (suc n) (a ∷ b ∷ []) ds l = absurd (omega arith)
@@ -193,7 +203,8 @@ pub none_from_all : (cs : List ℕ) → All (λ c. c < 12289) cs → first_too_l
 none_from_all cs all = none_too_large 0 cs (λ k lt. all k 0 lt)
 
 -- the numbers below place i are small, and the one at i is not
-pub first_at : (i p : ℕ) (cs : List ℕ) → i < length cs → ((k : ℕ) → k < i → get_or cs k 0 < 12289) → 12289 ≤ get_or cs i 0 → first_too_large p cs ≡ Some (record { place = p + i; value = get_or cs i 0 })
+pub first_at : (i p : ℕ) (cs : List ℕ) → i < length cs → ((k : ℕ) → k < i → get_or cs k 0 < 12289) → 12289 ≤ get_or cs i 0
+    → first_too_large p cs ≡ Some (record { place = p + i; value = get_or cs i 0 })
 first_at i p [] l h big = absurd (omega arith)
 first_at zero p (c ∷ rest) l h big =
     let e : p + 0 ≡ p = omega arith in
@@ -213,7 +224,8 @@ read_ok : (cs f : List ℕ) (o : Option CoefficientTooLarge) → unless_too_larg
 read_ok cs f None e = (refl, let x = e in cc)
 read_ok cs f (Some r) e = cc
 
-pub packed_from_read : (n : ℕ) (bs f : List ℕ) → length bs ≡ 7 * n → AreBelow 256 bs → read_packed bs ≡ Ok f → (packed f ≡ bs) × (length f ≡ 4 * n) × AreBelow 12289 f
+pub packed_from_read : (n : ℕ) (bs f : List ℕ) → length bs ≡ 7 * n → AreBelow 256 bs → read_packed bs ≡ Ok f → (packed f ≡ bs)
+    × (length f ≡ 4 * n) × AreBelow 12289 f
 packed_from_read n bs f l h e =
     let r = read_ok (unpacked bs) f (first_too_large 0 (unpacked bs)) e in
     let small = none_from 0 (unpacked bs) r.0 in
@@ -256,7 +268,8 @@ four_set (x ∷ y ∷ []) a b c d l = absurd (omega arith)
 four_set (x ∷ y ∷ z ∷ []) a b c d l = absurd (omega arith)
 four_set (x ∷ y ∷ z ∷ w ∷ v ∷ rest) a b c d l = absurd (omega arith)
 
-pub seven_unpacked : (xs : List ℕ) → length xs ≡ 7 → unpacked xs ≡ group_of (spelled_number (get_or xs 0 0) (get_or xs 1 0) (get_or xs 2 0) (get_or xs 3 0) (get_or xs 4 0) (get_or xs 5 0) (get_or xs 6 0))
+pub seven_unpacked : (xs : List ℕ) → length xs ≡ 7 → unpacked xs ≡ group_of
+    (spelled_number (get_or xs 0 0) (get_or xs 1 0) (get_or xs 2 0) (get_or xs 3 0) (get_or xs 4 0) (get_or xs 5 0) (get_or xs 6 0))
 seven_unpacked (a ∷ b ∷ c ∷ d ∷ e ∷ f ∷ g ∷ []) l = refl
 seven_unpacked (a ∷ b ∷ c ∷ d ∷ e ∷ f ∷ g ∷ h ∷ rest) l = absurd (omega arith)
 seven_unpacked [] l = absurd (omega arith)
@@ -285,7 +298,8 @@ record FirstAt (p : ℕ) (cs : List ℕ) (e : CoefficientTooLarge) : Type 0 wher
   large : 12289 ≤ e.value
   least : (k : ℕ) → k < i → get_or cs k 0 < 12289
 
-small_before : (c : ℕ) (rest : List ℕ) (i : ℕ) → c < 12289 → ((k : ℕ) → k < i → get_or rest k 0 < 12289) → (k : ℕ) → k < suc i → get_or (c ∷ rest) k 0 < 12289
+small_before : (c : ℕ) (rest : List ℕ) (i : ℕ) → c < 12289 → ((k : ℕ) → k < i → get_or rest k 0 < 12289) → (k : ℕ) → k < suc i
+    → get_or (c ∷ rest) k 0 < 12289
 small_before c rest i h t zero l = h
 small_before c rest i h t (suc k) l = t k (omega arith)
 

@@ -12,7 +12,8 @@ unfolding by_place
 get_or-by_place F k d h = get_or-map-range_with_len F 0 1024 k k d h (omega arith)
 
 -- a list of 1,024 values is that of its values by place
-pub by_place_is : {X : Type 0} (F : ℕ → X) (xs : List X) (d : X) → length xs ≡ 1024 → ((k : ℕ) → k < 1024 → get_or xs k d ≡ F k) → xs ≡ by_place F
+pub by_place_is : {X : Type 0} (F : ℕ → X) (xs : List X) (d : X) → length xs ≡ 1024 → ((k : ℕ) → k < 1024 → get_or xs k d ≡ F k)
+    → xs ≡ by_place F
 unfolding by_place
 by_place_is F xs d e h = fill_by_all F xs 1024 d e h
 

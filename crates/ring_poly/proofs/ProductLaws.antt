@@ -30,7 +30,8 @@ signed_sum_is f g a b m = ⊎_elim
 
 -- ---- a list modulo 12289 and one over the integers
 -- f, of 1,024 numbers, has the residues of F
-pub congruent_by_place : (f : List ℕ) (F : List ℤ) → length f ≡ 1024 → length F ≤ 1024 → ((k : ℕ) → k < 1024 → get_or f k 0 ≡ residue (coefficient F k)) → AreCongruent (map pos f) F
+pub congruent_by_place : (f : List ℕ) (F : List ℤ) → length f ≡ 1024 → length F ≤ 1024
+    → ((k : ℕ) → k < 1024 → get_or f k 0 ≡ residue (coefficient F k)) → AreCongruent (map pos f) F
 congruent_by_place f F a b same m = ⊎_elim
     (λ (h : m < 1024).
     let e = coefficient-pos f m ∙ ap pos (same m h) in
@@ -43,20 +44,25 @@ congruent_by_place f F a b same m = ⊎_elim
 
 -- the residue of a sum is that of the sum of the residues
 pub residue-add : (a b : ℤ) → residue (pos (residue a) +ℤ pos (residue b)) ≡ residue (a +ℤ b)
-residue-add a b = residue_same (pos (residue a) +ℤ pos (residue b)) (a +ℤ b) (congruent-add (pos (residue a)) a (pos (residue b)) b (congruent_residue a) (congruent_residue b))
+residue-add a b = residue_same (pos (residue a) +ℤ pos (residue b)) (a +ℤ b)
+    (congruent-add (pos (residue a)) a (pos (residue b)) b (congruent_residue a) (congruent_residue b))
 
 pub residue-sub : (a b : ℤ) → residue (pos (residue a) -ℤ pos (residue b)) ≡ residue (a -ℤ b)
-residue-sub a b = residue_same (pos (residue a) -ℤ pos (residue b)) (a -ℤ b) (congruent-sub (pos (residue a)) a (pos (residue b)) b (congruent_residue a) (congruent_residue b))
+residue-sub a b = residue_same (pos (residue a) -ℤ pos (residue b)) (a -ℤ b)
+    (congruent-sub (pos (residue a)) a (pos (residue b)) b (congruent_residue a) (congruent_residue b))
 
 -- a product depends on the residues alone
-pub get_or-Product_of : (f : List ℕ) (F : List ℤ) (t : List ℤ) → AreCongruent (map pos f) F → (k : ℕ) → k < 1024 → get_or (product_of f t) k 0 ≡ residue (product_at F t k)
-get_or-Product_of f F t c k h = get_or-product_of f t k h ∙ residue_same (product_at (map pos f) t k) (product_at F t k) (product_at_congruent (map pos f) F t c k)
+pub get_or-Product_of : (f : List ℕ) (F : List ℤ) (t : List ℤ) → AreCongruent (map pos f) F → (k : ℕ) → k < 1024
+    → get_or (product_of f t) k 0 ≡ residue (product_at F t k)
+get_or-Product_of f F t c k h = get_or-product_of f t k h ∙ residue_same (product_at (map pos f) t k) (product_at F t k)
+    (product_at_congruent (map pos f) F t c k)
 
 length-pos : (f : List ℕ) → length f ≡ 1024 → length (map pos f) ≤ 1024
 length-pos f e = omega (arith, length-map f pos)
 
 Product_congruent : (f : List ℕ) (s : List ℤ) → AreCongruent (map pos (product_of f s)) (products (map pos f) s)
-Product_congruent f s = congruent_by_place (product_of f s) (products (map pos f) s) (length-product_of f s) (omega (arith, length-products (map pos f) s)) (λ k h.
+Product_congruent f s = congruent_by_place (product_of f s) (products (map pos f) s) (length-product_of f s)
+    (omega (arith, length-products (map pos f) s)) (λ k h.
     get_or-product_of f s k h ∙ ap residue (sym (coefficient-products (map pos f) s k h)))
 
 same_by_place : (f g : List ℕ) → length f ≡ 1024 → length g ≡ 1024 → ((k : ℕ) → k < 1024 → get_or f k 0 ≡ get_or g k 0) → f ≡ g
@@ -74,25 +80,30 @@ product_adds_in_first f g t a b =
     let z = is k in
     let same : pos (get_or f k 0) +ℤ pos (get_or g k 0) ≡ coefficient H k = cc in
     get_or-sum_of f g k h ∙ ap residue same) in
-    same_by_place (product_of (sum_of f g) t) (sum_of (product_of f t) (product_of g t)) (length-product_of (sum_of f g) t) (length-sum_of (product_of f t) (product_of g t)) (λ k h.
+    same_by_place (product_of (sum_of f g) t) (sum_of (product_of f t) (product_of g t)) (length-product_of (sum_of f g) t)
+    (length-sum_of (product_of f t) (product_of g t)) (λ k h.
     get_or-Product_of (sum_of f g) H t c k h
     ∙ ap residue (product_at-sum_left H F G t is k)
     ∙ sym (get_or-sum_of (product_of f t) (product_of g t) k h
-    ∙ (let x = get_or-product_of f t k h in let y = get_or-product_of g t k h in rw (x, y) (residue-add (product_at F t k) (product_at G t k)))))
+    ∙ (let x = get_or-product_of f t k h in let y = get_or-product_of g t k h in rw (x, y)
+    (residue-add (product_at F t k) (product_at G t k)))))
 
 pub product_adds_in_second : ProductAddsInSecond
 product_adds_in_second f s t a b =
     let F = map pos f in
-    same_by_place (product_of f (signed_sum s t)) (sum_of (product_of f s) (product_of f t)) (length-product_of f (signed_sum s t)) (length-sum_of (product_of f s) (product_of f t)) (λ k h.
+    same_by_place (product_of f (signed_sum s t)) (sum_of (product_of f s) (product_of f t)) (length-product_of f (signed_sum s t))
+    (length-sum_of (product_of f s) (product_of f t)) (λ k h.
     get_or-product_of f (signed_sum s t) k h
     ∙ ap residue (product_at-sum_right (signed_sum s t) s t F (signed_sum_is s t (omega arith) (omega arith)) k)
     ∙ sym (get_or-sum_of (product_of f s) (product_of f t) k h
-    ∙ (let x = get_or-product_of f s k h in let y = get_or-product_of f t k h in rw (x, y) (residue-add (product_at F s k) (product_at F t k)))))
+    ∙ (let x = get_or-product_of f s k h in let y = get_or-product_of f t k h in rw (x, y)
+    (residue-add (product_at F s k) (product_at F t k)))))
 
 pub factors_commute : FactorsCommute
 factors_commute f s t a b c =
     let F = map pos f in
-    same_by_place (product_of (product_of f s) t) (product_of (product_of f t) s) (length-product_of (product_of f s) t) (length-product_of (product_of f t) s) (λ k h.
+    same_by_place (product_of (product_of f s) t) (product_of (product_of f t) s) (length-product_of (product_of f s) t)
+    (length-product_of (product_of f t) s) (λ k h.
     get_or-Product_of (product_of f s) (products F s) t (Product_congruent f s) k h
     ∙ ap residue (products_comm F s t (length-pos f a) (omega arith) (omega arith) k h)
     ∙ sym (get_or-Product_of (product_of f t) (products F t) s (Product_congruent f t) k h))
@@ -108,7 +119,9 @@ product_is_small f t m k a all ternary h =
     product_at_size f t m (omega arith) (omega (arith, ternary.length)) (bounded m f all) (bounded 1 t ternary.trits) k h
 
 -- b = a s + e, times r: the product over the integers that it is congruent to
-masked : (a : List ℕ) (s r e : List ℤ) → length a ≡ 1024 → length s ≡ 1024 → length e ≡ 1024 → (k : ℕ) → k < 1024 → get_or (product_of (sum_of (product_of a s) (map residue e)) r) k 0 ≡ residue (product_at (products (map pos a) s) r k +ℤ product_at e r k)
+masked : (a : List ℕ) (s r e : List ℤ) → length a ≡ 1024 → length s ≡ 1024 → length e ≡ 1024 → (k : ℕ) → k < 1024
+    → get_or (product_of (sum_of (product_of a s) (map residue e)) r) k 0 ≡ residue
+    (product_at (products (map pos a) s) r k +ℤ product_at e r k)
 masked a s r e la ls le k h =
     let P = products (map pos a) s in
     let H = signed_sum P e in
@@ -116,7 +129,8 @@ masked a s r e la ls le k h =
     let is = signed_sum_is P e (omega (arith, length-products (map pos a) s)) (omega arith) in
     let c = congruent_by_place b H (length-sum_of (product_of a s) (map residue e)) (omega (arith, length-signed_sum P e)) (λ j l.
     get_or-sum_of (product_of a s) (map residue e) j l
-    ∙ (let x = get_or-product_of a s j l in let y = get_or-residues e j in rw (x, y) (residue-add (product_at (map pos a) s j) (coefficient e j)))
+    ∙ (let x = get_or-product_of a s j l in let y = get_or-residues e j in rw (x, y)
+    (residue-add (product_at (map pos a) s j) (coefficient e j)))
     ∙ ap residue (ap (λ z. z +ℤ coefficient e j) (sym (coefficient-products (map pos a) s j l)) ∙ sym (is j))) in
     get_or-Product_of b H r c k h ∙ ap residue (product_at-sum_left H P e r is k)
 
@@ -132,7 +146,8 @@ mask_cancels a s r e d k la ls lr le ld h =
 
 -- ---- what is left when a mask cancels, for ternary secrets and errors
 -- place k of b r and of u s, for b = a s + e and u = a r + d
-module _ (a : List ℕ) (s r e d : List ℤ) (k : ℕ) (z : ℤ) (long : length a ≡ 1024) (ts : IsTernary s) (tr : IsTernary r) (te : IsTernary e) (td : IsTernary d) (tz : unsigned_abs z ≤ 1) (inside : k < 1024) where
+module _ (a : List ℕ) (s r e d : List ℤ) (k : ℕ) (z : ℤ) (long : length a ≡ 1024) (ts : IsTernary s) (tr : IsTernary r) (te : IsTernary e)
+    (td : IsTernary d) (tz : unsigned_abs z ≤ 1) (inside : k < 1024) where
   -- e r - d s + z
   pub noise_size : unsigned_abs ((product_at e r k -ℤ product_at d s k) +ℤ z) ≤ 2049
   noise_size =

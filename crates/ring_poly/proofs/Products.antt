@@ -44,7 +44,8 @@ pub length-difference_of : (f g : List ℕ) → length (difference_of f g) ≡ 1
 unfolding difference_of
 length-difference_of f g = length-by_place (λ k. residue (pos (get_or f k 0) -ℤ pos (get_or g k 0)))
 
-pub get_or-difference_of : (f g : List ℕ) (k : ℕ) → k < 1024 → get_or (difference_of f g) k 0 ≡ residue (pos (get_or f k 0) -ℤ pos (get_or g k 0))
+pub get_or-difference_of : (f g : List ℕ) (k : ℕ) → k < 1024 → get_or (difference_of f g) k 0 ≡ residue
+    (pos (get_or f k 0) -ℤ pos (get_or g k 0))
 unfolding difference_of
 get_or-difference_of f g k h = get_or-by_place (λ k. residue (pos (get_or f k 0) -ℤ pos (get_or g k 0))) k 0 h
 
@@ -55,7 +56,8 @@ IsSum h f g = (m : ℕ) → coefficient h m ≡ coefficient f m +ℤ coefficient
 
 convolution-sum_left : (h f g r : List ℤ) → IsSum h f g → (s : ℕ) → convolution h r s ≡ convolution f r s +ℤ convolution g r s
 convolution-sum_left h f g r is s =
-    total_same (s + 1) (λ i. coefficient h (s - i) *ℤ coefficient r i) (λ i. coefficient f (s - i) *ℤ coefficient r i +ℤ coefficient g (s - i) *ℤ coefficient r i) (λ i l.
+    total_same (s + 1) (λ i. coefficient h (s - i) *ℤ coefficient r i)
+    (λ i. coefficient f (s - i) *ℤ coefficient r i +ℤ coefficient g (s - i) *ℤ coefficient r i) (λ i l.
     ap (λ x. x *ℤ coefficient r i) (is (s - i)) ∙ add-mul (coefficient f (s - i)) (coefficient g (s - i)) (coefficient r i))
     ∙ total-add (s + 1) (λ i. coefficient f (s - i) *ℤ coefficient r i) (λ i. coefficient g (s - i) *ℤ coefficient r i)
 
@@ -75,7 +77,8 @@ mul-add a b c =
 
 convolution-sum_right : (h f g r : List ℤ) → IsSum h f g → (s : ℕ) → convolution r h s ≡ convolution r f s +ℤ convolution r g s
 convolution-sum_right h f g r is s =
-    total_same (s + 1) (λ i. coefficient r (s - i) *ℤ coefficient h i) (λ i. coefficient r (s - i) *ℤ coefficient f i +ℤ coefficient r (s - i) *ℤ coefficient g i) (λ i l.
+    total_same (s + 1) (λ i. coefficient r (s - i) *ℤ coefficient h i)
+    (λ i. coefficient r (s - i) *ℤ coefficient f i +ℤ coefficient r (s - i) *ℤ coefficient g i) (λ i l.
     ap (λ x. coefficient r (s - i) *ℤ x) (is i) ∙ mul-add (coefficient r (s - i)) (coefficient f i) (coefficient g i))
     ∙ total-add (s + 1) (λ i. coefficient r (s - i) *ℤ coefficient f i) (λ i. coefficient r (s - i) *ℤ coefficient g i)
 
@@ -111,18 +114,21 @@ extended_is p G t same m =
     let e : m / 1024 * 1024 + m % 1024 ≡ m = omega arith in
     ap (alternate (m / 1024)) (same (m % 1024) (omega arith)) ∙ sym (turned_often G t (m / 1024) (m % 1024)) ∙ ap G e
 
-product_twice : (f s r : List ℤ) → length f ≤ 1024 → length s ≤ 1024 → length r ≤ 1024 → (k : ℕ) → k < 1024 → product_at (products f s) r k ≡ spread (spread (extended f) s) r k
+product_twice : (f s r : List ℤ) → length f ≤ 1024 → length s ≤ 1024 → length r ≤ 1024 → (k : ℕ) → k < 1024
+    → product_at (products f s) r k ≡ spread (spread (extended f) s) r k
 unfolding spread
 product_twice f s r a b c k h =
     let P = products f s in
     let G = spread (extended f) s in
-    let is = extended_is P G (spread-turn (extended f) s (extended-turn f)) (λ j l. coefficient-products f s j l ∙ product_at_spread f s a b j l) in
+    let is = extended_is P G (spread-turn (extended f) s (extended-turn f))
+    (λ j l. coefficient-products f s j l ∙ product_at_spread f s a b j l) in
     product_at_spread P r (omega (arith, length-products f s)) c k h
     ∙ total_same 1024 (λ j. extended P (k + 2048 - j) *ℤ coefficient r j) (λ j. G (k + 2048 - j) *ℤ coefficient r j) (λ j l.
     ap (λ x. x *ℤ coefficient r j) (is (k + 2048 - j)))
 
 -- f times s and then r is f times r and then s
-pub products_comm : (f s r : List ℤ) → length f ≤ 1024 → length s ≤ 1024 → length r ≤ 1024 → (k : ℕ) → k < 1024 → product_at (products f s) r k ≡ product_at (products f r) s k
+pub products_comm : (f s r : List ℤ) → length f ≤ 1024 → length s ≤ 1024 → length r ≤ 1024 → (k : ℕ) → k < 1024
+    → product_at (products f s) r k ≡ product_at (products f r) s k
 products_comm f s r a b c k h =
     product_twice f s r a b c k h ∙ spread_comm (extended f) s r k ∙ sym (product_twice f r s a c b k h)
 
@@ -131,7 +137,8 @@ products_comm f s r a b c k h =
 abbrev pub IsBounded : ℕ → List ℤ → Type 0
 IsBounded m f = (k : ℕ) → unsigned_abs (coefficient f k) ≤ m
 
-pub product_at_size : (f g : List ℤ) (m : ℕ) → length f ≤ 1024 → length g ≤ 1024 → IsBounded m f → IsBounded 1 g → (k : ℕ) → k < 1024 → unsigned_abs (product_at f g k) ≤ 1024 * m
+pub product_at_size : (f g : List ℤ) (m : ℕ) → length f ≤ 1024 → length g ≤ 1024 → IsBounded m f → IsBounded 1 g → (k : ℕ) → k < 1024
+    → unsigned_abs (product_at f g k) ≤ 1024 * m
 product_at_size f g m a b small trit k h =
     let turned_small : (i : ℕ) → unsigned_abs (turned f i k) ≤ m = λ i. ⊎_elim
     (λ (o : k < i). rw (turned-back f i k o, abs-neg (coefficient f (k + 1024 - i))) (small (k + 1024 - i)))
@@ -154,4 +161,5 @@ convolution_congruent f g r c s =
 
 pub product_at_congruent : (f g r : List ℤ) → AreCongruent f g → (k : ℕ) → Congruent (product_at f r k) (product_at g r k)
 product_at_congruent f g r c k =
-    congruent-sub (convolution f r k) (convolution g r k) (convolution f r (k + 1024)) (convolution g r (k + 1024)) (convolution_congruent f g r c k) (convolution_congruent f g r c (k + 1024))
+    congruent-sub (convolution f r k) (convolution g r k) (convolution f r (k + 1024)) (convolution g r (k + 1024))
+    (convolution_congruent f g r c k) (convolution_congruent f g r c (k + 1024))

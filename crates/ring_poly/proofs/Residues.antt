@@ -85,12 +85,15 @@ pub residue-sub_reduced : (a b : ℕ) → b < 12289 → (a + 12289 - b) % 12289 
 residue-sub_reduced a b h = sym (residue_is (pos a -ℤ pos b) 1 (a + 12289 - b) (omega (arith, ints)))
 
 -- a term z that is added before the difference is taken
-pub residue_masked : (x y : ℕ) (z p : ℤ) → residue (pos x -ℤ pos y) ≡ residue p → residue (pos (residue (pos x +ℤ z)) -ℤ pos y) ≡ residue (p +ℤ z)
+pub residue_masked : (x y : ℕ) (z p : ℤ) → residue (pos x -ℤ pos y) ≡ residue p
+    → residue (pos (residue (pos x +ℤ z)) -ℤ pos y) ≡ residue (p +ℤ z)
 residue_masked x y z p e =
-    let left = congruent-sub (pos (residue (pos x +ℤ z))) (pos x +ℤ z) (pos y) (pos y) (congruent_residue (pos x +ℤ z)) (congruent_refl (pos y)) in
+    let left = congruent-sub (pos (residue (pos x +ℤ z))) (pos x +ℤ z) (pos y) (pos y) (congruent_residue (pos x +ℤ z))
+    (congruent_refl (pos y)) in
     let turn : (pos x +ℤ z) -ℤ pos y ≡ (pos x -ℤ pos y) +ℤ z = omega (arith, ints) in
     let right = congruent-add (pos x -ℤ pos y) p z z (congruent_from_residue (pos x -ℤ pos y) p e) (congruent_refl z) in
-    residue_same (pos (residue (pos x +ℤ z)) -ℤ pos y) ((pos x +ℤ z) -ℤ pos y) left ∙ ap residue turn ∙ residue_same ((pos x -ℤ pos y) +ℤ z) (p +ℤ z) right
+    residue_same (pos (residue (pos x +ℤ z)) -ℤ pos y) ((pos x +ℤ z) -ℤ pos y) left ∙ ap residue turn
+    ∙ residue_same ((pos x -ℤ pos y) +ℤ z) (p +ℤ z) right
 
 -- a small number, and a small number more than 6144
 pub residue_near_zero : (z : ℤ) → unsigned_abs z ≤ 2049 → (residue z ≤ 2049) ⊎ (10240 ≤ residue z)

@@ -43,25 +43,31 @@ small_trit b t k = ⊎_elim
 
 small_turned : (a : List ℕ) → IsPolynomial a → (i k : ℕ) → unsigned_abs (turned (map pos a) i k) ≤ 12288
 small_turned a p i k = ⊎_elim
-    (λ (o : k < i). rw (turned-back (map pos a) i k o, abs-neg (coefficient (map pos a) (k + 1024 - i))) (small_coefficient a p (k + 1024 - i)))
+    (λ (o : k < i). rw (turned-back (map pos a) i k o, abs-neg (coefficient (map pos a) (k + 1024 - i)))
+    (small_coefficient a p (k + 1024 - i)))
     (λ (o : i ≤ k). rw (turned-front (map pos a) i k o) (small_coefficient a p (k - i)))
     (cases_lt k i)
 
-pub row_sum-size : (a : List ℕ) (b : List ℤ) → IsPolynomial a → IsTernary b → (n k : ℕ) → n ≤ 1024 → unsigned_abs (row_sum (map pos a) b n k) ≤ 2 ^ 30
+pub row_sum-size : (a : List ℕ) (b : List ℤ) → IsPolynomial a → IsTernary b → (n k : ℕ) → n ≤ 1024
+    → unsigned_abs (row_sum (map pos a) b n k) ≤ 2 ^ 30
 unfolding row_sum
 row_sum-size a b p t n k h =
     let all = total_size n 12288 (λ i. turned (map pos a) i k *ℤ coefficient b i) (λ i l.
     rw (unsigned_abs-mul (turned (map pos a) i k) (coefficient b i)) (
-    let both = mul-le (unsigned_abs (turned (map pos a) i k)) (unsigned_abs (coefficient b i)) 12288 1 (small_turned a p i k) (small_trit b t i) in
+    let both = mul-le (unsigned_abs (turned (map pos a) i k)) (unsigned_abs (coefficient b i)) 12288 1 (small_turned a p i k)
+    (small_trit b t i) in
     omega arith)) in
     omega arith
 
 -- What the two halves of a row leave: ys is what stands from place r on after the first, zs what stands below it after the second.
 module _ (xs ys zs : List ℤ) (a : List ℕ) (r : ℕ) (f : ℤ) where
   pub row_at : r < 1024 → length xs ≡ 1024 → length ys ≡ 1024 - r → length zs ≡ r →
-      ((i : ℕ) → i < length ys → get_or ys i (pos 0) ≡ get_or (mid_of r (1024 - r) xs) i (pos 0) +ℤ (pos (get_or (take (1024 - r) a) i 0) *ℤ f)) →
-      ((i : ℕ) → i < length zs → get_or zs i (pos 0) ≡ get_or (take r (put_mid r (1024 - r) xs ys)) i (pos 0) +ℤ (pos (get_or (mid_of (1024 - r) (1024 - (1024 - r)) a) i 0) *ℤ neg_ℤ f)) →
-      (i : ℕ) → i < 1024 → get_or (zs ++ post_of 0 r (put_mid r (1024 - r) xs ys)) i (pos 0) ≡ get_or xs i (pos 0) +ℤ (turned (map pos a) r i *ℤ f)
+      ((i : ℕ) → i < length ys → get_or ys i (pos 0) ≡ get_or (mid_of r (1024 - r) xs) i (pos 0) +ℤ
+      (pos (get_or (take (1024 - r) a) i 0) *ℤ f)) →
+      ((i : ℕ) → i < length zs → get_or zs i (pos 0) ≡ get_or (take r (put_mid r (1024 - r) xs ys)) i (pos 0) +ℤ
+      (pos (get_or (mid_of (1024 - r) (1024 - (1024 - r)) a) i 0) *ℤ neg_ℤ f)) →
+      (i : ℕ) → i < 1024 → get_or (zs ++ post_of 0 r (put_mid r (1024 - r) xs ys)) i (pos 0) ≡ get_or xs i (pos 0) +ℤ
+      (turned (map pos a) r i *ℤ f)
   row_at h lx ly lz high low i inside = ⊎_elim
       (λ (o : i < r).
       let in_zs : i < length zs = omega arith in
@@ -75,12 +81,14 @@ module _ (xs ys zs : List ℤ) (a : List ℕ) (r : ℕ) (f : ℤ) where
       let t = pos (get_or a (i + 1024 - r) 0) in
       get_or_append_left zs (post_of 0 r (put_mid r (1024 - r) xs ys)) (pos 0) i in_zs
       ∙ low i in_zs
-      ∙ rw (start, term, turn) (ap (λ y. get_or xs i (pos 0) +ℤ y) (*ℤ_comm t (neg_ℤ f) ∙ neg-mul f t ∙ ap neg_ℤ (*ℤ_comm f t) ∙ sym (neg-mul t f))))
+      ∙ rw (start, term, turn) (ap (λ y. get_or xs i (pos 0) +ℤ y)
+      (*ℤ_comm t (neg_ℤ f) ∙ neg-mul f t ∙ ap neg_ℤ (*ℤ_comm f t) ∙ sym (neg-mul t f))))
       (λ (o : r ≤ i).
       let in_ys : i - r < length ys = omega arith in
       let back : r + (i - r) ≡ i = omega arith in
       let start : get_or (mid_of r (1024 - r) xs) (i - r) (pos 0) ≡ get_or xs i (pos 0) =
-      get_or-take (1024 - r) (drop r xs) (i - r) (pos 0) (omega arith) ∙ get_or-drop r xs (i - r) (pos 0) ∙ ap (λ j. get_or xs j (pos 0)) back in
+      get_or-take (1024 - r) (drop r xs) (i - r) (pos 0) (omega arith) ∙ get_or-drop r xs (i - r) (pos 0)
+      ∙ ap (λ j. get_or xs j (pos 0)) back in
       let term : get_or (take (1024 - r) a) (i - r) 0 ≡ get_or a (i - r) 0 = get_or-take (1024 - r) a (i - r) 0 (omega arith) in
       let turn : turned (map pos a) r i ≡ pos (get_or a (i - r) 0) = turned-front (map pos a) r i o ∙ coefficient-pos a (i - r) in
       let front : length (take r xs) ≡ r = length-take-le r xs (omega arith) in
@@ -99,7 +107,8 @@ module _ (xs ys zs : List ℤ) (a : List ℕ) (r : ℕ) (f : ℤ) where
   pub low_long : r < 1024 → length xs ≡ 1024 → length (take r (put_mid r (1024 - r) xs ys)) ≡ r
   low_long h lx = ap length (take-put_mid_below r (1024 - r) xs ys r (omega arith) (omega arith)) ∙ length-take-le r xs (omega arith)
 
-  pub whole_long : r < 1024 → length xs ≡ 1024 → length ys ≡ 1024 - r → length zs ≡ r → length (zs ++ post_of 0 r (put_mid r (1024 - r) xs ys)) ≡ 1024
+  pub whole_long : r < 1024 → length xs ≡ 1024 → length ys ≡ 1024 - r → length zs ≡ r
+      → length (zs ++ post_of 0 r (put_mid r (1024 - r) xs ys)) ≡ 1024
   whole_long h lx ly lz =
       let front = length-take-le r xs (omega arith) in
       let back = length-drop (1024 - r) (drop r xs) in

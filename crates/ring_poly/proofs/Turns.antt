@@ -21,13 +21,15 @@ module _ (f g : List ℤ) (short_f : length f ≤ 1024) (short_g : length g ≤ 
       (λ i l. ap (λ x. x *ℤ coefficient g i) (sym (turned-front f i k (omega arith))))
 
   -- the part of the sum past x^1023 that is not 0
-  middle : (k n : ℕ) → k + 1 + n ≡ 1024 → convolution f g (k + 1024) ≡ total n (λ i. coefficient f (k + 1024 - (k + 1 + i)) *ℤ coefficient g (k + 1 + i))
+  middle : (k n : ℕ) → k + 1 + n ≡ 1024 → convolution f g (k + 1024) ≡ total n
+      (λ i. coefficient f (k + 1024 - (k + 1 + i)) *ℤ coefficient g (k + 1 + i))
   middle k n e =
       let U : ℕ → ℤ = λ i. coefficient f (k + 1024 - i) *ℤ coefficient g i in
       let first : total (k + 1) U ≡ pos 0 = total_zero (k + 1) U (λ i l.
       ap (λ x. x *ℤ coefficient g i) (get_or_past f (k + 1024 - i) (pos 0) (omega arith)) ∙ zero-mul (coefficient g i)) in
       let last : total (k + 1) (λ i. U (k + 1 + n + i)) ≡ pos 0 = total_zero (k + 1) (λ i. U (k + 1 + n + i)) (λ i l.
-      ap (λ x. coefficient f (k + 1024 - (k + 1 + n + i)) *ℤ x) (get_or_past g (k + 1 + n + i) (pos 0) (omega arith)) ∙ mul-zero (coefficient f (k + 1024 - (k + 1 + n + i)))) in
+      ap (λ x. coefficient f (k + 1024 - (k + 1 + n + i)) *ℤ x) (get_or_past g (k + 1 + n + i) (pos 0) (omega arith))
+      ∙ mul-zero (coefficient f (k + 1024 - (k + 1 + n + i)))) in
       let cut = total-split (k + 1 + n) (k + 1) U in
       let cut2 = total-split (k + 1) n U in
       let size : k + 1024 + 1 ≡ k + 1 + n + (k + 1) = omega arith in
@@ -117,10 +119,12 @@ unfolding spread
 spread_comm F g h x =
     let A : ℕ → ℕ → ℤ = λ i j. (F (x + 2048 - i + 2048 - j) *ℤ coefficient g j) *ℤ coefficient h i in
     let B : ℕ → ℕ → ℤ = λ j i. (F (x + 2048 - j + 2048 - i) *ℤ coefficient h i) *ℤ coefficient g j in
-    total_same 1024 (λ i. total 1024 (λ j. F (x + 2048 - i + 2048 - j) *ℤ coefficient g j) *ℤ coefficient h i) (λ i. total 1024 (λ j. A i j)) (λ i l.
+    total_same 1024 (λ i. total 1024 (λ j. F (x + 2048 - i + 2048 - j) *ℤ coefficient g j) *ℤ coefficient h i)
+    (λ i. total 1024 (λ j. A i j)) (λ i l.
     sym (total-mul 1024 (λ j. F (x + 2048 - i + 2048 - j) *ℤ coefficient g j) (coefficient h i)))
     ∙ total_swap 1024 1024 A
-    ∙ total_same 1024 (λ j. total 1024 (λ i. A i j)) (λ j. total 1024 (λ i. F (x + 2048 - j + 2048 - i) *ℤ coefficient h i) *ℤ coefficient g j) (λ j l.
+    ∙ total_same 1024 (λ j. total 1024 (λ i. A i j)) (λ j. total 1024 (λ i. F (x + 2048 - j + 2048 - i) *ℤ coefficient h i) *ℤ coefficient g
+    j) (λ j l.
     total_same 1024 (λ i. A i j) (λ i. B j i) (λ i m.
     let e : x + 2048 - i + 2048 - j ≡ x + 2048 - j + 2048 - i = omega arith in
     mul_comm_assoc (F (x + 2048 - i + 2048 - j)) (coefficient g j) (coefficient h i)

@@ -19,8 +19,16 @@ read_turned f g h e =
     rw turned (read_back (neg_ℤ f) (omega arith))
 
 -- x + t f, as the code computes it
-pub read_multiple : (x : ℤ) (t : ℕ) (f : ℤ) → unsigned_abs x ≤ 2 ^ 30 → t < 12289 → unsigned_abs f ≤ 1 → to_z w32 (of_z w32 (to_z w32 (of_z w32 x) +ℤ to_z w32 (of_z w32 (to_z w32 (of_z w32 (pos t)) *ℤ to_z w32 (of_z w32 f))))) ≡ x +ℤ (pos t *ℤ f)
+pub read_multiple : (x : ℤ) (t : ℕ) (f : ℤ) → unsigned_abs x ≤ 2 ^ 30 → t < 12289 → unsigned_abs f ≤ 1
+    → to_z w32 (of_z w32 (to_z w32 (of_z w32 x) +ℤ to_z w32 (of_z w32 (to_z w32 (of_z w32 (pos t)) *ℤ to_z w32 (of_z w32 f))))) ≡ x +ℤ
+    (pos t *ℤ f)
 read_multiple x t f hx ht hf =
     let size : unsigned_abs (pos t *ℤ f) ≤ 12289 * 1 = rw unsigned_abs-mul (mul-le t (unsigned_abs f) 12289 1 (omega arith) hf) in
     let whole = abs-add x (pos t *ℤ f) (2 ^ 30) 12289 hx (omega arith) in
-    rw (read_back x (omega arith), read_back (pos t) (omega arith), read_back f (omega arith), read_back (pos t *ℤ f) (omega arith), read_back (x +ℤ (pos t *ℤ f)) (omega arith)) refl
+    rw (
+      read_back x (omega arith),
+      read_back (pos t) (omega arith),
+      read_back f (omega arith),
+      read_back (pos t *ℤ f) (omega arith),
+      read_back (x +ℤ (pos t *ℤ f)) (omega arith),
+    ) refl

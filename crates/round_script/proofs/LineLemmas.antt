@@ -5,7 +5,8 @@ use Rattle.std.proofs.lemmas.Bool.{cases_eq}
 use Rattle.round_script.specs.Lines.{line_of}
 
 -- it is what stands before a line feed before which none is
-pub line_of_found : (text : List ℕ) (i : ℕ) → i < length text → slice_index text i ≡ 10 → ((k : ℕ) → k < i → slice_index text k ≢ 10) → line_of text ≡ Some (take i text)
+pub line_of_found : (text : List ℕ) (i : ℕ) → i < length text → slice_index text i ≡ 10 → ((k : ℕ) → k < i → slice_index text k ≢ 10)
+    → line_of text ≡ Some (take i text)
 line_of_found [] i lt here before = absurd (omega arith)
 line_of_found (byte ∷ bytes) zero lt here before = let now : byte ≡ 10 = here in rw now refl
 line_of_found (byte ∷ bytes) (suc i) lt here before =

@@ -44,7 +44,8 @@ unfolding bytes_from
 stream_bytes key count = drawn_bytes key 0 count
 
 -- messages of at most the limit are messages
-made_messages : (number size first count : ℕ) → size ≤ MESSAGE_LIMIT → AllByRecursion IsMessage (map (made_message number size) (range_with_len first count))
+made_messages : (number size first count : ℕ) → size ≤ MESSAGE_LIMIT
+    → AllByRecursion IsMessage (map (made_message number size) (range_with_len first count))
 made_messages number size first zero short = tt {0}
 made_messages number size first (suc count) short =
     let key = hash_of MakeMessage (to_be_bytes w64 number ∷ (first ∷ []) ∷ []) in (
@@ -56,7 +57,8 @@ made_messages number size first (suc count) short =
 one_rises : (number members : ℕ) → 2 ≤ members → Rise 1 (members + 1) ((1 + number % members) ∷ [])
 one_rises number members least = (omega arith, omega (arith, mod-lt number {m = members} (omega arith)), tt {0})
 
-made_rise : (number members : ℕ) (fault : Fault) → 2 ≤ members → Rise 1 (members + 1) (map (λ (line : FaultLine). line.member) (made_faults number members fault))
+made_rise : (number members : ℕ) (fault : Fault) → 2 ≤ members → Rise 1 (members + 1)
+    (map (λ (line : FaultLine). line.member) (made_faults number members fault))
 made_rise number members Honest least = tt {0}
 made_rise number members Silent least = one_rises number members least
 made_rise number members Malformed least = one_rises number members least
@@ -72,7 +74,8 @@ made_rise number members FlipPad least = one_rises number members least
 made_rise number members BadDescriptor least = one_rises number members least
 
 -- what is made is a script
-pub made_is : (number members size : ℕ) (fault : Fault) → 2 ≤ members → members ≤ 8 → size ≤ MESSAGE_LIMIT → IsScript (made_script number members size fault)
+pub made_is : (number members size : ℕ) (fault : Fault) → 2 ≤ members → members ≤ 8 → size ≤ MESSAGE_LIMIT
+    → IsScript (made_script number members size fault)
 made_is number members size fault least most short =
     let count = length-map-range_with_len (made_message number size) 1 members in
     let seed = hash_bytes MakeSeed (to_be_bytes w64 number ∷ []) in
@@ -85,7 +88,8 @@ made_is number members size fault least most short =
       seed = seed.0;
       seed_bytes = seed.1;
       messages = made_messages number size 1 members short;
-      faults = subst (λ (n : ℕ). Rise 1 (n + 1) (map (λ (line : FaultLine). line.member) (made_faults number members fault))) (sym count) (made_rise number members fault least);
+      faults = subst (λ (n : ℕ). Rise 1 (n + 1) (map (λ (line : FaultLine). line.member) (made_faults number members fault))) (sym count)
+          (made_rise number members fault least);
       drops = tt {0};
       order = tt {0};
       repeat = tt {0};

@@ -31,7 +31,8 @@ number_found : (E : Type 0) (text : List ℕ) (read : Result ℕ E) → 48 < get
     → result_ok read ≡ number_of text
 unfolding number_of
 number_found E text (Ok n) first ((digits, more, below), is) =
-    ap Some is ∙ sym (all_hold (nat_lt 48 (slice_index text 0)) (all_ascii_digits text) (nat_lt (digits_value 10 text) (2 ^ 64)) (digits_value 10 text)
+    ap Some is ∙ sym (all_hold (nat_lt 48 (slice_index text 0)) (all_ascii_digits text) (nat_lt (digits_value 10 text) (2 ^ 64))
+    (digits_value 10 text)
     (lt-ltb _ _ first) digits (lt-ltb _ _ below))
 number_found E text (Err e) first never =
     sym (one_fails (nat_lt 48 (slice_index text 0)) (all_ascii_digits text) (nat_lt (digits_value 10 text) (2 ^ 64)) (digits_value 10 text)
@@ -53,5 +54,6 @@ digits_ascii (c ∷ cs) e =
 pub number_of_no_text : (digits : List ℕ) → ¬ (IsUtf8 digits) → number_of digits ≡ None
 unfolding number_of
 number_of_no_text digits never =
-    one_fails (nat_lt 48 (slice_index digits 0)) (all_ascii_digits digits) (nat_lt (digits_value 10 digits) (2 ^ 64)) (digits_value 10 digits)
+    one_fails (nat_lt 48 (slice_index digits 0)) (all_ascii_digits digits) (nat_lt (digits_value 10 digits) (2 ^ 64))
+    (digits_value 10 digits)
     (λ _ all _. never (IsUtf8-from_ascii digits (digits_ascii digits all)))

@@ -18,7 +18,8 @@ optionals_step {A} form front k n before after one e =
     ∙ joined front (listed one) (optionals form (k + 1) n after)
 
 -- a loop over the forms goes on with a value,
-pub loop_takes : {A : Type 0} (form : ℕ → List ℕ → Option A) (front : List A) (k count i : ℕ) (before after : Reading) (x : A) (total : List A × Reading)
+pub loop_takes : {A : Type 0} (form : ℕ → List ℕ → Option A) (front : List A) (k count i : ℕ) (before after : Reading) (x : A)
+    (total : List A × Reading)
     → i < count → (Some x, after) ≡ optional (form k) before
     → preceded front (optionals form k (count - i) before) ≡ total
     → preceded (front ++ x ∷ []) (optionals form (k + 1) (count - (i + 1)) after) ≡ total
@@ -27,7 +28,8 @@ loop_takes form front k count i before after x total more e so_far =
     sym (optionals_step form front k (count - (i + 1)) before after (Some x) e) ∙ (rw left at so_far)
 
 -- or without one,
-pub loop_leaves : {A : Type 0} (form : ℕ → List ℕ → Option A) (front : List A) (k count i : ℕ) (before after : Reading) (total : List A × Reading)
+pub loop_leaves : {A : Type 0} (form : ℕ → List ℕ → Option A) (front : List A) (k count i : ℕ) (before after : Reading)
+    (total : List A × Reading)
     → i < count → (None, after) ≡ optional (form k) before
     → preceded front (optionals form k (count - i) before) ≡ total
     → preceded front (optionals form (k + 1) (count - (i + 1)) after) ≡ total
@@ -37,7 +39,8 @@ loop_leaves {A} form front k count i before after total more e so_far =
     ∙ sym (optionals_step form front k (count - (i + 1)) before after None e) ∙ (rw left at so_far)
 
 -- and is done after the last
-pub loop_is_done : {A : Type 0} (form : ℕ → List ℕ → Option A) (front : List A) (k count i : ℕ) (before : Reading) (total : List A × Reading)
+pub loop_is_done : {A : Type 0} (form : ℕ → List ℕ → Option A) (front : List A) (k count i : ℕ) (before : Reading)
+    (total : List A × Reading)
     → count ≤ i → preceded front (optionals form k (count - i) before) ≡ total → (front, before) ≡ total
 unfolding optionals
 loop_is_done {A} form front k count i before total all so_far =

@@ -46,7 +46,8 @@ unless_is false e x y h = let h : Ok x ≡ Ok y = h in cc
 
 shape_is : (line : List ℕ) (shape : Shape) → shape_in line ≡ Some shape → (shape.version ≡ 1) × (2 ≤ shape.members) × (shape.members ≤ 8)
 shape_is line shape e =
-    let found = map_some (λ (members : ℕ). record { version = 1; members = members }) (option_and_then (digit_of 2 8) (behind (codes "members ") line)) shape e in
+    let found = map_some (λ (members : ℕ). record { version = 1; members = members })
+    (option_and_then (digit_of 2 8) (behind (codes "members ") line)) shape e in
     let digits = and_then_some (digit_of 2 8) (behind (codes "members ") line) found.0 found.1 in
     let digit = digit_is 2 8 digits.0 found.0 digits.2 in
     subst (λ (shape : Shape). (shape.version ≡ 1) × (2 ≤ shape.members) × (shape.members ≤ 8)) found.2 (refl, digit.1, digit.2)
@@ -61,7 +62,8 @@ seed_is : (line seed : List ℕ) → seed_in line ≡ Some seed → (length seed
 unfolding seed_of
 seed_is line seed e =
     let digits = and_then_some seed_of (behind (codes "seed ") line) seed e in
-    let read = result_some (decode_sized digits.0 32) seed (refused_some (list_any is_upper_case digits.0) (result_ok (decode_sized digits.0 32)) seed digits.2) in
+    let read = result_some (decode_sized digits.0 32) seed (refused_some (list_any is_upper_case digits.0)
+    (result_ok (decode_sized digits.0 32)) seed digits.2) in
     let size = decode_sized-ok digits.0 32 seed read in
     let parts = decode_of-ok digits.0 seed (sym (decode_sized-twice digits.0 32 size) ∙ read) in
     (omega (arith, size, parts.2), parts.3)
@@ -96,7 +98,8 @@ message_is r x e =
     message_of_is digits.0 x.0 digits.2
 
 -- all that is read so often is of one kind
-repeated_all : {A E : Type 0} (Good : A → Type 0) (read : Reading → Result (A × Reading) E) → ((r : Reading) (x : A × Reading) → read r ≡ Ok x → Good x.0)
+repeated_all : {A E : Type 0} (Good : A → Type 0) (read : Reading → Result (A × Reading) E)
+    → ((r : Reading) (x : A × Reading) → read r ≡ Ok x → Good x.0)
     → (n : ℕ) (r : Reading) (x : List A × Reading) → repeated n read r ≡ Ok x → AllByRecursion Good x.0 × (length x.0 ≡ n)
 unfolding repeated
 repeated_all {A} {E} Good read each zero r x e =
@@ -107,16 +110,19 @@ repeated_all {A} {E} Good read each (suc n) r x e =
     let others = bind_ok (repeated n read first.0.1) (λ others. Ok (first.0.0 ∷ others.0, others.1)) x first.2 in
     let same : (first.0.0 ∷ others.0.0, others.0.1) ≡ x = (let e : Ok (first.0.0 ∷ others.0.0, others.0.1) ≡ Ok x = others.2 in cc) in
     let more = repeated_all Good read each n first.0.1 others.0 others.1 in
-    subst (λ (x : List A × Reading). AllByRecursion Good x.0 × (length x.0 ≡ suc n)) same ((each r first.0 first.1, more.0), omega (arith, more.1))
+    subst (λ (x : List A × Reading). AllByRecursion Good x.0 × (length x.0 ≡ suc n)) same
+    ((each r first.0 first.1, more.0), omega (arith, more.1))
 
 -- ---- the lines that may be missing
 
-optional_is : {A : Type 0} (before : Reading) (o : Option (A × Reading)) (x : A) → (value_or_none before o).0 ≡ Some x → (y : A × Reading) × (o ≡ Some y) × (y.0 ≡ x)
+optional_is : {A : Type 0} (before : Reading) (o : Option (A × Reading)) (x : A) → (value_or_none before o).0 ≡ Some x → (y : A × Reading)
+    × (o ≡ Some y) × (y.0 ≡ x)
 optional_is before (Some y) x h = (y, refl, (let h : Some y.0 ≡ Some x = h in cc))
 optional_is before None x h = absurd cc
 
 -- a value is that of a line by the form
-pub optional_form : {A : Type 0} (form : List ℕ → Option A) (r : Reading) (x : A) → (optional form r).0 ≡ Some x → (line : List ℕ) × (form line ≡ Some x)
+pub optional_form : {A : Type 0} (form : List ℕ → Option A) (r : Reading) (x : A) → (optional form r).0 ≡ Some x → (line : List ℕ)
+    × (form line ≡ Some x)
 unfolding optional
 optional_form {A} form r x h =
     let y = optional_is r (option_and_then (λ line. option_map (λ x. (x, behind_line line r)) (form line)) (line_of r.rest)) x h in
@@ -135,8 +141,10 @@ one_more : {A : Type 0} (key : A → ℕ) (Good : A → Type 0) (first bound : �
     → Rise (first + 1) bound (map key others) × AllByRecursion Good others
     → Rise first bound (map key (listed one ++ others)) × AllByRecursion Good (listed one ++ others)
 one_more key Good first bound (Some x) others is below rest =
-    let here = is x refl in
-    ((omega (arith, here.0), omega (arith, here.0), subst (λ (n : ℕ). Rise (n + 1) bound (map key others)) (sym here.0) rest.0), (here.1, rest.1))
+    let here = is x refl in (
+      (omega (arith, here.0), omega (arith, here.0), subst (λ (n : ℕ). Rise (n + 1) bound (map key others)) (sym here.0) rest.0),
+      (here.1, rest.1),
+    )
 one_more key Good first bound None others is below rest = (rise_from first (first + 1) bound (map key others) (omega arith) rest.0, rest.1)
 
 -- the values of lines that may be missing rise as their forms do
@@ -156,7 +164,8 @@ optionals_rise {A} form key Good each first (suc count) bound r ends =
 fault_is : (k : ℕ) (line : List ℕ) (x : FaultLine) → fault_line_of k line ≡ Some x → (x.member ≡ k) × Unit {0}
 unfolding fault_line_of
 fault_is k line x e =
-    let found = map_some (λ fault. record { member = k; fault = fault }) (option_and_then fault_of_name (behind_member (codes "fault ") k line)) x e in
+    let found = map_some (λ fault. record { member = k; fault = fault })
+    (option_and_then fault_of_name (behind_member (codes "fault ") k line)) x e in
     (sym (ap (λ (x : FaultLine). x.member) found.2), tt {0})
 
 drop_is : (shape : Shape) (k : ℕ) (line : List ℕ) (x : Slot) → slot_dropped shape k line ≡ Some x → (rank_of x ≡ k) × IsSlotOf shape x
@@ -193,12 +202,19 @@ pub record IsOpening (opening : Opening) : Type 0 where
 pub opening_is : (r : Reading) (x : Opening × Reading) → opening_at r ≡ Ok x → IsOpening x.0
 unfolding opening_at
 opening_is r x e =
-    let begun = bind_ok (version_at r) (λ begun. value_at shape_in begun >>= λ shape. value_at round_of shape.1 >>= λ round. value_at seed_in round.1 >>= λ seed. repeated shape.0.members message_at seed.1 >>= λ messages. Ok (made shape.0 round.0 seed.0 messages.0, messages.1)) x e in
-    let shape = bind_ok (value_at shape_in begun.0) (λ shape. value_at round_of shape.1 >>= λ round. value_at seed_in round.1 >>= λ seed. repeated shape.0.members message_at seed.1 >>= λ messages. Ok (made shape.0 round.0 seed.0 messages.0, messages.1)) x begun.2 in
-    let round = bind_ok (value_at round_of shape.0.1) (λ round. value_at seed_in round.1 >>= λ seed. repeated shape.0.0.members message_at seed.1 >>= λ messages. Ok (made shape.0.0 round.0 seed.0 messages.0, messages.1)) x shape.2 in
-    let seed = bind_ok (value_at seed_in round.0.1) (λ seed. repeated shape.0.0.members message_at seed.1 >>= λ messages. Ok (made shape.0.0 round.0.0 seed.0 messages.0, messages.1)) x round.2 in
-    let messages = bind_ok (repeated shape.0.0.members message_at seed.0.1) (λ messages. Ok (made shape.0.0 round.0.0 seed.0.0 messages.0, messages.1)) x seed.2 in
-    let same : (made shape.0.0 round.0.0 seed.0.0 messages.0.0, messages.0.1) ≡ x = (let e : Ok (made shape.0.0 round.0.0 seed.0.0 messages.0.0, messages.0.1) ≡ Ok x = messages.2 in cc) in
+    let begun = bind_ok (version_at r) (λ begun. value_at shape_in begun >>= λ shape. value_at round_of shape.1 >>= λ round. value_at
+    seed_in round.1 >>= λ seed. repeated shape.0.members message_at seed.1 >>= λ messages. Ok
+    (made shape.0 round.0 seed.0 messages.0, messages.1)) x e in
+    let shape = bind_ok (value_at shape_in begun.0) (λ shape. value_at round_of shape.1 >>= λ round. value_at seed_in round.1 >>= λ seed.
+    repeated shape.0.members message_at seed.1 >>= λ messages. Ok (made shape.0 round.0 seed.0 messages.0, messages.1)) x begun.2 in
+    let round = bind_ok (value_at round_of shape.0.1) (λ round. value_at seed_in round.1 >>= λ seed. repeated shape.0.0.members message_at
+    seed.1 >>= λ messages. Ok (made shape.0.0 round.0 seed.0 messages.0, messages.1)) x shape.2 in
+    let seed = bind_ok (value_at seed_in round.0.1) (λ seed. repeated shape.0.0.members message_at seed.1 >>= λ messages. Ok
+    (made shape.0.0 round.0.0 seed.0 messages.0, messages.1)) x round.2 in
+    let messages = bind_ok (repeated shape.0.0.members message_at seed.0.1)
+    (λ messages. Ok (made shape.0.0 round.0.0 seed.0.0 messages.0, messages.1)) x seed.2 in
+    let same : (made shape.0.0 round.0.0 seed.0.0 messages.0.0, messages.0.1) ≡ x =
+    (let e : Ok (made shape.0.0 round.0.0 seed.0.0 messages.0.0, messages.0.1) ≡ Ok x = messages.2 in cc) in
     let shape_line = value_at_is shape_in begun.0 shape.0 shape.1 in
     let round_line = value_at_is round_of shape.0.1 round.0 round.1 in
     let seed_line = value_at_is seed_in round.0.1 seed.0 seed.1 in
@@ -221,17 +237,29 @@ opening_is r x e =
     made : Shape → ℕ → List ℕ → List (List ℕ) → Opening
     made shape round seed messages = record { shape = shape; round = round; seed = seed; messages = messages }
 
-pub further_is : (opening : Opening) (before : Reading) (script : Script) → IsOpening opening → further_of opening before ≡ Ok script → IsScript script
+pub further_is : (opening : Opening) (before : Reading) (script : Script) → IsOpening opening → further_of opening before ≡ Ok script
+    → IsScript script
 unfolding further_of
 further_is opening before script is e =
     let faults = faults_at opening.shape.members before in
     let drops = drops_at opening.shape faults.1 in
     let repeat = optional repeat_of drops.1 in
-    let made : Script = record { version = 1; round = opening.round; seed = opening.seed; messages = opening.messages; faults = faults.0; drops = drops.0; repeat = repeat.0 } in
+    let made : Script = record {
+      version = 1;
+      round = opening.round;
+      seed = opening.seed;
+      messages = opening.messages;
+      faults = faults.0;
+      drops = drops.0;
+      repeat = repeat.0;
+    } in
     let same : made ≡ script = unless_is (not (length repeat.1.rest == 0)) repeat.1.place made script e in
-    let rising_faults = optionals_rise fault_line_of (λ line. line.member) (λ line. Unit {0}) fault_is 1 opening.shape.members (opening.shape.members + 1) before (omega arith) in
-    let rising_drops = optionals_rise (slot_dropped opening.shape) rank_of (IsSlotOf opening.shape) (drop_is opening.shape) 0 (8 * (2 * opening.shape.members + 10)) (8 * (2 * opening.shape.members + 10)) faults.1 (omega arith) in
-    let shape : opening.shape ≡ shape_of_script made = (let version = is.version in let count = is.count in λ i. record { version = version i; members = sym count i }) in
+    let rising_faults = optionals_rise fault_line_of (λ line. line.member) (λ line. Unit {0}) fault_is 1 opening.shape.members
+    (opening.shape.members + 1) before (omega arith) in
+    let rising_drops = optionals_rise (slot_dropped opening.shape) rank_of (IsSlotOf opening.shape) (drop_is opening.shape) 0
+    (8 * (2 * opening.shape.members + 10)) (8 * (2 * opening.shape.members + 10)) faults.1 (omega arith) in
+    let shape : opening.shape ≡ shape_of_script made = (let version = is.version in let count = is.count in λ i. record
+    { version = version i; members = sym count i }) in
     subst IsScript same (record {
       version = refl;
       least = omega (arith, is.least, is.count);
@@ -255,7 +283,8 @@ read_is bytes script e =
     further_is opening.0.0 opening.0.1 script (opening_is (reading_at 1 bytes) opening.0 opening.1) opening.2
 
 -- of a call that gives what is read, what it returned is a script
-pub found_of : (result : Result Script ScriptRefusal) (expected : Result Script ℕ) → ((script : Script) → expected ≡ Ok script → IsScript script)
+pub found_of : (result : Result Script ScriptRefusal) (expected : Result Script ℕ)
+    → ((script : Script) → expected ≡ Ok script → IsScript script)
     → Gives bad_line (λ script. script) result expected → IfOk result (λ script. IsScript script)
 found_of (Ok script) expected each gives = each script gives
 found_of (Err refusal) expected each gives = tt {0}

@@ -27,7 +27,8 @@ pub map_some : {A B : Type 0} (f : A → B) (o : Option A) (y : B) → option_ma
 map_some f (Some x) y h = (x, refl, (let h : Some (f x) ≡ Some y = h in cc))
 map_some f None y h = absurd cc
 
-pub and_then_some : {A B : Type 0} (f : A → Option B) (o : Option A) (y : B) → option_and_then f o ≡ Some y → (x : A) × (o ≡ Some x) × (f x ≡ Some y)
+pub and_then_some : {A B : Type 0} (f : A → Option B) (o : Option A) (y : B) → option_and_then f o ≡ Some y → (x : A) × (o ≡ Some x)
+    × (f x ≡ Some y)
 and_then_some f (Some x) y h = (x, refl, h)
 and_then_some f None y h = absurd cc
 
@@ -62,7 +63,8 @@ value_at_is {A} form r x e =
     let value = bind_ok (ok_or (form line.0.0) r.place) (λ value. Ok (value, line.0.1)) x line.2 in
     let same : (value.0, line.0.1) ≡ x = (let h : Ok (value.0, line.0.1) ≡ Ok x = value.2 in cc) in
     let is = line_at_is r line.0 line.1 in
-    subst (λ (x : A × Reading). (line : List ℕ) × (form line ≡ Some x.0) × (r.rest ≡ ended line ++ x.1.rest) × (x.1.place ≡ r.place + 1)) same
+    subst (λ (x : A × Reading). (line : List ℕ) × (form line ≡ Some x.0) × (r.rest ≡ ended line ++ x.1.rest) × (x.1.place ≡ r.place + 1))
+    same
     (line.0.0, ok_or_ok (form line.0.0) r.place value.0 value.1, is.0, is.1)
 
 -- ---- forms
@@ -71,16 +73,19 @@ value_at_is {A} form r x e =
 pub behind_is : (front line rest : List ℕ) → behind front line ≡ Some rest → line ≡ front ++ rest
 unfolding behind
 behind_is front line rest e =
-    let found = chosen_some (nat_le (length front) (length line) && bytes_eq (take (length front) line) front) (drop (length front) line) rest e in
+    let found = chosen_some (nat_le (length front) (length line) && bytes_eq (take (length front) line) front) (drop (length front) line)
+    rest e in
     let parts = and_parts (nat_le (length front) (length line)) (bytes_eq (take (length front) line) front) found.0 in
     let begins : take (length front) line ≡ front = same_bytes (take (length front) line) front parts.1 in
-    sym (take-append-drop (length front) line) ∙ ap (λ (xs : List ℕ). xs ++ drop (length front) line) begins ∙ ap (λ (ys : List ℕ). front ++ ys) found.1
+    sym (take-append-drop (length front) line) ∙ ap (λ (xs : List ℕ). xs ++ drop (length front) line) begins
+    ∙ ap (λ (ys : List ℕ). front ++ ys) found.1
   where
     same_bytes : (xs ys : List ℕ) → bytes_eq xs ys ≡ true → xs ≡ ys
     same_bytes xs ys h = search rules
 
 -- one digit
-pub digit_is : (least most : ℕ) (digits : List ℕ) (n : ℕ) → digit_of least most digits ≡ Some n → (digits ≡ (48 + n) ∷ []) × (least ≤ n) × (n ≤ most)
+pub digit_is : (least most : ℕ) (digits : List ℕ) (n : ℕ) → digit_of least most digits ≡ Some n → (digits ≡ (48 + n) ∷ []) × (least ≤ n)
+    × (n ≤ most)
 digit_is least most [] n e = absurd cc
 digit_is least most (digit ∷ []) n e =
     let found = chosen_some (nat_le (48 + least) digit && nat_le digit (48 + most)) (digit - 48) n e in
@@ -103,8 +108,10 @@ positive digits (suc n) e high = omega arith
 pub number_is : (digits : List ℕ) (n : ℕ) → number_of digits ≡ Some n → (digits ≡ decimal n) × (1 ≤ n) × (n < 2 ^ 64)
 unfolding number_of
 number_is digits n e =
-    let found = chosen_some (nat_lt 48 (slice_index digits 0) && all_ascii_digits digits && nat_lt (digits_value 10 digits) (2 ^ 64)) (digits_value 10 digits) n e in
-    let parts = and_parts (nat_lt 48 (slice_index digits 0) && all_ascii_digits digits) (nat_lt (digits_value 10 digits) (2 ^ 64)) found.0 in
+    let found = chosen_some (nat_lt 48 (slice_index digits 0) && all_ascii_digits digits && nat_lt (digits_value 10 digits) (2 ^ 64))
+    (digits_value 10 digits) n e in
+    let parts = and_parts (nat_lt 48 (slice_index digits 0) && all_ascii_digits digits) (nat_lt (digits_value 10 digits) (2 ^ 64)) found.0
+    in
     let front = and_parts (nat_lt 48 (slice_index digits 0)) (all_ascii_digits digits) parts.0 in
     let high : 48 < slice_index digits 0 = ltb-true _ _ front.0 in
     let below : digits_value 10 digits < 2 ^ 64 = ltb-true _ _ parts.1 in

@@ -79,7 +79,8 @@ confirm-closes shape stage e = record {
 }
 
 closing-is : (shape : Shape) (stage : ℕ) → ClosingKind shape stage → is_closing shape stage ≡ true
-closing-is shape stage k = ap (λ (o : Option StageKind). is_some (option_and_then vote_of o)) k.is ∙ ap (λ (o : Option StageKind). is_some o) k.closes
+closing-is shape stage k = ap (λ (o : Option StageKind). is_some (option_and_then vote_of o)) k.is
+    ∙ ap (λ (o : Option StageKind). is_some o) k.closes
 
 -- ---- embedded votes
 
@@ -90,18 +91,25 @@ vote-short : (roster : Roster) (round : ℕ) (slot : Slot) (bytes : List ℕ) (p
 vote-short roster round slot bytes post vote are at votes is =
     let stage : is.content.header.stage ≡ slot.stage = ap (λ (s : Slot). s.stage) is.named in
     let whole : IsBytes ((to_be_bytes w32 (length post.content) ++ post.content) ++ post.signature) = subst IsBytes is.spelled are in
-    let content : IsBytes post.content = IsBytes-back (to_be_bytes w32 (length post.content)) post.content (IsBytes-front (to_be_bytes w32 (length post.content) ++ post.content) post.signature whole) in
-    let short = votes_are_short roster round post is.content.header vote is.content is.admitted content (ap (kind_of_stage (shape_of_roster roster)) stage ∙ at) votes is.reads in
+    let content : IsBytes post.content = IsBytes-back (to_be_bytes w32 (length post.content)) post.content
+    (IsBytes-front (to_be_bytes w32 (length post.content) ++ post.content) post.signature whole) in
+    let short = votes_are_short roster round post is.content.header vote is.content is.admitted content
+    (ap (kind_of_stage (shape_of_roster roster)) stage ∙ at) votes is.reads in
     omega (arith, short, ap length is.spelled)
 
-zip-short : (roster : Roster) (round : ℕ) (slots : List Slot) (votes : List (List ℕ)) (posts : List Post) (vote : StageKind) → length votes ≤ length slots
-    → AllByRecursion (λ slot. kind_of_stage (shape_of_roster roster) slot.stage ≡ Some vote) slots → IsVoteStage vote → AllByRecursion IsBytes votes → ArePostsOf roster round (zip slots votes) posts
+zip-short : (roster : Roster) (round : ℕ) (slots : List Slot) (votes : List (List ℕ)) (posts : List Post) (vote : StageKind)
+    → length votes ≤ length slots
+    → AllByRecursion (λ slot. kind_of_stage (shape_of_roster roster) slot.stage ≡ Some vote) slots → IsVoteStage vote
+    → AllByRecursion IsBytes votes → ArePostsOf roster round (zip slots votes) posts
     → AllByRecursion (λ v. length v ≤ 9405) votes
 zip-short roster round slots [] posts vote few at votes bytes are = tt
 zip-short roster round [] (v ∷ vs) posts vote few at votes bytes are = absurd (omega (arith, few))
 zip-short roster round (slot ∷ slots) (v ∷ vs) [] vote few at votes bytes are = absurd are
-zip-short roster round (slot ∷ slots) (v ∷ vs) (post ∷ posts) vote few at votes bytes are =
-    (vote-short roster round slot v post vote bytes.0 at.0 votes are.0, zip-short roster round slots vs posts vote (omega (arith, few)) at.1 votes bytes.1 are.1)
+zip-short roster round (slot ∷ slots) (v ∷ vs) (post ∷ posts) vote few at votes bytes are = (
+  vote-short roster round slot v post vote bytes.0 at.0 votes are.0,
+  zip-short roster round slots vs posts vote (omega (arith, few)) at.1
+      votes bytes.1 are.1,
+)
 
 contains-at : {A : Type 0} (xs : List A) (k : ℕ) (x : A) → slice_get xs k ≡ Some x → Contains xs x
 contains-at xs k x e = (k, slice_get_within xs k x e, get_or_from_slice_get xs k x x e)
@@ -115,13 +123,22 @@ assent-count shape content k assents =
     let a : ℕ = slots_before shape (stage - 1) in
     let b : ℕ = slots_before shape (stage - 1 + 1) in
     let next : b ≡ a + senders_of shape k.vote = slots_next shape (stage - 1) k.vote follows.1 in
-    ap length (cond-true (is_assent content.body) (slice_range (slots_of shape) a b) (take (slots_before shape stage) (slots_of shape)) assents)
-    ∙ length-take-le (b - a) (drop a (slots_of shape)) (omega (arith, next, slots_before-most shape (stage - 1 + 1), length-slots_of shape, length-drop a (slots_of shape)))
+    ap length (cond-true (is_assent content.body) (slice_range (slots_of shape) a b) (take (slots_before shape stage) (slots_of shape))
+    assents)
+    ∙ length-take-le (b - a) (drop a (slots_of shape)) (omega (
+      arith,
+      next,
+      slots_before-most shape (stage - 1 + 1),
+      length-slots_of shape,
+      length-drop a (slots_of shape),
+    ))
     ∙ omega (arith, next, k.all_vote)
 
-pub votes-short : (roster : Roster) (round : ℕ) (content : Content) (posts : List Post) → ClosingKind (shape_of_roster roster) content.header.stage
+pub votes-short : (roster : Roster) (round : ℕ) (content : Content) (posts : List Post)
+    → ClosingKind (shape_of_roster roster) content.header.stage
     → is_assent content.body ≡ true
-    → length (posts_embedded content.body) ≤ (shape_of_roster roster).members → AllByRecursion IsBytes (posts_embedded content.body) → posts_in_content roster round content ≡ Ok posts
+    → length (posts_embedded content.body) ≤ (shape_of_roster roster).members → AllByRecursion IsBytes (posts_embedded content.body)
+    → posts_in_content roster round content ≡ Ok posts
     → AllByRecursion (λ v. length v ≤ 9405) (posts_embedded content.body)
 votes-short roster round content posts k assents few bytes e =
     let shape : Shape = shape_of_roster roster in
@@ -134,8 +151,10 @@ votes-short roster round content posts k assents few bytes e =
     let is = ((assent-slots (shape_of_roster roster) content slot closing assents).0 (contains-at slots i slot there)).1 in
     let stage : slot.stage ≡ content.header.stage - 1 = omega (arith, is) in
     ap (kind_of_stage (shape_of_roster roster)) stage ∙ follows.1)) in
-    let are = (posts_are_found roster round 0 (embedded_pairs roster content) posts (zip-bytes slots votes (all-places IsBytes votes bytes))).0 e in
-    zip-short roster round slots votes posts k.vote (omega (arith, few, assent-count (shape_of_roster roster) content k assents)) at k.votes bytes are
+    let are = (posts_are_found roster round 0 (embedded_pairs roster content) posts
+    (zip-bytes slots votes (all-places IsBytes votes bytes))).0 e in
+    zip-short roster round slots votes posts k.vote (omega (arith, few, assent-count (shape_of_roster roster) content k assents)) at k.votes
+    bytes are
 
 -- ---- the posts of a passed stage
 
@@ -164,7 +183,8 @@ stands-at c later stage member past is lt speaks_there =
       post = found.0;
       stands = found.1;
       reads = is.reads number (record { stage = stage; sender = member }) found.0 (slot_at-number shape stage member speaks_there) found.1;
-      closed = get_or-take (slots_before shape (stage + 1)) past number no_post within ∙ get_or_from_slice_get past number found.0 no_post found.1;
+      closed = get_or-take (slots_before shape (stage + 1)) past number no_post within
+          ∙ get_or_from_slice_get past number found.0 no_post found.1;
     }
 
 whole-stage : (c : Configuration) (later stage : ℕ) (past : List Post) → IsPastAt c later past → 1 ≤ (shape_in c).members → stage < later
@@ -172,11 +192,13 @@ whole-stage : (c : Configuration) (later stage : ℕ) (past : List Post) → IsP
 whole-stage c later stage past is some lt k = record {
   members = some;
   closing = closing-is (shape_in c) stage k;
-  posts = length-take-le (slots_before (shape_in c) (stage + 1)) past (let whole = is.whole in omega (arith, whole, slots_before-rises (shape_in c) (stage + 1) later (omega arith)));
+  posts = length-take-le (slots_before (shape_in c) (stage + 1)) past
+      (let whole = is.whole in omega (arith, whole, slots_before-rises (shape_in c) (stage + 1) later (omega arith)));
   named = λ member content one reads. (
       let at = stands-at c later stage member past is lt (k.all_close member one.least one.most) in
       let said = said-there c (record { stage = stage; sender = member }) at.post at.reads in
-      let same = contents-same content said.content (content_read (shape_in c) at.post.content) (sym (ap (λ (p : Post). content_read (shape_in c) p.content) at.closed) ∙ reads) said.reads in
+      let same = contents-same content said.content (content_read (shape_in c) at.post.content)
+      (sym (ap (λ (p : Post). content_read (shape_in c) p.content) at.closed) ∙ reads) said.reads in
       ap (λ (x : Content). x.header.stage) same ∙ said.stage);
 }
 
@@ -191,17 +213,20 @@ goes-spares verdict t goes is = (let both = sym goes ∙ is in cc)
 
 pub agreed-there : (c : Configuration) (later stage member : ℕ) (past : List Post) (post : Post) (content : Content) → IsPastAt c later past
     → 1 ≤ (shape_in c).members → AllGo c past later → stage < later
-    → ClosingKind (shape_in c) stage → 1 ≤ member → member ≤ (shape_in c).members → slice_get past (slot_number (shape_in c) stage member) ≡ Some post → content_read (shape_in c) post.content ≡ Ok content
+    → ClosingKind (shape_in c) stage → 1 ≤ member → member ≤ (shape_in c).members
+    → slice_get past (slot_number (shape_in c) stage member) ≡ Some post → content_read (shape_in c) post.content ≡ Ok content
     → IsAgreed c content
 agreed-there c later stage member past post content is some goes lt k first last stands reads =
     let v : ClosedStage = stage_passed c past stage in
     let whole = whole-stage c later stage past is some lt k in
-    let agree = sparing_means_agreed (stage_passed c past stage) whole (λ t convicts. goes-spares (verdict_of (stage_passed c past stage)) t (goes stage lt) convicts) in
+    let agree = sparing_means_agreed (stage_passed c past stage) whole
+    (λ t convicts. goes-spares (verdict_of (stage_passed c past stage)) t (goes stage lt) convicts) in
     let faithful = agree.faithful member (record { least = first; most = last }) in
     let at = stands-at c later stage member past is lt (k.all_close member first last) in
     let one : at.post ≡ post = some-post at.post post (sym at.stands ∙ stands) in
     let same : faithful.content ≡ content =
-    contents-same faithful.content content (content_read (shape_in c) post.content) (sym (ap (λ (p : Post). content_read (shape_in c) p.content) (at.closed ∙ one)) ∙ faithful.reads) reads in
+    contents-same faithful.content content (content_read (shape_in c) post.content)
+    (sym (ap (λ (p : Post). content_read (shape_in c) p.content) (at.closed ∙ one)) ∙ faithful.reads) reads in
     subst (IsAgreed c) same (record { assents = faithful.assents ∙ agree.votes; posts = faithful.posts; embeds = faithful.embeds })
   where
     some-post : (a b : Post) → (let told : Post → Option Post = λ x. Some x in told a ≡ told b) → a ≡ b

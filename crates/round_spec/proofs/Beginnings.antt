@@ -73,16 +73,19 @@ own-speaks c is = number-within c.roster c.number (own_public c.key) is.key
 nothing : Option Post
 nothing = None
 
-nothing-kept : (n k : ℕ) (d : Option Post) → k < n → IfSome (slice_index_or (replicate n nothing) k d) (λ (post : Post). IsKept post.content)
+nothing-kept : (n k : ℕ) (d : Option Post) → k < n → IfSome (slice_index_or (replicate n nothing) k d)
+    (λ (post : Post). IsKept post.content)
 unfolding nothing
-nothing-kept n k d lt = subst (λ (o : Option Post). IfSome o (λ (post : Post). IsKept post.content)) (sym (get_or-replicate n k nothing d lt)) tt
+nothing-kept n k d lt = subst (λ (o : Option Post). IfSome o (λ (post : Post). IsKept post.content))
+    (sym (get_or-replicate n k nothing d lt)) tt
 
 empty-is_log : (c : Configuration) → IsConfiguration c → IsLog (empty_log (shape_in c))
 unfolding nothing
 empty-is_log c is = record {
   shape = shape-is c is.enter;
   places = length-replicate (slot_count (shape_in c)) nothing;
-  contents = λ k d lt. nothing-kept (slot_count (shape_in c)) k d (let long = length-replicate (slot_count (shape_in c)) nothing in omega (arith, lt, long));
+  contents = λ k d lt. nothing-kept (slot_count (shape_in c)) k d
+      (let long = length-replicate (slot_count (shape_in c)) nothing in omega (arith, lt, long));
 }
 
 empty-kept : (c : Configuration) (slot : Slot) → IsConfiguration c → kept_in (empty_log (shape_in c)) slot ≡ None
@@ -121,7 +124,15 @@ all-map P f (n ∷ ns) each = (each n, all-map P f ns each)
 
 keys-body : (c : Configuration) → IsBody (shape_in c) 0 (Keys (own_keys c))
 unfolding body_form own_keys
-keys-body c = (_, refl, (all-map IsPublicKey (λ place. key_of_seed (own_key_seed c place)) (range_with_len 0 5) (λ place. key_is_public_key (own_key_seed c place)), refl))
+keys-body c = (
+  _,
+  refl,
+  (
+    all-map IsPublicKey (λ place. key_of_seed (own_key_seed c place)) (range_with_len 0 5)
+        (λ place. key_is_public_key (own_key_seed c place)),
+    refl,
+  ),
+)
 
 keys-grammar : (c : Configuration) → IsConfiguration c → OfGrammar (shape_in c) (keys_content c)
 unfolding keys_content
@@ -168,17 +179,20 @@ keys-bytes c is =
     small_number : is_slot (shape_in c) 0 c.number ≡ true → length c.roster.keys ≤ 8 → c.number < 256
     small_number speaks most = (let within = (slot-bounds (shape_in c) 0 c.number speaks).2 in omega arith)
 
-keys-sized : (c : Configuration) → IsConfiguration c → (LEAST_CONTENT ≤ length (keys_post c).content) × (length (keys_post c).content < 2 ^ 32)
+keys-sized : (c : Configuration) → IsConfiguration c → (LEAST_CONTENT ≤ length (keys_post c).content)
+    × (length (keys_post c).content < 2 ^ 32)
 unfolding own_post
 keys-sized c is = (let long = keys-length c is in (omega (arith, long), omega (arith, long)))
 
 -- ---- the post of the keys
 
-pub checks-from : (roster : Roster) (round : ℕ) (post : Post) (header : Header) (content : Content) → admission_of roster round post ≡ Ok header
+pub checks-from : (roster : Roster) (round : ℕ) (post : Post) (header : Header) (content : Content)
+    → admission_of roster round post ≡ Ok header
     → content_read (shape_of_roster roster) post.content ≡ Ok content → check_of roster round post ≡ Ok content
 unfolding check_of
 checks-from roster round post header content admitted reads =
-    ap (λ (r : Result Header PostRefusal). r >>= λ header. fault_as (λ (offence : Offence). BodyRefusal offence.at offence.rule) (content_read (shape_of_roster roster) post.content)) admitted
+    ap (λ (r : Result Header PostRefusal). r >>= λ header. fault_as (λ (offence : Offence). BodyRefusal offence.at offence.rule)
+    (content_read (shape_of_roster roster) post.content)) admitted
     ∙ ap (fault_as (λ (offence : Offence). BodyRefusal offence.at offence.rule)) reads
 
 keys-sendable : (c : Configuration) → IsConfiguration c → IsSendable c.roster c.round (own_content c [] 0) (own_header c [] 0)
@@ -204,7 +218,8 @@ pub keys-admitted : (c : Configuration) → IsConfiguration c → Admitted c.ros
 unfolding own_post number_said_before
 keys-admitted c is =
     let left = is.enter.leaves in
-    own_posts_are_admitted c.roster c.round (own_content c [] 0) (own_header c [] 0) c.key (c.first + number_said_before c 0) (keys-sendable c is) is.key (first_left left)
+    own_posts_are_admitted c.roster c.round (own_content c [] 0) (own_header c [] 0) c.key (c.first + number_said_before c 0)
+    (keys-sendable c is) is.key (first_left left)
   where
     first_left : c.first + 12 ≤ leaves c.key → c.first + 0 < leaves c.key
     first_left le = omega (arith, le)
@@ -214,7 +229,8 @@ unfolding own_post keys_content
 keys-check c is = record {
   content = keys_content c;
   checks = checks-from c.roster c.round (keys_post c) (own_header c [] 0) (keys_content c)
-      ((admits_exactly c.roster c.round (keys_post c) (own_header c [] 0) (signature-bytes c.key (c.first + number_said_before c 0) (own_content c [] 0))).1 (keys-admitted c is))
+      ((admits_exactly c.roster c.round (keys_post c) (own_header c [] 0)
+      (signature-bytes c.key (c.first + number_said_before c 0) (own_content c [] 0))).1 (keys-admitted c is))
       (ap (content_read (shape_in c)) (keys-content c) ∙ content-is_read (shape_in c) (keys_content c) (keys-grammar c is));
   content_bytes = keys-bytes c is;
   signature_bytes = signature-bytes c.key (c.first + number_said_before c 0) (own_content c [] 0);
@@ -223,7 +239,8 @@ keys-check c is = record {
 
 -- ---- the run of one that has said its keys
 
-keys-kept : (c : Configuration) (slot : Slot) (post : Post) → IsConfiguration c → kept_in (keys_run c).log slot ≡ Some post → (slot ≡ record { stage = 0; sender = c.number }) × (post ≡ keys_post c)
+keys-kept : (c : Configuration) (slot : Slot) (post : Post) → IsConfiguration c → kept_in (keys_run c).log slot ≡ Some post
+    → (slot ≡ record { stage = 0; sender = c.number }) × (post ≡ keys_post c)
 unfolding nothing
 keys-kept c slot post is kept = by_slot (cases_Bool (is_slot (shape_in c) slot.stage slot.sender))
   where
@@ -248,19 +265,24 @@ keys-kept c slot post is kept = by_slot (cases_Bool (is_slot (shape_in c) slot.s
     slot_same : (x y : Slot) → (let told : Slot → Option Slot = λ z. Some z in told x ≡ told y) → x ≡ y
     slot_same x y e = cc
 
-    by_slot : (is_slot (shape_in c) slot.stage slot.sender ≡ true) ⊎ (is_slot (shape_in c) slot.stage slot.sender ≡ false) → (slot ≡ own) × (post ≡ keys_post c)
+    by_slot : (is_slot (shape_in c) slot.stage slot.sender ≡ true) ⊎ (is_slot (shape_in c) slot.stage slot.sender ≡ false) → (slot ≡ own)
+        × (post ≡ keys_post c)
     by_slot (inr silent) = absurd (none-some post (sym (cond-false (is_slot (shape_in c) slot.stage slot.sender) _ None silent) ∙ kept))
     by_slot (inl speaks) =
         let most = slot_number-most (shape_in c) slot.stage slot.sender speaks in
         let own_most = slot_number-most (shape_in c) 0 c.number (own-speaks c is) in
         elim (cases_eq number own_number) [
           | inl same ↦ (
-            slot_same slot own (sym (slot_at-number (shape_in c) slot.stage slot.sender speaks) ∙ ap (slot_at (shape_in c)) same ∙ slot_at-number (shape_in c) 0 c.number (own-speaks c is)),
-            some_same post (keys_post c) (sym kept ∙ kept_in-at (keys_run c).log slot own_number (Some (keys_post c)) is_log speaks (sym same)
-                (sym (get_or-set_same (replicate (slot_count (shape_in c)) nothing) own_number (Some (keys_post c)) (Some (keys_post c)) (let long = length-replicate (slot_count (shape_in c)) nothing in omega (arith, own_most, long))))),
+            slot_same slot own (sym (slot_at-number (shape_in c) slot.stage slot.sender speaks) ∙ ap (slot_at (shape_in c)) same
+                ∙ slot_at-number (shape_in c) 0 c.number (own-speaks c is)),
+            some_same post (keys_post c) (sym kept ∙ kept_in-at (keys_run c).log slot own_number (Some (keys_post c)) is_log speaks
+                (sym same)
+                (sym (get_or-set_same (replicate (slot_count (shape_in c)) nothing) own_number (Some (keys_post c)) (Some (keys_post c))
+                (let long = length-replicate (slot_count (shape_in c)) nothing in omega (arith, own_most, long))))),
           )
           | inr other ↦ absurd (none-some post (sym (kept_in-at (keys_run c).log slot number None is_log speaks refl
-              (sym (get_or-set_other (replicate (slot_count (shape_in c)) nothing) own_number number (Some (keys_post c)) None other ∙ get_or-replicate (slot_count (shape_in c)) number nothing None most))) ∙ kept))
+              (sym (get_or-set_other (replicate (slot_count (shape_in c)) nothing) own_number number (Some (keys_post c)) None other
+              ∙ get_or-replicate (slot_count (shape_in c)) number nothing None most))) ∙ kept))
         ]
 
 pub keys-there : (c : Configuration) → IsConfiguration c → kept_in (keys_run c).log (own_slot (keys_run c) 0) ≡ Some (keys_post c)
@@ -271,22 +293,27 @@ keys-there c is =
     let most = slot_number-most (shape_in c) 0 c.number (own-speaks c is) in
     let long = length-replicate (slot_count (shape_in c)) nothing in
     kept_in-at (keys_run c).log own number (Some (keys_post c))
-    (filled-is_log (empty_log (shape_in c)) own (keys_post c) (empty-is_log c is) (record { least = (keys-sized c is).0; most = (keys-sized c is).1 }))
+    (filled-is_log (empty_log (shape_in c)) own (keys_post c) (empty-is_log c is)
+    (record { least = (keys-sized c is).0; most = (keys-sized c is).1 }))
     (own-speaks c is) refl
-    (sym (get_or-set_same (replicate (slot_count (shape_in c)) nothing) number (Some (keys_post c)) (Some (keys_post c)) (omega (arith, most, long))))
+    (sym (get_or-set_same (replicate (slot_count (shape_in c)) nothing) number (Some (keys_post c)) (Some (keys_post c))
+    (omega (arith, most, long))))
 
 keys-honest : (c : Configuration) → IsConfiguration c → HonestRun (keys_run c)
 keys-honest c is = record {
   config = is;
-  log = filled-is_log (empty_log (shape_in c)) (record { stage = 0; sender = c.number }) (keys_post c) (empty-is_log c is) (record { least = (keys-sized c is).0; most = (keys-sized c is).1 });
+  log = filled-is_log (empty_log (shape_in c)) (record { stage = 0; sender = c.number }) (keys_post c) (empty-is_log c is)
+      (record { least = (keys-sized c is).0; most = (keys-sized c is).1 });
   shape = refl;
   posts = λ slot post kept. (
       let at = keys-kept c slot post is kept in
-      subst (λ (s : Slot). ChecksIn c s post) (sym at.0) (subst (λ (p : Post). ChecksIn c (record { stage = 0; sender = c.number }) p) (sym at.1) (keys-check c is)));
+      subst (λ (s : Slot). ChecksIn c s post) (sym at.0) (subst (λ (p : Post). ChecksIn c (record { stage = 0; sender = c.number }) p)
+      (sym at.1) (keys-check c is)));
   own = λ stage post kept. (
       let at = keys-kept c (own_slot (keys_run c) stage) post is kept in
       let first : stage ≡ 0 = ap (λ (s : Slot). s.stage) at.0 in
-      subst (λ (s : ℕ). IsOwnPost (keys_run c) s post) (sym first) (record { past = []; before = refl; goes = λ earlier lt. absurd (omega (arith, lt)); said = at.1 }));
+      subst (λ (s : ℕ). IsOwnPost (keys_run c) s post) (sym first)
+      (record { past = []; before = refl; goes = λ earlier lt. absurd (omega (arith, lt)); said = at.1 }));
 }
 
 pub beginnings_are_honest : BeginningsAreHonest
@@ -305,4 +332,5 @@ lists_are_honest roster runs each one_roster apart = record {
 
 pub nothing_is_forged : NothingIsForged
 nothing_is_forged roster runs bytes post header (inl given) spelled admitted numbered = absurd (contains-nothing bytes given)
-nothing_is_forged roster runs bytes post header (inr (outer, given, embedded)) spelled admitted numbered = absurd (contains-nothing outer given)
+nothing_is_forged roster runs bytes post header (inr (outer, given, embedded)) spelled admitted numbered = absurd
+    (contains-nothing outer given)

@@ -37,7 +37,8 @@ use Rattle.round_spec.proofs.Rows.{checks-parts}
 
 -- ---- what is heard
 
-and-then-parts : {A B : Type 0} (f : A → Option B) (o : Option A) (y : B) → option_and_then f o ≡ Some y → (x : A) × (o ≡ Some x) × (f x ≡ Some y)
+and-then-parts : {A B : Type 0} (f : A → Option B) (o : Option A) (y : B) → option_and_then f o ≡ Some y → (x : A) × (o ≡ Some x)
+    × (f x ≡ Some y)
 and-then-parts f None y e = absurd (none-some y e)
 and-then-parts f (Some x) y e = (x, refl, e)
 
@@ -48,7 +49,8 @@ ok-of {A} {E} (Ok y) x e = let told : A → Result A E = λ z. Ok z in ap told (
     some-is a b e = cc
 ok-of (Err f) x e = absurd (none-some x e)
 
-first-given : {A B : Type 0} (f : A → Option B) (xs : List A) (y : B) → first_some (map f xs) ≡ Some y → (x : A) × Contains xs x × (f x ≡ Some y)
+first-given : {A B : Type 0} (f : A → Option B) (xs : List A) (y : B) → first_some (map f xs) ≡ Some y → (x : A) × Contains xs x
+    × (f x ≡ Some y)
 first-given f [] y e = absurd (none-some y e)
 first-given f (x ∷ xs) y e = elim (first_some-some_parts (f x) (map f xs) y e) [
   | inl here ↦ (x, contains-here x xs, here)
@@ -89,12 +91,18 @@ heard-parts c bytes heard e =
     })
 
 -- what it gives a slot
-in-parts : (slot : Slot) (heard : Heard) (post : Post) → heard_in slot heard ≡ Some post → (names_slot slot heard.header ≡ true) × (is_ok heard.content ≡ true) × (heard.post ≡ post)
+in-parts : (slot : Slot) (heard : Heard) (post : Post) → heard_in slot heard ≡ Some post → (names_slot slot heard.header ≡ true)
+    × (is_ok heard.content ≡ true) × (heard.post ≡ post)
 in-parts slot heard post e = elim (cases_Bool (names_slot slot heard.header && is_ok heard.content)) [
   | inl both ↦
-      let parts = and_parts (names_slot slot heard.header) (is_ok heard.content) both in
-      (parts.0, parts.1, post-same heard.post post (sym (cond-true (names_slot slot heard.header && is_ok heard.content) (Some heard.post) None both) ∙ e))
-  | inr not_both ↦ absurd (none-some post (sym (cond-false (names_slot slot heard.header && is_ok heard.content) (Some heard.post) None not_both) ∙ e))
+      let parts = and_parts (names_slot slot heard.header) (is_ok heard.content) both in (
+        parts.0,
+        parts.1,
+        post-same heard.post post (sym (cond-true (names_slot slot heard.header && is_ok heard.content) (Some heard.post)
+            None both) ∙ e),
+      )
+  | inr not_both ↦ absurd (none-some post (sym (cond-false (names_slot slot heard.header && is_ok heard.content) (Some heard.post) None
+      not_both) ∙ e))
 ]
   where
     post-same : (a b : Post) → (let told : Post → Option Post = λ z. Some z in told a ≡ told b) → a ≡ b
@@ -113,9 +121,11 @@ spelled-bytes : (bytes : List ℕ) (post : Post) → IsBytes bytes → frame_of 
 spelled-bytes bytes post is e =
     let found = framed-found bytes post is e in
     let whole : IsBytes ((to_be_bytes w32 (length post.content) ++ post.content) ++ post.signature) = subst IsBytes found.1 is in
-    IsBytes-back (to_be_bytes w32 (length post.content)) post.content (IsBytes-front (to_be_bytes w32 (length post.content) ++ post.content) post.signature whole)
+    IsBytes-back (to_be_bytes w32 (length post.content)) post.content
+    (IsBytes-front (to_be_bytes w32 (length post.content) ++ post.content) post.signature whole)
 
-delivered-by : (c : Configuration) (delivered : List (List ℕ)) (slot : Slot) (bytes : List ℕ) (heard : Heard) → IsBytes bytes → Contains delivered bytes → IsHeard c bytes heard
+delivered-by : (c : Configuration) (delivered : List (List ℕ)) (slot : Slot) (bytes : List ℕ) (heard : Heard) → IsBytes bytes
+    → Contains delivered bytes → IsHeard c bytes heard
     → names_slot slot heard.header ≡ true → is_ok heard.content ≡ true → IsDelivered c delivered slot heard.post
 delivered-by c delivered slot bytes heard are listed is names reads =
     let post : Post = heard.post in
@@ -123,7 +133,8 @@ delivered-by c delivered slot bytes heard are listed is names reads =
     let content_is : content_read (shape_in c) post.content ≡ Ok read.0 = sym is.content ∙ read.1 in
     let signature = framed-bytes bytes post are is.spelled in
     let admitted = admit-found c.roster c.round post heard.header (framed-fits bytes post is.spelled) signature is.admitted in
-    let headers = header-same read.0.header heard.header (header_of post.content) (content-header (shape_in c) post.content read.0 content_is) admitted.reads in
+    let headers = header-same read.0.header heard.header (header_of post.content)
+    (content-header (shape_in c) post.content read.0 content_is) admitted.reads in
     let slot_is = names-is slot heard.header names in
     record {
       bytes = bytes;
@@ -133,7 +144,8 @@ delivered-by c delivered slot bytes heard are listed is names reads =
       admitted = admitted;
       checks = record {
         content = read.0;
-        checks = checks-from c.roster c.round post heard.header read.0 ((admits_exactly c.roster c.round post heard.header signature).1 admitted) content_is;
+        checks = checks-from c.roster c.round post heard.header read.0
+            ((admits_exactly c.roster c.round post heard.header signature).1 admitted) content_is;
         content_bytes = spelled-bytes bytes post are is.spelled;
         signature_bytes = signature;
         named = ap slot_named headers ∙ sym slot_is;
@@ -148,7 +160,8 @@ first_posts_delivered c delivered slot post all e =
     let given = and-then-parts (heard_in slot) (heard_of c found.0) post found.2 in
     let parts = in-parts slot given.0 post given.2 in
     subst (IsDelivered c delivered slot) parts.2
-    (delivered-by c delivered slot found.0 given.0 (All-contains IsBytes delivered found.0 all found.1) found.1 (heard-parts c found.0 given.0 given.1) parts.0 parts.1)
+    (delivered-by c delivered slot found.0 given.0 (All-contains IsBytes delivered found.0 all found.1) found.1
+    (heard-parts c found.0 given.0 given.1) parts.0 parts.1)
 
 content-same : (a b : Content) (r : Result Content Offence) → r ≡ Ok a → r ≡ Ok b → a ≡ b
 content-same a b r e e' = let both = sym e ∙ e' in cc

@@ -60,8 +60,16 @@ parts-same {A} {B} f g xs (suc n) a s le each =
 pub turn-kind : (shape : Shape) (shuffle k : ℕ) → 1 ≤ k → k ≤ shape.members
     → (number : ℕ) × (kind_of_stage shape (submit_stage shape shuffle + k) ≡ Some (Shuffle number k))
 turn-kind shape shuffle k least most = elim (cases_Bool (shuffle == 1)) [
-  | inl a ↦ (1, (let at = cond-true (shuffle == 1) 1 (shape.members + 7) a in turn_a shape (submit_stage shape shuffle + k) k (omega (arith, at)) least most))
-  | inr b ↦ (2, (let at = cond-false (shuffle == 1) 1 (shape.members + 7) b in turn_b shape (submit_stage shape shuffle + k) k (omega (arith, at)) least most))
+  | inl a ↦ (
+    1,
+    (let at = cond-true (shuffle == 1) 1 (shape.members + 7) a in turn_a shape (submit_stage shape shuffle + k) k
+        (omega (arith, at)) least most),
+  )
+  | inr b ↦ (
+    2,
+    (let at = cond-false (shuffle == 1) 1 (shape.members + 7) b in turn_b shape (submit_stage shape shuffle + k) k
+        (omega (arith, at)) least most),
+  )
 ]
 
 -- so many slots stand before each
@@ -100,7 +108,8 @@ unfolding said_in
 turn-list shape past shuffle i text lt at =
     let kind = turn-kind shape shuffle (suc i) (omega arith) (omega (arith, lt)) in
     let number : slot_number shape (submit_stage shape shuffle + suc i) (suc i) ≡ slots_before shape (submit_stage shape shuffle + 1) + i =
-    ap (λ (o : Option StageKind). slots_before shape (submit_stage shape shuffle + suc i) + place_in o (suc i)) kind.1 ∙ omega (arith, turn-slots shape shuffle i (omega (arith, lt))) in
+    ap (λ (o : Option StageKind). slots_before shape (submit_stage shape shuffle + suc i) + place_in o (suc i)) kind.1
+    ∙ omega (arith, turn-slots shape shuffle i (omega (arith, lt))) in
     let text_is : slice_index_or past (slot_number shape (submit_stage shape shuffle + suc i) (suc i)) [] ≡ text =
     get_or_from_slice_get past _ text [] (ap (slice_get past) number ∙ at) in
     read-list (content_read shape text) ∙ ap (λ (t : List ℕ). list_of (body_of (content_read shape t))) (sym text_is)
@@ -113,7 +122,10 @@ votes_look_at_lists shape past shuffle stage at whole =
     let count : slots_before shape stage ≡ a + n = ap (slots_before shape) stage_is ∙ turn-slots shape shuffle n (omega arith) in
     let first : slots_before shape stage - n ≡ a = omega (arith, count) in
     let long : slots_before shape stage - (slots_before shape stage - n) ≡ n = omega (arith, count) in
-    let part : turns_before shape past stage ≡ take n (drop a past) = ap (λ (k : ℕ). take k (drop (slots_before shape stage - n) past)) long ∙ ap (λ (k : ℕ). take n (drop k past)) first in
+    let part : turns_before shape past stage ≡ take n (drop a past) = ap (λ (k : ℕ). take k (drop (slots_before shape stage - n) past)) long
+    ∙ ap (λ (k : ℕ). take n (drop k past)) first in
     ap (λ (turns : List (List ℕ)). all_some (map (λ turn. list_read (content_read shape turn)) turns)) part
-    ∙ ap (λ (lists : List (Option (List (List ℕ)))). all_some lists) (parts-same (λ turn. list_read (content_read shape turn)) (list_said shape past shuffle) past n a 1 (omega (arith, whole, count))
-    (λ i text lt e. (let next : suc i ≡ 1 + i = omega arith in turn-list shape past shuffle i text lt e ∙ ap (list_said shape past shuffle) next)))
+    ∙ ap (λ (lists : List (Option (List (List ℕ)))). all_some lists)
+    (parts-same (λ turn. list_read (content_read shape turn)) (list_said shape past shuffle) past n a 1 (omega (arith, whole, count))
+    (λ i text lt e. (let next : suc i ≡ 1 + i = omega arith in turn-list shape past shuffle i text lt e
+    ∙ ap (list_said shape past shuffle) next)))

@@ -45,7 +45,8 @@ found-is roster round slot bytes post are e =
     let framed = framed-found bytes post are is.spelled in
     let parts = checks-parts roster round post is.content is.checks in
     let admitted = (admits_exactly roster round post parts.0 (framed-bytes bytes post are is.spelled)).0 parts.1 in
-    let same = header-same parts.0 is.content.header (header_of post.content) admitted.reads (content-header (shape_of_roster roster) post.content is.content parts.2) in
+    let same = header-same parts.0 is.content.header (header_of post.content) admitted.reads
+    (content-header (shape_of_roster roster) post.content is.content parts.2) in
     record {
       spelled = framed.1;
       content = is.content;
@@ -58,14 +59,17 @@ names-self : (header : Header) → names_slot (slot_named header) header ≡ tru
 names-self header = rw (eq-eqb header.stage header.stage refl, eq-eqb header.sender header.sender refl) refl
 
 -- and its post is found
-pub is-found : (roster : Roster) (round : ℕ) (slot : Slot) (bytes : List ℕ) (post : Post) → IsBytes bytes → IsPostOf roster round slot bytes post
+pub is-found : (roster : Roster) (round : ℕ) (slot : Slot) (bytes : List ℕ) (post : Post) → IsBytes bytes
+    → IsPostOf roster round slot bytes post
     → post_for_slot roster round slot bytes ≡ Ok post
 unfolding post_for_slot checked_post
 is-found roster round slot bytes post are is =
     let framed : frame_of bytes ≡ Ok post = ap frame_of is.spelled ∙ framed-again post is.admitted.frame in
     let signature = framed-bytes bytes post are framed in
-    let checks = checks-from roster round post is.content.header is.content ((admits_exactly roster round post is.content.header signature).1 is.admitted) is.reads in
-    let names : names_slot slot is.content.header ≡ true = subst (λ (s : Slot). names_slot s is.content.header ≡ true) is.named (names-self is.content.header) in
+    let checks = checks-from roster round post is.content.header is.content
+    ((admits_exactly roster round post is.content.header signature).1 is.admitted) is.reads in
+    let names : names_slot slot is.content.header ≡ true = subst (λ (s : Slot). names_slot s is.content.header ≡ true) is.named
+    (names-self is.content.header) in
     rw (framed, checks, names) refl
 
 -- ---- all of them
@@ -82,18 +86,21 @@ bad-same a b e = cc
 never : {A : Type 0} (posts : List Post) (bad : BadPost) (r : Result (List Post) BadPost) → r ≡ Ok posts → r ≡ Err bad → A
 never {A} posts bad r e e' = absurd (let both = sym e ∙ e' in cc)
 
-all-found : (roster : Roster) (round place : ℕ) (pairs : List (Slot × List ℕ)) (posts : List Post) → posts_for roster round place pairs ≡ Ok posts
+all-found : (roster : Roster) (round place : ℕ) (pairs : List (Slot × List ℕ)) (posts : List Post)
+    → posts_for roster round place pairs ≡ Ok posts
     → AllZip (Found roster round) pairs posts
 unfolding posts_for
 all-found roster round place [] posts e = subst (AllZip (Found roster round) []) (posts-same [] posts e) tt
 all-found roster round place (pair ∷ pairs) posts e =
     let bad : WhyNot → BadPost = λ why. record { place = place; why = why } in
-    let first = bind_ok (fault_as bad (post_for_slot roster round pair.0 pair.1)) (λ post. posts_for roster round (place + 1) pairs >>= λ posts. Ok (post ∷ posts)) posts e in
+    let first = bind_ok (fault_as bad (post_for_slot roster round pair.0 pair.1))
+    (λ post. posts_for roster round (place + 1) pairs >>= λ posts. Ok (post ∷ posts)) posts e in
     let others = bind_ok (posts_for roster round (place + 1) pairs) (λ posts. Ok (first.0 ∷ posts)) posts first.2 in
     subst (AllZip (Found roster round) (pair ∷ pairs)) (posts-same (first.0 ∷ others.0) posts others.2)
     (fault_as_ok bad (post_for_slot roster round pair.0 pair.1) first.0 first.1, all-found roster round (place + 1) pairs others.0 others.1)
 
-from-found : (roster : Roster) (round place : ℕ) (pairs : List (Slot × List ℕ)) (posts : List Post) → AllZip (Found roster round) pairs posts
+from-found : (roster : Roster) (round place : ℕ) (pairs : List (Slot × List ℕ)) (posts : List Post)
+    → AllZip (Found roster round) pairs posts
     → posts_for roster round place pairs ≡ Ok posts
 unfolding posts_for
 from-found roster round place [] [] all = refl
@@ -101,28 +108,37 @@ from-found roster round place [] (post ∷ posts) all = absurd all
 from-found roster round place (pair ∷ pairs) [] all = absurd all
 from-found roster round place (pair ∷ pairs) (post ∷ posts) all = rw (all.0, from-found roster round (place + 1) pairs posts all.1) refl
 
-first-bytes : (pair : Slot × List ℕ) (pairs : List (Slot × List ℕ)) → All (λ (p : Slot × List ℕ). IsBytes p.1) (pair ∷ pairs) → IsBytes pair.1
+first-bytes : (pair : Slot × List ℕ) (pairs : List (Slot × List ℕ)) → All (λ (p : Slot × List ℕ). IsBytes p.1) (pair ∷ pairs)
+    → IsBytes pair.1
 first-bytes pair pairs all = all 0 pair (omega arith)
 
 rest-bytes : (pair : Slot × List ℕ) (pairs : List (Slot × List ℕ)) → All (λ (p : Slot × List ℕ). IsBytes p.1) (pair ∷ pairs)
     → All (λ (p : Slot × List ℕ). IsBytes p.1) pairs
 rest-bytes pair pairs all k d lt = all (suc k) d (omega (arith, lt))
 
-are-posts : (roster : Roster) (round : ℕ) (pairs : List (Slot × List ℕ)) (posts : List Post) → All (λ (p : Slot × List ℕ). IsBytes p.1) pairs
+are-posts : (roster : Roster) (round : ℕ) (pairs : List (Slot × List ℕ)) (posts : List Post)
+    → All (λ (p : Slot × List ℕ). IsBytes p.1) pairs
     → AllZip (Found roster round) pairs posts → ArePostsOf roster round pairs posts
 are-posts roster round [] [] bytes all = tt
 are-posts roster round [] (post ∷ posts) bytes all = absurd all
 are-posts roster round (pair ∷ pairs) [] bytes all = absurd all
-are-posts roster round (pair ∷ pairs) (post ∷ posts) bytes all =
-    (found-is roster round pair.0 pair.1 post (first-bytes pair pairs bytes) all.0, are-posts roster round pairs posts (rest-bytes pair pairs bytes) all.1)
+are-posts roster round (pair ∷ pairs) (post ∷ posts) bytes all = (
+  found-is roster round pair.0 pair.1 post (first-bytes pair pairs bytes) all.0,
+  are-posts roster round pairs posts
+      (rest-bytes pair pairs bytes) all.1,
+)
 
-are-found : (roster : Roster) (round : ℕ) (pairs : List (Slot × List ℕ)) (posts : List Post) → All (λ (p : Slot × List ℕ). IsBytes p.1) pairs
+are-found : (roster : Roster) (round : ℕ) (pairs : List (Slot × List ℕ)) (posts : List Post)
+    → All (λ (p : Slot × List ℕ). IsBytes p.1) pairs
     → ArePostsOf roster round pairs posts → AllZip (Found roster round) pairs posts
 are-found roster round [] [] bytes all = tt
 are-found roster round [] (post ∷ posts) bytes all = absurd all
 are-found roster round (pair ∷ pairs) [] bytes all = absurd all
-are-found roster round (pair ∷ pairs) (post ∷ posts) bytes all =
-    (is-found roster round pair.0 pair.1 post (first-bytes pair pairs bytes) all.0, are-found roster round pairs posts (rest-bytes pair pairs bytes) all.1)
+are-found roster round (pair ∷ pairs) (post ∷ posts) bytes all = (
+  is-found roster round pair.0 pair.1 post (first-bytes pair pairs bytes) all.0,
+  are-found roster round pairs posts
+      (rest-bytes pair pairs bytes) all.1,
+)
 
 pub posts_are_found : PostsAreFound
 posts_are_found roster round place pairs posts bytes = (
@@ -146,10 +162,14 @@ pair-same : (a b : Slot × List ℕ) → (let told : Slot × List ℕ → Option
 pair-same a b e = cc
 
 -- the pairs before a bad one behind the first are found
-earlier-found : (roster : Roster) (round k : ℕ) (pair : Slot × List ℕ) (pairs : List (Slot × List ℕ)) (post : Post) → Found roster round pair post
-    → ((i : ℕ) (other : Slot × List ℕ) → i < k → slice_get pairs i ≡ Some other → (p : Post) × (post_for_slot roster round other.0 other.1 ≡ Ok p))
-    → (i : ℕ) (other : Slot × List ℕ) → i < suc k → slice_get (pair ∷ pairs) i ≡ Some other → (p : Post) × (post_for_slot roster round other.0 other.1 ≡ Ok p)
-earlier-found roster round k pair pairs post is each zero other lt e = (post, subst (λ (p : Slot × List ℕ). post_for_slot roster round p.0 p.1 ≡ Ok post) (pair-same pair other e) is)
+earlier-found : (roster : Roster) (round k : ℕ) (pair : Slot × List ℕ) (pairs : List (Slot × List ℕ)) (post : Post)
+    → Found roster round pair post
+    → ((i : ℕ) (other : Slot × List ℕ) → i < k → slice_get pairs i ≡ Some other → (p : Post)
+    × (post_for_slot roster round other.0 other.1 ≡ Ok p))
+    → (i : ℕ) (other : Slot × List ℕ) → i < suc k → slice_get (pair ∷ pairs) i ≡ Some other → (p : Post)
+    × (post_for_slot roster round other.0 other.1 ≡ Ok p)
+earlier-found roster round k pair pairs post is each zero other lt e =
+    (post, subst (λ (p : Slot × List ℕ). post_for_slot roster round p.0 p.1 ≡ Ok post) (pair-same pair other e) is)
 earlier-found roster round k pair pairs post is each (suc i) other lt e = each i other (omega (arith, lt)) e
 
 -- what is told of the others, behind a first that is found
@@ -167,11 +187,13 @@ behind-first roster round place pair pairs post bad is found =
       earlier = earlier-found roster round found.k pair pairs post is found.earlier;
     }
 
-first-from : (roster : Roster) (round place : ℕ) (pairs : List (Slot × List ℕ)) (bad : BadPost) → posts_for roster round place pairs ≡ Err bad
+first-from : (roster : Roster) (round place : ℕ) (pairs : List (Slot × List ℕ)) (bad : BadPost)
+    → posts_for roster round place pairs ≡ Err bad
     → FirstFrom roster round place pairs bad
 unfolding posts_for
 first-from roster round place [] bad e = never [] bad (Ok []) refl e
-first-from roster round place (pair ∷ pairs) bad e = by_post (λ other at. first-from roster round (place + 1) pairs other at) (post_for_slot roster round pair.0 pair.1) refl e
+first-from roster round place (pair ∷ pairs) bad e = by_post (λ other at. first-from roster round (place + 1) pairs other at)
+    (post_for_slot roster round pair.0 pair.1) refl e
   where
     by_rest : ((other : BadPost) → posts_for roster round (place + 1) pairs ≡ Err other → FirstFrom roster round (place + 1) pairs other)
         → (post : Post) (r : Result (List Post) BadPost) → post_for_slot roster round pair.0 pair.1 ≡ Ok post
@@ -184,7 +206,8 @@ first-from roster round place (pair ∷ pairs) bad e = by_post (λ other at. fir
 
     by_post : ((other : BadPost) → posts_for roster round (place + 1) pairs ≡ Err other → FirstFrom roster round (place + 1) pairs other)
         → (r : Result Post WhyNot) → post_for_slot roster round pair.0 pair.1 ≡ r
-        → (fault_as (λ why. record { place = place; why = why }) r >>= λ post. posts_for roster round (place + 1) pairs >>= λ posts. Ok (post ∷ posts)) ≡ Err bad → FirstFrom roster round place (pair ∷ pairs) bad
+        → (fault_as (λ why. record { place = place; why = why }) r >>= λ post. posts_for roster round (place + 1) pairs >>= λ posts. Ok
+        (post ∷ posts)) ≡ Err bad → FirstFrom roster round place (pair ∷ pairs) bad
     by_post next (Err why) is all =
         let same : record { place = place; why = why } ≡ bad = bad-same (record { place = place; why = why }) bad all in
         record {
@@ -200,24 +223,28 @@ first-from roster round place (pair ∷ pairs) bad e = by_post (λ other at. fir
 -- and it is told
 told-from : (roster : Roster) (round place : ℕ) (k : ℕ) (pairs : List (Slot × List ℕ)) (pair : Slot × List ℕ) (why : WhyNot)
     → slice_get pairs k ≡ Some pair → post_for_slot roster round pair.0 pair.1 ≡ Err why
-    → ((i : ℕ) (other : Slot × List ℕ) → i < k → slice_get pairs i ≡ Some other → (post : Post) × (post_for_slot roster round other.0 other.1 ≡ Ok post))
+    → ((i : ℕ) (other : Slot × List ℕ) → i < k → slice_get pairs i ≡ Some other → (post : Post)
+    × (post_for_slot roster round other.0 other.1 ≡ Ok post))
     → posts_for roster round place pairs ≡ Err (record { place = place + k; why = why })
 unfolding posts_for
 told-from roster round place k [] pair why at is earlier = absurd cc
 told-from roster round place zero (first ∷ pairs) pair why at is earlier =
-    let here : post_for_slot roster round first.0 first.1 ≡ Err why = subst (λ (p : Slot × List ℕ). post_for_slot roster round p.0 p.1 ≡ Err why) (sym (pair-same first pair at)) is in
+    let here : post_for_slot roster round first.0 first.1 ≡ Err why = subst
+    (λ (p : Slot × List ℕ). post_for_slot roster round p.0 p.1 ≡ Err why) (sym (pair-same first pair at)) is in
     let place_is : place ≡ place + 0 = omega arith in
     rw here (ap (λ (n : ℕ). Err (record { place = n; why = why })) place_is)
 told-from roster round place (suc k) (first ∷ pairs) pair why at is earlier =
     let found = earlier 0 first (omega arith) refl in
-    let rest = told-from roster round (place + 1) k pairs pair why at is (λ i other lt there. earlier (suc i) other (omega (arith, lt)) there) in
+    let rest = told-from roster round (place + 1) k pairs pair why at is
+    (λ i other lt there. earlier (suc i) other (omega (arith, lt)) there) in
     let place_is : place + 1 + k ≡ place + suc k = omega arith in
     rw (found.1, rest) (ap (λ (n : ℕ). Err (record { place = n; why = why })) place_is)
 
 pub first_bad_is_told : FirstBadIsTold
 first_bad_is_told roster round pairs bad = (
   λ e. is-first (first-from roster round 0 pairs bad e),
-  λ is. told-from roster round 0 bad.place pairs is.pair bad.why is.at is.why is.earlier ∙ ap (λ (n : ℕ). Err (record { place = n; why = bad.why })) (omega arith),
+  λ is. told-from roster round 0 bad.place pairs is.pair bad.why is.at is.why is.earlier
+      ∙ ap (λ (n : ℕ). Err (record { place = n; why = bad.why })) (omega arith),
 )
   where
     is-first : FirstFrom roster round 0 pairs bad → IsFirstBad roster round pairs bad
@@ -258,25 +285,34 @@ unfolding is_justified
 says-so shape content embedded true assents e =
     votes-are shape embedded (sym (cond-true (is_assent content.body) (are_unanimous shape embedded) _ assents) ∙ e)
 says-so shape content embedded false objects e =
-    let both = and_parts _ _ (sym (cond-false (is_assent content.body) (are_unanimous shape embedded) (not (votes_agree shape embedded content.header.stage) && bytes_eq content.header.view (view_of shape embedded content.header.stage)) objects) ∙ e) in (
-      λ all. true-not (votes_agree shape embedded content.header.stage) both.0 (are-votes shape (contents_at shape embedded (content.header.stage - 1)) all),
+    let both = and_parts _ _ (sym (cond-false (is_assent content.body) (are_unanimous shape embedded)
+    (not (votes_agree shape embedded content.header.stage) && bytes_eq content.header.view
+    (view_of shape embedded content.header.stage)) objects) ∙ e) in (
+      λ all. true-not (votes_agree shape embedded content.header.stage) both.0
+          (are-votes shape (contents_at shape embedded (content.header.stage - 1)) all),
       (bytes_eq-Decides content.header.view (view_of shape embedded content.header.stage)).0 both.1,
     )
 
-so-said : (shape : Shape) (content : Content) (embedded : List (List ℕ)) (b : Bool) → is_assent content.body ≡ b → IsTrueOf b shape content embedded
+so-said : (shape : Shape) (content : Content) (embedded : List (List ℕ)) (b : Bool) → is_assent content.body ≡ b
+    → IsTrueOf b shape content embedded
     → is_justified shape content embedded ≡ true
 unfolding is_justified
-so-said shape content embedded true assents says = cond-true (is_assent content.body) (are_unanimous shape embedded) _ assents ∙ are-votes shape embedded says
+so-said shape content embedded true assents says = cond-true (is_assent content.body) (are_unanimous shape embedded) _ assents
+    ∙ are-votes shape embedded says
 so-said shape content embedded false objects says =
-    cond-false (is_assent content.body) (are_unanimous shape embedded) (not (votes_agree shape embedded content.header.stage) && bytes_eq content.header.view (view_of shape embedded content.header.stage)) objects
-    ∙ and_from _ _ (not-true (votes_agree shape embedded content.header.stage) (λ e. says.0 (votes-are shape (contents_at shape embedded (content.header.stage - 1)) e)))
+    cond-false (is_assent content.body) (are_unanimous shape embedded)
+    (not (votes_agree shape embedded content.header.stage) && bytes_eq content.header.view
+    (view_of shape embedded content.header.stage)) objects
+    ∙ and_from _ _ (not-true (votes_agree shape embedded content.header.stage)
+    (λ e. says.0 (votes-are shape (contents_at shape embedded (content.header.stage - 1)) e)))
     ((bytes_eq-Decides content.header.view (view_of shape embedded content.header.stage)).1 says.1)
 
 pub zip-bytes : (slots : List Slot) (items : List (List ℕ)) → All IsBytes items → All (λ (p : Slot × List ℕ). IsBytes p.1) (zip slots items)
 zip-bytes [] items all k d lt = absurd (omega (arith, lt))
 zip-bytes (slot ∷ slots) [] all k d lt = absurd (omega (arith, lt))
 zip-bytes (slot ∷ slots) (item ∷ items) all zero d lt = all 0 item (omega arith)
-zip-bytes (slot ∷ slots) (item ∷ items) all (suc k) d lt = zip-bytes slots items (λ j e small. all (suc j) e (omega (arith, small))) k d (omega (arith, lt))
+zip-bytes (slot ∷ slots) (item ∷ items) all (suc k) d lt = zip-bytes slots items (λ j e small. all (suc j) e (omega (arith, small))) k d
+    (omega (arith, lt))
 
 pub justified_exactly : JustifiedExactly
 unfolding is_content_justified
@@ -294,10 +330,13 @@ justified_exactly roster round content bytes = (by_posts (posts_in_content roste
     by_posts (Ok posts) is e = record {
       posts = posts;
       embeds = (posts_are_found roster round 0 (embedded_pairs roster content) posts pairs-bytes).0 is;
-      says = says-so (shape_of_roster roster) content (contents_of posts) (is_assent content.body) refl (sym (ap (is_justified_by (shape_of_roster roster) content) is) ∙ e);
+      says = says-so (shape_of_roster roster) content (contents_of posts) (is_assent content.body) refl
+          (sym (ap (is_justified_by (shape_of_roster roster) content) is) ∙ e);
     }
 
-    back : IsJustified roster round content → is_justified_by (shape_of_roster roster) content (posts_in_content roster round content) ≡ true
+    back : IsJustified roster round content → is_justified_by (shape_of_roster roster) content (posts_in_content roster round content) ≡
+        true
     back is =
-        ap (is_justified_by (shape_of_roster roster) content) ((posts_are_found roster round 0 (embedded_pairs roster content) is.posts pairs-bytes).1 is.embeds)
+        ap (is_justified_by (shape_of_roster roster) content) ((posts_are_found roster round 0 (embedded_pairs roster content) is.posts
+        pairs-bytes).1 is.embeds)
         ∙ so-said (shape_of_roster roster) content (contents_of is.posts) (is_assent content.body) refl is.says

@@ -21,7 +21,8 @@ low-first i zero n = IsBytes-nil
 low-first i (suc count) n = IsBytes-cons (byte_at i n) (bytes_low_first (suc i) count n) (byte-small i n) (low-first (suc i) count n)
 
 pub packed-bytes : (coefficients : List ℕ) → IsBytes (packed coefficients)
-packed-bytes (a ∷ b ∷ c ∷ d ∷ rest) = IsBytes-append (bytes_low_first 0 7 (group_number a b c d)) (packed rest) (low-first 0 7 (group_number a b c d)) (packed-bytes rest)
+packed-bytes (a ∷ b ∷ c ∷ d ∷ rest) = IsBytes-append (bytes_low_first 0 7 (group_number a b c d)) (packed rest)
+    (low-first 0 7 (group_number a b c d)) (packed-bytes rest)
 packed-bytes [] = IsBytes-nil
 packed-bytes (a ∷ []) = IsBytes-nil
 packed-bytes (a ∷ b ∷ []) = IsBytes-nil
@@ -40,7 +41,8 @@ u32-bytes n = IsBytes-to_be_bytes w32 n
 stepped-bytes : (identifier : List ℕ) (q i steps j : ℕ) (x : List ℕ) → IsBytes x → IsBytes (stepped identifier q i steps j x)
 unfolding stepped
 stepped-bytes identifier q i zero j x is = is
-stepped-bytes identifier q i (suc steps) j x is = stepped-bytes identifier q i steps (j + 1) _ (IsBytes-sha256 (step_string identifier q i j x))
+stepped-bytes identifier q i (suc steps) j x is = stepped-bytes identifier q i steps (j + 1) _
+    (IsBytes-sha256 (step_string identifier q i j x))
 
 chains-bytes : (key : KeyParts) (to : ℕ → ℕ) (n : ℕ) → IsBytes (chains_to key to n)
 unfolding chains_to
@@ -55,7 +57,8 @@ values-bytes key signed n = chains-bytes key _ n
 
 ots-bytes : (key : KeyParts) (message : List ℕ) → IsBytes (ots_signature key message)
 ots-bytes key message =
-    IsBytes-append (u32str (type_number key.width) ++ own_randomizer key) (own_values key (own_signed_string key message) (chain_count key.width))
+    IsBytes-append (u32str (type_number key.width) ++ own_randomizer key)
+    (own_values key (own_signed_string key message) (chain_count key.width))
     (IsBytes-append (u32str (type_number key.width)) (own_randomizer key) (u32-bytes (type_number key.width)) (IsBytes-sha256 _))
     (values-bytes key (own_signed_string key message) (chain_count key.width))
 
@@ -67,12 +70,14 @@ node-bytes s (suc levels) r = IsBytes-sha256 _
 path-bytes : (s : SecretParts) (q levels : ℕ) → IsBytes (own_path s q levels)
 unfolding own_path
 path-bytes s q zero = IsBytes-nil
-path-bytes s q (suc levels) = IsBytes-append (own_path s q levels) _ (path-bytes s q levels) (node-bytes s levels (sibling ((leaves s + q) / 2 ^ levels)))
+path-bytes s q (suc levels) = IsBytes-append (own_path s q levels) _ (path-bytes s q levels)
+    (node-bytes s levels (sibling ((leaves s + q) / 2 ^ levels)))
 
 pub signature-bytes : (s : SecretParts) (q : ℕ) (message : List ℕ) → IsBytes (lms_signature s q message)
 signature-bytes s q message =
     let ots : List ℕ = ots_signature (leaf_key s q) message in
     let kind : List ℕ = u32str (tree_number s.lms_type) in
     IsBytes-append ((u32str q ++ ots) ++ kind) (own_path s q (height s.lms_type))
-    (IsBytes-append (u32str q ++ ots) kind (IsBytes-append (u32str q) ots (u32-bytes q) (ots-bytes (leaf_key s q) message)) (u32-bytes (tree_number s.lms_type)))
+    (IsBytes-append (u32str q ++ ots) kind (IsBytes-append (u32str q) ots (u32-bytes q) (ots-bytes (leaf_key s q) message))
+    (u32-bytes (tree_number s.lms_type)))
     (path-bytes s q (height s.lms_type))

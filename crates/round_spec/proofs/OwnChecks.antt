@@ -44,11 +44,15 @@ pub twelve : (n member : ℕ) → 2 ≤ n → n ≤ 8 → 1 ≤ member → membe
 twelve n member least most first last =
     let n_place : 2 + (n - 2) ≡ n = omega (arith, least) in
     let member_place : 1 + (member - 1) ≡ member = omega (arith, first) in
-    let group = AllPass-from_list_all (λ (n : ℕ). list_all (λ (member : ℕ). spoken_of n member == 12) (range_with_len 1 n)) (range_with_len 2 7) all-twelve (n - 2) 0 (omega (arith, most, length-of 2 7)) in
+    let group = AllPass-from_list_all (λ (n : ℕ). list_all (λ (member : ℕ). spoken_of n member == 12) (range_with_len 1 n))
+    (range_with_len 2 7) all-twelve (n - 2) 0 (omega (arith, most, length-of 2 7)) in
     let group_is : list_all (λ (member : ℕ). spoken_of n member == 12) (range_with_len 1 n) ≡ true =
-    subst (λ (k : ℕ). list_all (λ (member : ℕ). spoken_of k member == 12) (range_with_len 1 k) ≡ true) (get_or-range_with_len 2 7 (n - 2) 0 (omega (arith, most)) ∙ n_place) group in
-    let one = AllPass-from_list_all (λ (member : ℕ). spoken_of n member == 12) (range_with_len 1 n) group_is (member - 1) 0 (omega (arith, first, last, length-of 1 n)) in
-    eqb-true (spoken_of n member) 12 (subst (λ (k : ℕ). (spoken_of n k == 12) ≡ true) (get_or-range_with_len 1 n (member - 1) 0 (omega (arith, first, last)) ∙ member_place) one)
+    subst (λ (k : ℕ). list_all (λ (member : ℕ). spoken_of k member == 12) (range_with_len 1 k) ≡ true)
+    (get_or-range_with_len 2 7 (n - 2) 0 (omega (arith, most)) ∙ n_place) group in
+    let one = AllPass-from_list_all (λ (member : ℕ). spoken_of n member == 12) (range_with_len 1 n) group_is (member - 1) 0
+    (omega (arith, first, last, length-of 1 n)) in
+    eqb-true (spoken_of n member) 12 (subst (λ (k : ℕ). (spoken_of n k == 12) ≡ true)
+    (get_or-range_with_len 1 n (member - 1) 0 (omega (arith, first, last)) ∙ member_place) one)
   where
     length-of : (a n : ℕ) → length (range_with_len a n) ≡ n
     length-of a zero = refl
@@ -67,17 +71,20 @@ range-split a (suc x) y =
     ∙ ap (λ (b : ℕ). a ∷ (range_with_len (a + 1) x ++ range_with_len b y)) next
 
 -- one that speaks at a stage has spoken at fewer before it than in the whole round
-pub spoken-before : (p : ℕ → Bool) (stage rest : ℕ) → p stage ≡ true → count_by p (range_with_len 0 stage) < count_by p (range_with_len 0 (stage + suc rest))
+pub spoken-before : (p : ℕ → Bool) (stage rest : ℕ) → p stage ≡ true
+    → count_by p (range_with_len 0 stage) < count_by p (range_with_len 0 (stage + suc rest))
 spoken-before p stage rest speaks =
     let f : ℕ → ℕ = λ x. cond (p x) 1 0 in
     let here : f stage ≡ 1 = ap (λ (b : Bool). cond b 1 0) speaks in
     let at : 0 + stage ≡ stage = omega arith in
-    let split : sum_by f (range_with_len 0 (stage + suc rest)) ≡ sum_by f (range_with_len 0 stage) + sum_by f (stage ∷ range_with_len (stage + 1) rest) =
+    let split : sum_by f (range_with_len 0 (stage + suc rest)) ≡ sum_by f (range_with_len 0 stage) + sum_by f
+    (stage ∷ range_with_len (stage + 1) rest) =
     ap (sum_by f) (range-split 0 stage (suc rest)) ∙ sum_by-append f (range_with_len 0 stage) (range_with_len (0 + stage) (suc rest))
     ∙ ap (λ (b : ℕ). sum_by f (range_with_len 0 stage) + sum_by f (range_with_len b (suc rest))) at in
     omega (arith, split, sum_by-cons f stage (range_with_len (stage + 1) rest), here)
 
-pub leaf-left : (c : Configuration) (stage : ℕ) (past : List Post) → CanSay c stage past → c.first + number_said_before c stage < leaves c.key
+pub leaf-left : (c : Configuration) (stage : ℕ) (past : List Post) → CanSay c stage past
+    → c.first + number_said_before c stage < leaves c.key
 unfolding number_said_before
 leaf-left c stage past can =
     let n : ℕ = (shape_in c).members in
@@ -85,9 +92,11 @@ leaf-left c stage past can =
     let rest : ℕ = 2 * n + 9 - stage in
     let lt = (slot-bounds (shape_in c) stage c.number can.speaks).0 in
     let whole : stage + suc rest ≡ 2 * n + 10 = omega (arith, lt) in
-    let shape_is : shape_in c ≡ record { version = 1; members = n } = ap (λ (v : ℕ). record { version = v; members = n }) can.enter.roster.version in
+    let shape_is : shape_in c ≡ record { version = 1; members = n } = ap (λ (v : ℕ). record { version = v; members = n })
+    can.enter.roster.version in
     let fewer = spoken-before (λ (earlier : ℕ). is_slot (shape_in c) earlier c.number) stage rest can.speaks in
-    let all : count_by (λ (earlier : ℕ). is_slot (shape_in c) earlier c.number) (range_with_len 0 (stage + suc rest)) ≡ spoken_of n c.number =
+    let all : count_by (λ (earlier : ℕ). is_slot (shape_in c) earlier c.number) (range_with_len 0 (stage + suc rest)) ≡ spoken_of n c.number
+    =
     ap (λ (k : ℕ). count_by (λ (earlier : ℕ). is_slot (shape_in c) earlier c.number) (range_with_len 0 k)) whole
     ∙ ap (λ (s : Shape). count_by (λ (earlier : ℕ). is_slot s earlier c.number) (range_with_len 0 (2 * n + 10))) shape_is in
     let left = can.enter.leaves in
@@ -102,7 +111,8 @@ own-text : (c : Configuration) (past : List Post) (stage : ℕ) → own_content 
 unfolding own_content
 own-text c past stage = refl
 
-due-slot : (c : Configuration) (past : List Post) (stage : ℕ) → slot_named (content_due c past stage).header ≡ record { stage = stage; sender = c.number }
+due-slot : (c : Configuration) (past : List Post) (stage : ℕ) → slot_named (content_due c past stage).header ≡ record
+    { stage = stage; sender = c.number }
 unfolding content_with
 due-slot c past stage = refl
 
@@ -123,7 +133,12 @@ sendable c stage past can goes =
     }
   where
     long-enough : 76 ≤ length (own_content c past stage)
-    long-enough = omega (arith, ap length (own-text c past stage), content-long (shape_in c) (content_due c past stage) (own_row_of_grammar c stage past can))
+    long-enough = omega (
+      arith,
+      ap length (own-text c past stage),
+      content-long (shape_in c) (content_due c past stage)
+          (own_row_of_grammar c stage past can),
+    )
 
 own-signature : Configuration → List Post → ℕ → List ℕ
 own-signature c past stage = lms_signature c.key (c.first + number_said_before c stage) (own_content c past stage)
@@ -134,7 +149,8 @@ unfolding own_post own-signature
 own-post-is c past stage = refl
 
 -- a signature by any key is short enough
-signature-short : (c : Configuration) (stage : ℕ) (past : List Post) → CanSay c stage past → length (own-signature c past stage) ≤ LONGEST_SIGNATURE
+signature-short : (c : Configuration) (stage : ℕ) (past : List Post) → CanSay c stage past
+    → length (own-signature c past stage) ≤ LONGEST_SIGNATURE
 unfolding own-signature
 signature-short c stage past can =
     let q : ℕ = c.first + number_said_before c stage in
@@ -144,7 +160,8 @@ signature-short c stage past can =
 due-read : (c : Configuration) (stage : ℕ) (past : List Post) → CanSay c stage past
     → content_read (shape_in c) (own_content c past stage) ≡ Ok (content_due c past stage)
 due-read c stage past can =
-    ap (content_read (shape_in c)) (own-text c past stage) ∙ content-is_read (shape_in c) (content_due c past stage) (own_row_of_grammar c stage past can)
+    ap (content_read (shape_in c)) (own-text c past stage) ∙ content-is_read (shape_in c) (content_due c past stage)
+    (own_row_of_grammar c stage past can)
 
 signed-bytes : (c : Configuration) (stage : ℕ) (past : List Post) → IsBytes (own-signature c past stage)
 unfolding own-signature
@@ -172,10 +189,12 @@ own_post_checks c stage past is can goes =
     let q : ℕ = c.first + number_said_before c stage in
     let post : Post = record { content = own_content c past stage; signature = own-signature c past stage } in
     let signature : IsBytes (own-signature c past stage) = signature-bytes c.key q (own_content c past stage) in
-    let admitted = own_posts_are_admitted c.roster c.round (own_content c past stage) (own_header c past stage) c.key q (sendable c stage past can goes) is.key (leaf-left c stage past can) in
+    let admitted = own_posts_are_admitted c.roster c.round (own_content c past stage) (own_header c past stage) c.key q
+    (sendable c stage past can goes) is.key (leaf-left c stage past can) in
     subst (ChecksIn c (record { stage = stage; sender = c.number })) (sym (own-post-is c past stage)) (record {
       content = content_due c past stage;
-      checks = checks-from c.roster c.round post (own_header c past stage) (content_due c past stage) ((admits_exactly c.roster c.round post (own_header c past stage) signature).1 admitted) (due-read c stage past can);
+      checks = checks-from c.roster c.round post (own_header c past stage) (content_due c past stage)
+          ((admits_exactly c.roster c.round post (own_header c past stage) signature).1 admitted) (due-read c stage past can);
       content_bytes = own-content-bytes c stage past can;
       signature_bytes = signature;
       named = due-slot c past stage;

@@ -57,15 +57,21 @@ pub record IsRow (c : Configuration) (stage : ℕ) (kind : StageKind) (body : Bo
 keys-are : (c : Configuration) (stage : ℕ) → IsRow c stage Keys (keys_row c)
 unfolding keys_row
 keys-are c stage = record {
-  form = (all-map IsPublicKey (λ place. key_of_seed (own_key_seed c place)) (range_with_len 0 5) (λ place. key_is_public_key (own_key_seed c place)), refl);
-  bytes = flat-bytes (map (λ place. key_of_seed (own_key_seed c place)) (range_with_len 0 5)) (all-map IsBytes (λ place. key_of_seed (own_key_seed c place)) (range_with_len 0 5) (λ place. key-bytes (own_key_seed c place)));
+  form = (
+    all-map IsPublicKey (λ place. key_of_seed (own_key_seed c place)) (range_with_len 0 5)
+        (λ place. key_is_public_key (own_key_seed c place)),
+    refl,
+  );
+  bytes = flat-bytes (map (λ place. key_of_seed (own_key_seed c place)) (range_with_len 0 5))
+      (all-map IsBytes (λ place. key_of_seed (own_key_seed c place)) (range_with_len 0 5) (λ place. key-bytes (own_key_seed c place)));
 }
 
 flag-bytes : (vote : Bool) → IsBytes (flag_text vote)
 flag-bytes true = IsBytes-cons 1 [] (omega arith) IsBytes-nil
 flag-bytes false = IsBytes-cons 0 [] (omega arith) IsBytes-nil
 
-go-is : (c : Configuration) (stage shuffle : ℕ) (past : List (List ℕ)) (inner : List ℕ) → IsRow c stage (Go shuffle) (go_row (shape_in c) past stage inner)
+go-is : (c : Configuration) (stage shuffle : ℕ) (past : List (List ℕ)) (inner : List ℕ)
+    → IsRow c stage (Go shuffle) (go_row (shape_in c) past stage inner)
 unfolding go_row
 go-is c stage shuffle past inner = record { form = tt; bytes = flag-bytes _ }
 
@@ -73,7 +79,8 @@ check-is : (c : Configuration) (stage : ℕ) (past : List (List ℕ)) → IsRow 
 unfolding check_row
 check-is c stage past = record { form = tt; bytes = flag-bytes _ }
 
-submit-is : (c : Configuration) (own : List ℕ) (stage shuffle : ℕ) (past : List Post) → CanSay c stage past → IsItem (36 + 2272 * (shape_in c).members) own
+submit-is : (c : Configuration) (own : List ℕ) (stage shuffle : ℕ) (past : List Post) → CanSay c stage past
+    → IsItem (36 + 2272 * (shape_in c).members) own
     → kind_of_stage (shape_in c) stage ≡ Some (Submit shuffle)
     → IsRow c stage (Submit shuffle) (SubmitBody (own_submission c own (contents_of past) shuffle).ciphertext)
 submit-is c own stage shuffle past can of_own kind =
@@ -88,7 +95,8 @@ order-entries : (count size : ℕ) (seed : List ℕ) (entries : List (List ℕ))
 order-entries count size seed entries few are =
     let moved = entries_are_permuted seed entries (omega (arith, few, are.count)) in
     let other : (P : List ℕ → Type 0) → AllByRecursion P entries → AllByRecursion P (in_drawn_order seed entries) =
-    λ P all. all-items P (in_drawn_order seed entries) (All-permutation P entries (in_drawn_order seed entries) moved (all-places P entries all)) in
+    λ P all. all-items P (in_drawn_order seed entries) (All-permutation P entries (in_drawn_order seed entries) moved
+    (all-places P entries all)) in
     record {
       long = other (λ entry. length entry ≡ size) are.long;
       count = length_permutation entries (in_drawn_order seed entries) moved ∙ are.count;
@@ -112,13 +120,15 @@ turn-cases : (seed order : List ℕ) (entries : List (List ℕ))
 unfolding turn_of
 turn-cases seed order entries = elim (cases_Bool (has_equal entries)) [
   | inl twice ↦ inl (cond-true (has_equal entries) Abort (list_or_abort (option_map (in_drawn_order order) (stripped seed entries))) twice)
-  | inr apart ↦ by_list (option_map (in_drawn_order order) (stripped seed entries)) (cond-false (has_equal entries) Abort (list_or_abort (option_map (in_drawn_order order) (stripped seed entries))) apart)
+  | inr apart ↦ by_list (option_map (in_drawn_order order) (stripped seed entries))
+      (cond-false (has_equal entries) Abort (list_or_abort (option_map (in_drawn_order order) (stripped seed entries))) apart)
 ]
   where
     by_list : (o : Option (List (List ℕ)))
         → (if has_equal entries then Abort else list_or_abort (option_map (in_drawn_order order) (stripped seed entries))) ≡ list_or_abort o
         → ((if has_equal entries then Abort else list_or_abort (option_map (in_drawn_order order) (stripped seed entries))) ≡ Abort)
-        ⊎ ((list : List (List ℕ)) × ((if has_equal entries then Abort else list_or_abort (option_map (in_drawn_order order) (stripped seed entries))) ≡ Shuffled list))
+        ⊎ ((list : List (List ℕ)) × ((if has_equal entries then Abort else list_or_abort
+        (option_map (in_drawn_order order) (stripped seed entries))) ≡ Shuffled list))
     by_list None e = inl e
     by_list (Some list) e = inr (list, e)
 
@@ -129,8 +139,10 @@ level-next n shuffle k lt = by_item (if shuffle == 1 then 36 + 2272 * n else 34)
     by_item : (item : ℕ) → item + 2272 * (2 * n - k) ≡ item + 2272 * (2 * n - suc k) + 2272
     by_item item = omega (arith, lt)
 
-turn-row : (c : Configuration) (stage shuffle k : ℕ) (seed order : List ℕ) (entries : List (List ℕ)) → (shape_in c).members ≤ 8 → k < (shape_in c).members
-    → AreEntries (shape_in c).members (level (shape_in c).members shuffle k) entries → IsRow c stage (Shuffle shuffle (suc k)) (turn_of seed order entries)
+turn-row : (c : Configuration) (stage shuffle k : ℕ) (seed order : List ℕ) (entries : List (List ℕ)) → (shape_in c).members ≤ 8
+    → k < (shape_in c).members
+    → AreEntries (shape_in c).members (level (shape_in c).members shuffle k) entries
+    → IsRow c stage (Shuffle shuffle (suc k)) (turn_of seed order entries)
 turn-row c stage shuffle k seed order entries few lt are = elim (turn-cases seed order entries) [
   | inl abort ↦ subst (IsRow c stage (Shuffle shuffle (suc k))) (sym abort) (record { form = tt; bytes = IsBytes-nil })
   | inr list ↦
@@ -138,17 +150,22 @@ turn-row c stage shuffle k seed order entries few lt are = elim (turn-cases seed
       let size : ℕ = level (shape_in c).members shuffle (suc k) in
       let bodies = stripped-entries (shape_in c).members (level (shape_in c).members shuffle (suc k)) seed entries said.1.0
       (subst (λ (n : ℕ). AreEntries (shape_in c).members n entries) (level-next (shape_in c).members shuffle k lt) are) said.1.1 in
-      let made = subst (AreEntries (shape_in c).members (level (shape_in c).members shuffle (suc k))) (sym said.1.2) (order-entries (shape_in c).members (level (shape_in c).members shuffle (suc k)) order said.1.0 few bodies) in
-      subst (IsRow c stage (Shuffle shuffle (suc k))) (sym list.1) (record { form = (made.long, made.count); bytes = flat-bytes list.0 made.bytes })
+      let made = subst (AreEntries (shape_in c).members (level (shape_in c).members shuffle (suc k))) (sym said.1.2)
+      (order-entries (shape_in c).members (level (shape_in c).members shuffle (suc k)) order said.1.0 few bodies) in
+      subst (IsRow c stage (Shuffle shuffle (suc k))) (sym list.1)
+      (record { form = (made.long, made.count); bytes = flat-bytes list.0 made.bytes })
 ]
 
 over-is : (c : Configuration) (stage shuffle k : ℕ) (o : Option (List (List ℕ))) → (shape_in c).members ≤ 8 → k < (shape_in c).members
-    → ((entries : List (List ℕ)) → o ≡ Some entries → AreEntries (shape_in c).members (level (shape_in c).members shuffle k) entries) → IsRow c stage (Shuffle shuffle (suc k)) (turn_over c shuffle o)
+    → ((entries : List (List ℕ)) → o ≡ Some entries → AreEntries (shape_in c).members (level (shape_in c).members shuffle k) entries)
+    → IsRow c stage (Shuffle shuffle (suc k)) (turn_over c shuffle o)
 over-is c stage shuffle k None few lt each = record { form = tt; bytes = IsBytes-nil }
-over-is c stage shuffle k (Some entries) few lt each = turn-row c stage shuffle k (own_key_seed c (outer_place shuffle)) (own_order_seed c shuffle) entries few lt (each entries refl)
+over-is c stage shuffle k (Some entries) few lt each = turn-row c stage shuffle k (own_key_seed c (outer_place shuffle))
+    (own_order_seed c shuffle) entries few lt (each entries refl)
 
 turn-is : (c : Configuration) (stage shuffle k : ℕ) (past : List Post) → CanSay c stage past
-    → kind_of_stage (shape_in c) stage ≡ Some (Shuffle shuffle k) → IsRow c stage (Shuffle shuffle k) (turn_row c (contents_of past) shuffle)
+    → kind_of_stage (shape_in c) stage ≡ Some (Shuffle shuffle k)
+    → IsRow c stage (Shuffle shuffle k) (turn_row c (contents_of past) shuffle)
 unfolding turn_row
 turn-is c stage shuffle k past can kind =
     let at = turn-at (shape_in c) stage shuffle k kind in
@@ -157,13 +174,17 @@ turn-is c stage shuffle k past can kind =
     let most = at.most in
     let stage_is = at.at in
     let back : suc (c.number - 1) ≡ k = omega (arith, own) in
-    subst (λ (j : ℕ). IsRow c stage (Shuffle shuffle j) (turn_over c shuffle (list_said (shape_in c) (contents_of past) shuffle (c.number - 1)))) back
-    (over-is c stage shuffle (c.number - 1) (list_said (shape_in c) (contents_of past) shuffle (c.number - 1)) (is-member c stage past can).most (omega (arith, own))
-    (λ entries e. list-is c stage past shuffle (c.number - 1) entries can.past_is at.is (omega (arith, own)) (omega (arith, own, stage_is)) e))
+    subst (λ (j : ℕ). IsRow c stage (Shuffle shuffle j) (turn_over c shuffle
+    (list_said (shape_in c) (contents_of past) shuffle (c.number - 1)))) back
+    (over-is c stage shuffle (c.number - 1) (list_said (shape_in c) (contents_of past) shuffle (c.number - 1))
+    (is-member c stage past can).most (omega (arith, own))
+    (λ entries e. list-is c stage past shuffle (c.number - 1) entries can.past_is at.is (omega (arith, own)) (omega (arith, own, stage_is))
+    e))
 
 -- ---- pads
 
-pads-are : (c : Configuration) (own : List ℕ) (stage : ℕ) (past : List Post) → CanSay c stage past → kind_of_stage (shape_in c) stage ≡ Some Pad
+pads-are : (c : Configuration) (own : List ℕ) (stage : ℕ) (past : List Post) → CanSay c stage past
+    → kind_of_stage (shape_in c) stage ≡ Some Pad
     → IsRow c stage Pad (pads_row c own (contents_of past))
 unfolding pads_row
 pads-are c own stage past can kind =
@@ -174,26 +195,31 @@ pads-are c own stage past can kind =
         all-map (λ pad. length pad ≤ 65536) (pad_for c own) opened (λ entry. (sent-pad c own entry can.enter).short),
         length-map opened (pad_for c own) ∙ opened-count c stage past can.past_is (pad-late (shape_in c) stage kind),
       );
-      bytes = prefixed-bytes (map (pad_for c own) opened) (all-map IsBytes (pad_for c own) opened (λ entry. (sent-pad c own entry can.enter).bytes));
+      bytes = prefixed-bytes (map (pad_for c own) opened) (all-map IsBytes (pad_for c own) opened
+          (λ entry. (sent-pad c own entry can.enter).bytes));
     }
 
 -- ---- closing contents
 
-posts-short : (c : Configuration) (stage : ℕ) (past : List Post) → IsPastAt c stage past → AllByRecursion (λ post. length (post_spelling post) < 2 ^ 32) past
+posts-short : (c : Configuration) (stage : ℕ) (past : List Post) → IsPastAt c stage past
+    → AllByRecursion (λ post. length (post_spelling post) < 2 ^ 32) past
 posts-short c stage past is = all-from (λ post. length (post_spelling post) < 2 ^ 32) past
     (λ k post at. (let there = stands-there c stage past k post is at in spelled-short c there.slot post there.reads))
 
-posts-bytes : (c : Configuration) (stage : ℕ) (past : List Post) → IsPastAt c stage past → AllByRecursion (λ post. IsBytes (post_spelling post)) past
+posts-bytes : (c : Configuration) (stage : ℕ) (past : List Post) → IsPastAt c stage past
+    → AllByRecursion (λ post. IsBytes (post_spelling post)) past
 posts-bytes c stage past is = all-from (λ post. IsBytes (post_spelling post)) past
     (λ k post at. (let there = stands-there c stage past k post is at in spelled-bytes c there.slot post there.reads))
 
-all-posts : (P : List ℕ → Type 0) (posts : List Post) → AllByRecursion (λ post. P (post_spelling post)) posts → AllByRecursion P (written posts)
+all-posts : (P : List ℕ → Type 0) (posts : List Post) → AllByRecursion (λ post. P (post_spelling post)) posts
+    → AllByRecursion P (written posts)
 all-posts P posts all = all-map-from P post_spelling posts all
 
 stage-posts : (P : List ℕ → Type 0) (shape : Shape) (posts : List Post) (stage : ℕ) → AllByRecursion (λ post. P (post_spelling post)) posts
     → AllByRecursion P (written (posts_at shape posts stage))
 stage-posts P shape posts stage all =
-    all-posts P (posts_at shape posts stage) (all-take (λ post. P (post_spelling post)) (slots_before shape (stage + 1) - slots_before shape stage) (drop (slots_before shape stage) posts)
+    all-posts P (posts_at shape posts stage) (all-take (λ post. P (post_spelling post))
+    (slots_before shape (stage + 1) - slots_before shape stage) (drop (slots_before shape stage) posts)
     (all-drop (λ post. P (post_spelling post)) (slots_before shape stage) posts all))
 
 -- as many votes as members stand before a closing stage
@@ -214,22 +240,35 @@ votes-count shape posts stage kind vote at closes all whole =
 
 final-is : (c : Configuration) (stage shuffle : ℕ) (past : List Post) (inner outer opening : List ℕ) → IsPastAt c stage past
     → kind_of_stage (shape_in c) stage ≡ Some (Final shuffle)
-    → IsItem 32 inner → IsItem 32 outer → IsItem 32 opening → IsRow c stage (Final shuffle) (final_row (shape_in c) past stage inner outer opening)
+    → IsItem 32 inner → IsItem 32 outer → IsItem 32 opening → IsRow c stage (Final shuffle)
+    (final_row (shape_in c) past stage inner outer opening)
 unfolding final_row
 final-is c stage shuffle past inner outer opening is kind i o p =
     let short = posts-short c stage past is in
     let bytes = posts-bytes c stage past is in
     let votes : List (List ℕ) = written (posts_at (shape_in c) past (stage - 1)) in
     elim (cases_Bool (votes_agree (shape_in c) (contents_of past) stage)) [
-      | inl agree ↦ subst (IsRow c stage (Final shuffle)) (sym (cond-true (votes_agree (shape_in c) (contents_of past) stage) (Reveal (written (posts_at (shape_in c) past (stage - 1))) inner) (Dispute (written past) outer opening) agree))
+      | inl agree ↦ subst (IsRow c stage (Final shuffle)) (sym (cond-true (votes_agree (shape_in c) (contents_of past) stage)
+          (Reveal (written (posts_at (shape_in c) past (stage - 1))) inner) (Dispute (written past) outer opening) agree))
           (record {
-            form = ((stage-posts (λ item. length item < 2 ^ 32) (shape_in c) past (stage - 1) short, votes-count (shape_in c) past stage (Final shuffle) (Go shuffle) kind refl refl is.whole), i.long);
-            bytes = IsBytes-append (flat_map prefixed votes) inner (prefixed-bytes votes (stage-posts IsBytes (shape_in c) past (stage - 1) bytes)) i.bytes;
+            form = (
+              (
+                stage-posts (λ item. length item < 2 ^ 32) (shape_in c) past (stage - 1) short,
+                votes-count (shape_in c) past stage
+                    (Final shuffle) (Go shuffle) kind refl refl is.whole,
+              ),
+              i.long,
+            );
+            bytes = IsBytes-append (flat_map prefixed votes) inner
+                (prefixed-bytes votes (stage-posts IsBytes (shape_in c) past (stage - 1) bytes)) i.bytes;
           })
-      | inr differ ↦ subst (IsRow c stage (Final shuffle)) (sym (cond-false (votes_agree (shape_in c) (contents_of past) stage) (Reveal (written (posts_at (shape_in c) past (stage - 1))) inner) (Dispute (written past) outer opening) differ))
+      | inr differ ↦ subst (IsRow c stage (Final shuffle)) (sym
+          (cond-false (votes_agree (shape_in c) (contents_of past) stage) (Reveal (written (posts_at (shape_in c) past (stage - 1))) inner)
+          (Dispute (written past) outer opening) differ))
           (record {
             form = ((all-posts (λ item. length item < 2 ^ 32) past short, length-map past post_spelling ∙ is.whole), o.long, p.long);
-            bytes = IsBytes-append (flat_map prefixed (written past)) (outer ++ opening) (prefixed-bytes (written past) (all-posts IsBytes past bytes)) (IsBytes-append outer opening o.bytes p.bytes);
+            bytes = IsBytes-append (flat_map prefixed (written past)) (outer ++ opening)
+                (prefixed-bytes (written past) (all-posts IsBytes past bytes)) (IsBytes-append outer opening o.bytes p.bytes);
           })
     ]
 
@@ -241,12 +280,18 @@ confirm-is c stage past is kind =
     let bytes = posts-bytes c stage past is in
     let votes : List (List ℕ) = written (posts_at (shape_in c) past (stage - 1)) in
     elim (cases_Bool (votes_agree (shape_in c) (contents_of past) stage)) [
-      | inl agree ↦ subst (IsRow c stage Confirm) (sym (cond-true (votes_agree (shape_in c) (contents_of past) stage) (ConfirmBody (written (posts_at (shape_in c) past (stage - 1)))) (Differ (written past)) agree))
+      | inl agree ↦ subst (IsRow c stage Confirm) (sym (cond-true (votes_agree (shape_in c) (contents_of past) stage)
+          (ConfirmBody (written (posts_at (shape_in c) past (stage - 1)))) (Differ (written past)) agree))
           (record {
-            form = (stage-posts (λ item. length item < 2 ^ 32) (shape_in c) past (stage - 1) short, votes-count (shape_in c) past stage Confirm Check kind refl refl is.whole);
+            form = (
+              stage-posts (λ item. length item < 2 ^ 32) (shape_in c) past (stage - 1) short,
+              votes-count (shape_in c) past stage
+                  Confirm Check kind refl refl is.whole,
+            );
             bytes = prefixed-bytes votes (stage-posts IsBytes (shape_in c) past (stage - 1) bytes);
           })
-      | inr differ ↦ subst (IsRow c stage Confirm) (sym (cond-false (votes_agree (shape_in c) (contents_of past) stage) (ConfirmBody (written (posts_at (shape_in c) past (stage - 1)))) (Differ (written past)) differ))
+      | inr differ ↦ subst (IsRow c stage Confirm) (sym (cond-false (votes_agree (shape_in c) (contents_of past) stage)
+          (ConfirmBody (written (posts_at (shape_in c) past (stage - 1)))) (Differ (written past)) differ))
           (record {
             form = (all-posts (λ item. length item < 2 ^ 32) past short, length-map past post_spelling ∙ is.whole);
             bytes = prefixed-bytes (written past) (all-posts IsBytes past bytes);
@@ -258,14 +303,16 @@ confirm-is c stage past is kind =
 secret-item : (c : Configuration) (label : ℕ) → IsItem 32 (own_secret c label)
 secret-item c label = record { long = (hash_bytes _ _).0; bytes = (hash_bytes _ _).1 }
 
-row-at : (c : Configuration) (own : List ℕ) (stage : ℕ) (past : List Post) (kind : StageKind) → CanSay c stage past → IsItem (36 + 2272 * (shape_in c).members) own
+row-at : (c : Configuration) (own : List ℕ) (stage : ℕ) (past : List Post) (kind : StageKind) → CanSay c stage past
+    → IsItem (36 + 2272 * (shape_in c).members) own
     → kind_of_stage (shape_in c) stage ≡ Some kind → IsRow c stage kind (own_body_at c own past stage kind)
 row-at c own stage past Keys can is at = keys-are c stage
 row-at c own stage past (Submit shuffle) can is at = submit-is c own stage shuffle past can is at
 row-at c own stage past (Shuffle shuffle k) can is at = turn-is c stage shuffle k past can at
 row-at c own stage past (Go shuffle) can is at = go-is c stage shuffle (contents_of past) _
 row-at c own stage past (Final shuffle) can is at =
-    final-is c stage shuffle past (own_key_seed c (inner_place shuffle)) (own_key_seed c (outer_place shuffle)) (own_opening c shuffle 2) can.past_is at
+    final-is c stage shuffle past (own_key_seed c (inner_place shuffle)) (own_key_seed c (outer_place shuffle)) (own_opening c shuffle 2)
+    can.past_is at
     (secret-item c (inner_place shuffle + 1)) (secret-item c (outer_place shuffle + 1)) (secret-item c (5 + 2 * shuffle + 2))
 row-at c own stage past Pad can is at = pads-are c own stage past can at
 row-at c own stage past Check can is at = check-is c stage (contents_of past)
@@ -277,7 +324,8 @@ pub record OwnBody (c : Configuration) (own : List ℕ) (stage : ℕ) (past : Li
   pub at : kind_of_stage (shape_in c) stage ≡ Some kind
   pub row : IsRow c stage kind (content_with c own past stage).body
 
-body-with : (c : Configuration) (own : List ℕ) (stage : ℕ) (past : List Post) → CanSay c stage past → IsItem (36 + 2272 * (shape_in c).members) own
+body-with : (c : Configuration) (own : List ℕ) (stage : ℕ) (past : List Post) → CanSay c stage past
+    → IsItem (36 + 2272 * (shape_in c).members) own
     → OwnBody c own stage past
 unfolding content_with
 body-with c own stage past can is = by_kind (kind_of_stage (shape_in c) stage) refl
@@ -291,20 +339,24 @@ body-with c own stage past can is = by_kind (kind_of_stage (shape_in c) stage) r
     }
 
 -- the descriptor that a member makes is as long as one of the group
-own-made : (c : Configuration) (stage : ℕ) (past : List Post) → CanSay c stage past → IsItem (36 + 2272 * (shape_in c).members) (own_descriptor c (contents_of past))
+own-made : (c : Configuration) (stage : ℕ) (past : List Post) → CanSay c stage past
+    → IsItem (36 + 2272 * (shape_in c).members) (own_descriptor c (contents_of past))
 own-made c stage past can = record {
   long = descriptor-long c (contents_of past) can.enter (is-member c stage past can);
   bytes = own-descriptor-bytes c (contents_of past);
 }
 
-pub own-body : (c : Configuration) (stage : ℕ) (past : List Post) → CanSay c stage past → OwnBody c (own_descriptor c (contents_of past)) stage past
+pub own-body : (c : Configuration) (stage : ℕ) (past : List Post) → CanSay c stage past
+    → OwnBody c (own_descriptor c (contents_of past)) stage past
 own-body c stage past can = body-with c (own_descriptor c (contents_of past)) stage past can (own-made c stage past can)
 
-pub view-hash : (shape : Shape) (past : List (List ℕ)) (stage : ℕ) → (length (view_of shape past stage) ≡ 32) × IsBytes (view_of shape past stage)
+pub view-hash : (shape : Shape) (past : List (List ℕ)) (stage : ℕ) → (length (view_of shape past stage) ≡ 32)
+    × IsBytes (view_of shape past stage)
 view-hash shape past zero = hash_bytes View []
 view-hash shape past (suc stage) = hash_bytes View _
 
-of-grammar : (c : Configuration) (own : List ℕ) (stage : ℕ) (past : List Post) → CanSay c stage past → IsItem (36 + 2272 * (shape_in c).members) own
+of-grammar : (c : Configuration) (own : List ℕ) (stage : ℕ) (past : List Post) → CanSay c stage past
+    → IsItem (36 + 2272 * (shape_in c).members) own
     → OfGrammar (shape_in c) (content_with c own past stage)
 unfolding content_with
 of-grammar c own stage past can is =
@@ -339,9 +391,11 @@ header-bytes c stage past can =
     let at : List ℕ = (stage ∷ []) ++ sender in
     let its_round : List ℕ = to_be_bytes w64 c.round ++ at in
     IsBytes-append (c.roster.version ∷ []) (roster_id c.roster ++ its_round) (IsBytes-cons c.roster.version [] version IsBytes-nil)
-    (IsBytes-append (roster_id c.roster) its_round (hash_bytes _ _).1 (IsBytes-append (to_be_bytes w64 c.round) at (IsBytes-to_be_bytes w64 c.round)
+    (IsBytes-append (roster_id c.roster) its_round (hash_bytes _ _).1
+    (IsBytes-append (to_be_bytes w64 c.round) at (IsBytes-to_be_bytes w64 c.round)
     (IsBytes-append (stage ∷ []) sender (IsBytes-cons stage [] (omega (arith, bounds, most)) IsBytes-nil)
-    (IsBytes-append (c.number ∷ []) view (IsBytes-cons c.number [] (omega (arith, last, most)) IsBytes-nil) (view-hash (shape_in c) (contents_of past) stage).1))))
+    (IsBytes-append (c.number ∷ []) view (IsBytes-cons c.number [] (omega (arith, last, most)) IsBytes-nil)
+    (view-hash (shape_in c) (contents_of past) stage).1))))
 
 kind-small : (body : Body) → kind_number body < 256
 kind-small (KeysBody keys) = omega arith
@@ -361,4 +415,5 @@ unfolding own_content content_with
 own-content-bytes c stage past can =
     let body : Body = (content_due c past stage).body in
     IsBytes-append (header_text (own_header c past stage)) ((kind_number body ∷ []) ++ body_text body) (header-bytes c stage past can)
-    (IsBytes-append (kind_number body ∷ []) (body_text body) (IsBytes-cons (kind_number body) [] (kind-small body) IsBytes-nil) (own-body c stage past can).row.bytes)
+    (IsBytes-append (kind_number body ∷ []) (body_text body) (IsBytes-cons (kind_number body) [] (kind-small body) IsBytes-nil)
+    (own-body c stage past can).row.bytes)

@@ -80,8 +80,10 @@ unfolding own_descriptor
 descriptor-long c past is member =
     let n : ℕ = (shape_in c).members in
     let d : Description = own_description c past in
-    let form = made_is_of_grammar n (keys_said (shape_in c) past bulk_place) (own_pad_seeds c) c.number c.message (can-make c past is member) in
-    (passes n (descriptor_text (own_description c past)) (read_passes n (descriptor_text (own_description c past)) (own_description c past) (spelled_are_read n (own_description c past) form)).0).long
+    let form = made_is_of_grammar n (keys_said (shape_in c) past bulk_place) (own_pad_seeds c) c.number c.message
+    (can-make c past is member) in
+    (passes n (descriptor_text (own_description c past)) (read_passes n (descriptor_text (own_description c past)) (own_description c past)
+    (spelled_are_read n (own_description c past) form)).0).long
 
 pub own-descriptor-bytes : (c : Configuration) (past : List (List ℕ)) → IsBytes (own_descriptor c past)
 unfolding own_descriptor
@@ -105,12 +107,13 @@ opened-count c stage past is late =
 
 -- ---- what a member accuses
 
-record Accuses (own : List ℕ) (opened : List (Option (List ℕ))) (states : List SlotState) (seeds : List (List ℕ)) (a : Accusation) : Type 0 where
-  pub k : ℕ
-  pub within : k < length states
-  pub first : ℕ
-  pub bad : get_or states k Empty ≡ Bad first
-  pub is : record { slot = k + 1; member = first; seed = get_or seeds (first - 1) [] } ≡ a
+record Accuses (own : List ℕ) (opened : List (Option (List ℕ))) (states : List SlotState) (seeds : List (List ℕ)) (a : Accusation) : Type 0
+  where
+    pub k : ℕ
+    pub within : k < length states
+    pub first : ℕ
+    pub bad : get_or states k Empty ≡ Bad first
+    pub is : record { slot = k + 1; member = first; seed = get_or seeds (first - 1) [] } ≡ a
 
 mapped : {A B : Type 0} (f : A → B) (o : Option A) (y : B) → option_map f o ≡ Some y → (x : A) × (o ≡ Some x) × (f x ≡ y)
 mapped {A} {B} f None y e = absurd (none-some y e)
@@ -125,14 +128,23 @@ unfolding item_accusation
 accuses own opened states seeds a e =
     let found = first_below-found (accusation_by own opened states seeds) (length states) a e in
     let k : ℕ = found.0 in
-    let parts = mapped (λ (first : ℕ). record { slot = k + 1; member = first; seed = slice_index_or seeds (first - 1) [] }) (first_in own (slice_index_or opened k None) (slice_index_or states k Empty)) a found.2 in
-    record { k = k; within = found.1; first = parts.0; bad = (first_in_cases own (get_or opened k None) (get_or states k Empty) parts.0 parts.1).1; is = parts.2 }
+    let parts = mapped (λ (first : ℕ). record { slot = k + 1; member = first; seed = slice_index_or seeds (first - 1) [] })
+    (first_in own (slice_index_or opened k None) (slice_index_or states k Empty)) a found.2 in
+    record {
+      k = k;
+      within = found.1;
+      first = parts.0;
+      bad = (first_in_cases own (get_or opened k None) (get_or states k Empty) parts.0
+          parts.1).1;
+      is = parts.2;
+    }
 
 pub record IsItem (size : ℕ) (item : List ℕ) : Type 0 where
   pub long : length item ≡ size
   pub bytes : IsBytes item
 
-accusation-item : (n : ℕ) (own : List ℕ) (opened : List (Option (List ℕ))) (states : List SlotState) (seeds : List (List ℕ)) (a : Accusation) → n ≤ 8
+accusation-item : (n : ℕ) (own : List ℕ) (opened : List (Option (List ℕ))) (states : List SlotState) (seeds : List (List ℕ))
+    (a : Accusation) → n ≤ 8
     → length states ≡ n → All (NamesWithin n) states
     → ((k : ℕ) → k < n → IsItem 32 (get_or seeds k [])) → Accuses own opened states seeds a → IsItem 34 (accusation_spelling a)
 accusation-item n own opened states seeds a few count named each is =
@@ -148,13 +160,15 @@ accusation-item n own opened states seeds a few count named each is =
       bytes = IsBytes-cons slot (member ∷ seed) small (IsBytes-cons member seed less is.bytes);
     }
 
-item-row : (n : ℕ) (own : List ℕ) (opened : List (Option (List ℕ))) (states : List SlotState) (seeds : List (List ℕ)) → n ≤ 8 → length states ≡ n
+item-row : (n : ℕ) (own : List ℕ) (opened : List (Option (List ℕ))) (states : List SlotState) (seeds : List (List ℕ)) → n ≤ 8
+    → length states ≡ n
     → All (NamesWithin n) states
     → ((k : ℕ) → k < n → IsItem 32 (get_or seeds k [])) → IsItem 34 (item_row own opened states seeds)
 unfolding item_row
 item-row n own opened states seeds few count named each = by_accusation (item_accusation own opened states seeds) refl
   where
-    by_accusation : (o : Option Accusation) → item_accusation own opened states seeds ≡ o → IsItem 34 (option_map_or accusation_spelling o empty_item)
+    by_accusation : (o : Option Accusation) → item_accusation own opened states seeds ≡ o
+        → IsItem 34 (option_map_or accusation_spelling o empty_item)
     by_accusation None e = record { long = (let nothing : ℕ = 0 in length-replicate 34 nothing); bytes = zero-bytes 34 }
     by_accusation (Some a) e = accusation-item n own opened states seeds a few count named each (accuses own opened states seeds a e)
 
@@ -163,7 +177,8 @@ seed-item c k lt =
     subst (IsItem 32) (sym (get_or-map-range_with_len (derived c.fresh c.round 12) 1 (shape_in c).members k (1 + k) [] lt refl))
     (record { long = (hash_bytes _ _).0; bytes = (hash_bytes _ _).1 })
 
-states-count : (c : Configuration) (past : List (List ℕ)) → length (slots_of_past (shape_in c) past) ≡ length (items_opened (shape_in c) past 1)
+states-count : (c : Configuration) (past : List (List ℕ)) → length (slots_of_past (shape_in c) past) ≡ length
+    (items_opened (shape_in c) past 1)
 unfolding slots_of_past descriptors_opened
 states-count c past =
     length-map (enumerate_from 0 (map (option_and_then (descriptor_read (shape_in c).members)) (items_opened (shape_in c) past 1))) _
@@ -173,7 +188,8 @@ states-count c past =
 states-named : (c : Configuration) (past : List (List ℕ)) → All (NamesWithin (shape_in c).members) (slots_of_past (shape_in c) past)
 unfolding slots_of_past pads_sent
 states-named c past =
-    subst (λ (n : ℕ). All (NamesWithin n) (slot_states (descriptors_opened (shape_in c) past) (pads_sent (shape_in c) past))) (length-map-range_with_len _ 1 (shape_in c).members)
+    subst (λ (n : ℕ). All (NamesWithin n) (slot_states (descriptors_opened (shape_in c) past) (pads_sent (shape_in c) past)))
+    (length-map-range_with_len _ 1 (shape_in c).members)
     (states_name_members (descriptors_opened (shape_in c) past) (pads_sent (shape_in c) past))
 
 -- ---- what it submits
@@ -182,7 +198,8 @@ states-named c past =
 item_size : Configuration → ℕ → ℕ
 item_size c shuffle = if shuffle == 1 then 36 + 2272 * (shape_in c).members else 34
 
-own-item : (c : Configuration) (own : List ℕ) (stage : ℕ) (past : List Post) (shuffle : ℕ) → CanSay c stage past → IsItem (36 + 2272 * (shape_in c).members) own
+own-item : (c : Configuration) (own : List ℕ) (stage : ℕ) (past : List Post) (shuffle : ℕ) → CanSay c stage past
+    → IsItem (36 + 2272 * (shape_in c).members) own
     → ((shuffle == 1) ≡ false → (shape_in c).members + 1 < stage)
     → IsItem (item_size c shuffle) (own_item c own (contents_of past) shuffle)
 unfolding own_item item_size
@@ -193,10 +210,13 @@ own-item c own stage past shuffle can is late = by_shuffle (cases_Bool (shuffle 
 
     by_shuffle : ((shuffle == 1) ≡ true) ⊎ ((shuffle == 1) ≡ false) → IsItem (if shuffle == 1 then 36 + 2272 * (shape_in c).members else 34)
         (if shuffle == 1 then own
-        else item_row own (items_opened (shape_in c) (contents_of past) 1) (slots_of_past (shape_in c) (contents_of past)) (own_pad_seeds c))
+        else item_row own (items_opened (shape_in c) (contents_of past) 1) (slots_of_past (shape_in c) (contents_of past))
+        (own_pad_seeds c))
     by_shuffle (inl a) = rw a is
-    by_shuffle (inr b) = rw b (item-row (shape_in c).members own (items_opened (shape_in c) (contents_of past) 1) (slots_of_past (shape_in c) (contents_of past)) (own_pad_seeds c)
-        (is-member c stage past can).most (states-count c (contents_of past) ∙ opened-count c stage past can.past_is (late b)) (states-named c (contents_of past)) (seed-item c))
+    by_shuffle (inr b) = rw b (item-row (shape_in c).members own (items_opened (shape_in c) (contents_of past) 1)
+        (slots_of_past (shape_in c) (contents_of past)) (own_pad_seeds c)
+        (is-member c stage past can).most (states-count c (contents_of past) ∙ opened-count c stage past can.past_is (late b))
+        (states-named c (contents_of past)) (seed-item c))
 
 layers-count : (c : Configuration) (shuffle side : ℕ) → length (own_layer_seeds c shuffle side) ≡ (shape_in c).members
 layers-count c shuffle side = (seeds_are_messages (own_opening c shuffle side) c.round shuffle side c.number (shape_in c).members).0
@@ -214,10 +234,12 @@ own-submission c own stage past shuffle can of_own late =
     let is = own-item c own stage past shuffle can of_own late in
     let inner_count = keys-count c (contents_of past) (inner_place shuffle) in
     let outer_count = keys-count c (contents_of past) (outer_place shuffle) in
-    let adds = submission_adds inner outer (own_layer_seeds c shuffle 1) (own_layer_seeds c shuffle 2) item (inner_count ∙ sym (layers-count c shuffle 1)) (outer_count ∙ sym (layers-count c shuffle 2)) in
+    let adds = submission_adds inner outer (own_layer_seeds c shuffle 1) (own_layer_seeds c shuffle 2) item
+    (inner_count ∙ sym (layers-count c shuffle 1)) (outer_count ∙ sym (layers-count c shuffle 2)) in
     record {
       long = layers-long n (item_size c shuffle) (length item) (length inner) (length outer) _ is.long inner_count outer_count adds.1;
-      bytes = wrapping-bytes outer (own_layer_seeds c shuffle 2) (wrapping_of inner (own_layer_seeds c shuffle 1) item) (wrapping-bytes inner (own_layer_seeds c shuffle 1) item is.bytes);
+      bytes = wrapping-bytes outer (own_layer_seeds c shuffle 2) (wrapping_of inner (own_layer_seeds c shuffle 1) item)
+          (wrapping-bytes inner (own_layer_seeds c shuffle 1) item is.bytes);
     }
   where
     layers-long : (n size item inner outer whole : ℕ) → item ≡ size → inner ≡ n → outer ≡ n → whole ≡ item + 2272 * (inner + outer)
@@ -241,9 +263,11 @@ found-pad d member seed pad few e = by_seed _ e
     by_seed None e = absurd (none-some pad e)
     by_seed (Some s) e = elim (cases_Bool (bytes_eq (hash_of_pad (pad_of s d.length)) (pad_hash_for d member))) [
       | inl is ↦
-          let same = pad-same (pad_of s d.length) pad (sym (cond-true (bytes_eq (hash_of_pad (pad_of s d.length)) (pad_hash_for d member)) (Some (pad_of s d.length)) None is) ∙ e) in
+          let same = pad-same (pad_of s d.length) pad (sym (cond-true (bytes_eq (hash_of_pad (pad_of s d.length)) (pad_hash_for d member))
+          (Some (pad_of s d.length)) None is) ∙ e) in
           subst IsPad same (record { short = omega (arith, few, length-pad_of s d.length); bytes = pad-bytes s d.length })
-      | inr not_it ↦ absurd (none-some pad (sym (cond-false (bytes_eq (hash_of_pad (pad_of s d.length)) (pad_hash_for d member)) (Some (pad_of s d.length)) None not_it) ∙ e))
+      | inr not_it ↦ absurd (none-some pad (sym (cond-false (bytes_eq (hash_of_pad (pad_of s d.length)) (pad_hash_for d member))
+          (Some (pad_of s d.length)) None not_it) ∙ e))
     ]
 
 read-short : (n : ℕ) (entry : List ℕ) (d : Description) → descriptor_read n entry ≡ Some d → d.length ≤ 65536
@@ -266,14 +290,18 @@ other-pad n member seed entry (Some d) e = by_pad (pad_found d member seed) refl
 row-pad : (n : ℕ) (own kept : List ℕ) (member : ℕ) (seed entry : List ℕ) → IsPad kept → IsPad (pad_row n own kept member seed entry)
 unfolding pad_row
 row-pad n own kept member seed entry is = elim (cases_Bool (bytes_eq entry own)) [
-  | inl same ↦ subst IsPad (sym (cond-true (bytes_eq entry own) kept (unwrap_or (option_and_then (λ d. pad_found d member seed) (descriptor_read n entry)) []) same)) is
-  | inr other ↦ subst IsPad (sym (cond-false (bytes_eq entry own) kept (unwrap_or (option_and_then (λ d. pad_found d member seed) (descriptor_read n entry)) []) other)) (other-pad n member seed entry (descriptor_read n entry) refl)
+  | inl same ↦ subst IsPad (sym (cond-true (bytes_eq entry own) kept
+      (unwrap_or (option_and_then (λ d. pad_found d member seed) (descriptor_read n entry)) []) same)) is
+  | inr other ↦ subst IsPad (sym (cond-false (bytes_eq entry own) kept
+      (unwrap_or (option_and_then (λ d. pad_found d member seed) (descriptor_read n entry)) []) other))
+      (other-pad n member seed entry (descriptor_read n entry) refl)
 ]
 
 -- the pad that it sends for an entry
 pub sent-pad : (c : Configuration) (own : List ℕ) (entry : Option (List ℕ)) → CanEnter c → IsPad (pad_for c own entry)
 sent-pad c own None is = no-pad
-sent-pad c own (Some entry) is = row-pad (shape_in c).members own (own_pad (own_pad_seeds c) c.number c.message) c.number (own_key_seed c bulk_place) entry
+sent-pad c own (Some entry) is = row-pad (shape_in c).members own (own_pad (own_pad_seeds c) c.number c.message) c.number
+    (own_key_seed c bulk_place) entry
     (record {
       short = (let few = is.message in omega (arith, few, length-own_pad (own_pad_seeds c) c.number c.message));
       bytes = own-pad-bytes (own_pad_seeds c) c.number c.message is.bytes;

@@ -53,11 +53,19 @@ pub stands-there : (c : Configuration) (stage : ℕ) (past : List Post) (number 
     → slice_get past number ≡ Some post → StandsThere c number post
 stands-there c stage past number post is at =
     let within = slice_get_within past number post at in
-    let slot = there (slots_of (shape_in c)) number (omega (arith, within, is.whole, slots_before-most (shape_in c) stage, length-slots_of (shape_in c))) in
+    let slot = there (slots_of (shape_in c)) number (omega (
+      arith,
+      within,
+      is.whole,
+      slots_before-most (shape_in c) stage,
+      length-slots_of
+          (shape_in c),
+    )) in
     record { slot = slot.0; at = slot.1; reads = is.reads number slot.0 post slot.1 at }
 
 -- a post that checks is admitted
-pub checks-admitted : (c : Configuration) (slot : Slot) (post : Post) → ChecksIn c slot post → (header : Header) × Admitted c.roster c.round post header
+pub checks-admitted : (c : Configuration) (slot : Slot) (post : Post) → ChecksIn c slot post → (header : Header)
+    × Admitted c.roster c.round post header
 checks-admitted c slot post is =
     let parts = checks-parts c.roster c.round post is.content is.checks in
     (parts.0, (admits_exactly c.roster c.round post parts.0 is.signature_bytes).0 parts.1)
@@ -89,7 +97,8 @@ spelled-short c slot post is = (let most = is.frame.most in omega (arith, most, 
 pub spelled-bytes : (c : Configuration) (slot : Slot) (post : Post) → ReadsIn c slot post → IsBytes (post_spelling post)
 spelled-bytes c slot post is =
     let head : List ℕ = to_be_bytes w32 (length post.content) in
-    IsBytes-append (head ++ post.content) post.signature (IsBytes-append head post.content (IsBytes-to_be_bytes w32 (length post.content)) is.content_bytes) is.signature_bytes
+    IsBytes-append (head ++ post.content) post.signature (IsBytes-append head post.content (IsBytes-to_be_bytes w32 (length post.content))
+    is.content_bytes) is.signature_bytes
 
 -- its content is of the grammar, and names its slot
 pub record IsSaidIn (c : Configuration) (slot : Slot) (post : Post) : Type 0 where
@@ -123,7 +132,8 @@ pub record IsSaid (c : Configuration) (past : List Post) (stage member : ℕ) : 
   pub grammar : IsBody (shape_in c) stage body
   pub bytes : IsBytes (body_text body)
 
-pub past-said : (c : Configuration) (later stage member : ℕ) (past : List Post) → IsPastAt c later past → is_slot (shape_in c) stage member ≡ true
+pub past-said : (c : Configuration) (later stage member : ℕ) (past : List Post) → IsPastAt c later past
+    → is_slot (shape_in c) stage member ≡ true
     → stage < later → IsSaid c past stage member
 unfolding said_in
 past-said c later stage member past is speaks_there lt =
@@ -131,9 +141,11 @@ past-said c later stage member past is speaks_there lt =
     let number : ℕ = slot_number shape stage member in
     let within = (slot_number-within shape stage member speaks_there).1 in
     let found = there past number (omega (arith, is.whole, within, slots_before-rises shape (stage + 1) later (omega arith))) in
-    let said = said-there c (record { stage = stage; sender = member }) found.0 (is.reads number (record { stage = stage; sender = member }) found.0 (slot_at-number shape stage member speaks_there) found.1) in
+    let said = said-there c (record { stage = stage; sender = member }) found.0
+    (is.reads number (record { stage = stage; sender = member }) found.0 (slot_at-number shape stage member speaks_there) found.1) in
     let text : get_or (contents_of past) number [] ≡ found.0.content =
-    get_or_from_slice_get (contents_of past) number found.0.content [] (slice_get-map (λ (p : Post). p.content) past number ∙ ap (option_map (λ (p : Post). p.content)) found.1) in
+    get_or_from_slice_get (contents_of past) number found.0.content []
+    (slice_get-map (λ (p : Post). p.content) past number ∙ ap (option_map (λ (p : Post). p.content)) found.1) in
     record {
       body = said.content.body;
       said = ap (λ (bytes : List ℕ). body_of (content_read shape bytes)) text ∙ ap body_of said.reads;
@@ -142,7 +154,8 @@ past-said c later stage member past is speaks_there lt =
     }
 
 -- the body of the kind of its stage
-pub kind-body : (shape : Shape) (stage : ℕ) (kind : StageKind) (body : Body) → kind_of_stage shape stage ≡ Some kind → IsBody shape stage body
+pub kind-body : (shape : Shape) (stage : ℕ) (kind : StageKind) (body : Body) → kind_of_stage shape stage ≡ Some kind
+    → IsBody shape stage body
     → IsBodyAt shape (slots_before shape stage) kind body
 kind-body shape stage kind body at is = (bodies_are_of_kinds shape stage kind body at).0 is
 
@@ -159,16 +172,19 @@ submitted-long : (shape : Shape) (before shuffle : ℕ) (body : Body) → IsBody
 submitted-long shape before shuffle (Submit ciphertext) is = is
 submitted-long shape before shuffle _ is = absurd is
 
-submitted-bytes : (shape : Shape) (before shuffle : ℕ) (body : Body) → IsBodyAt shape before (AtSubmit shuffle) body → IsBytes (body_text body)
+submitted-bytes : (shape : Shape) (before shuffle : ℕ) (body : Body) → IsBodyAt shape before (AtSubmit shuffle) body
+    → IsBytes (body_text body)
     → IsBytes (ciphertext_of body)
 submitted-bytes shape before shuffle (Submit ciphertext) is bytes = bytes
 submitted-bytes shape before shuffle _ is bytes = absurd is
 
-list-entries : (shape : Shape) (before shuffle k : ℕ) (body : Body) (list : List (List ℕ)) → IsBodyAt shape before (AtShuffle shuffle k) body
+list-entries : (shape : Shape) (before shuffle k : ℕ) (body : Body) (list : List (List ℕ))
+    → IsBodyAt shape before (AtShuffle shuffle k) body
     → IsBytes (body_text body) → list_of body ≡ Some list
     → AreEntries shape.members (level shape.members shuffle k) list
 list-entries shape before shuffle k (Shuffled entries) list is bytes e =
-    subst (AreEntries shape.members (level shape.members shuffle k)) (some-list entries list e) (record { long = is.0; count = is.1; bytes = bytes-flat entries bytes })
+    subst (AreEntries shape.members (level shape.members shuffle k)) (some-list entries list e)
+    (record { long = is.0; count = is.1; bytes = bytes-flat entries bytes })
   where
     some-list : (a b : List (List ℕ)) → (let told : List (List ℕ) → Option (List (List ℕ)) = λ x. Some x in told a ≡ told b) → a ≡ b
     some-list a b e = cc
@@ -184,12 +200,19 @@ submit-speaks : (shape : Shape) (shuffle member : ℕ) → IsShuffle shuffle →
 submit-speaks shape shuffle member is least most =
     ap (λ (o : Option StageKind). speaks shape o member) (submit-kind shape shuffle is) ∙ is-member shape.members member least most
 
-turn-speaks : (shape : Shape) (shuffle k : ℕ) → IsShuffle shuffle → 1 ≤ k → k ≤ shape.members → is_slot shape (submit_stage shape shuffle + k) k ≡ true
-turn-speaks shape shuffle k is least most = ap (λ (o : Option StageKind). speaks shape o k) (turn-kind shape shuffle k is least most) ∙ eq-eqb k k refl
+turn-speaks : (shape : Shape) (shuffle k : ℕ) → IsShuffle shuffle → 1 ≤ k → k ≤ shape.members
+    → is_slot shape (submit_stage shape shuffle + k) k ≡ true
+turn-speaks shape shuffle k is least most = ap (λ (o : Option StageKind). speaks shape o k) (turn-kind shape shuffle k is least most)
+    ∙ eq-eqb k k refl
 
-all-range : {A : Type 0} (P : A → Type 0) (f : ℕ → A) (a n : ℕ) → ((k : ℕ) → a ≤ k → k < a + n → P (f k)) → AllByRecursion P (map f (range_with_len a n))
+all-range : {A : Type 0} (P : A → Type 0) (f : ℕ → A) (a n : ℕ) → ((k : ℕ) → a ≤ k → k < a + n → P (f k))
+    → AllByRecursion P (map f (range_with_len a n))
 all-range P f a zero each = tt
-all-range P f a (suc n) each = (each a (omega arith) (omega arith), all-range P f (a + 1) n (λ k least most. each k (omega (arith, least)) (omega (arith, most))))
+all-range P f a (suc n) each = (
+  each a (omega arith) (omega arith),
+  all-range P f (a + 1) n
+      (λ k least most. each k (omega (arith, least)) (omega (arith, most))),
+)
 
 length-range : {A : Type 0} (f : ℕ → A) (a n : ℕ) → length (map f (range_with_len a n)) ≡ n
 length-range f a n = length-map-range_with_len f a n
@@ -210,7 +233,8 @@ submission-is c stage past shuffle member is shuffle_is lt least most =
     let said = past-said c stage at member past is (submit-speaks shape shuffle member shuffle_is least most) lt in
     let form = kind-body shape at (AtSubmit shuffle) said.body (submit-kind shape shuffle shuffle_is) said.grammar in (
       ap (λ (b : Body). length (ciphertext_of b)) said.said ∙ submitted-long shape (slots_before shape at) shuffle said.body form,
-      subst (λ (b : Body). IsBytes (ciphertext_of b)) (sym said.said) (submitted-bytes shape (slots_before shape at) shuffle said.body form said.bytes),
+      subst (λ (b : Body). IsBytes (ciphertext_of b)) (sym said.said)
+          (submitted-bytes shape (slots_before shape at) shuffle said.body form said.bytes),
     )
 
 -- the submissions before the first turn
@@ -221,19 +245,23 @@ submissions-are c stage past shuffle is shuffle_is lt = record {
   long = all-range (λ entry. length entry ≡ level (shape_in c).members shuffle 0) (submission_in c past shuffle) 1 (shape_in c).members
       (λ k least most. (submission-is c stage past shuffle k is shuffle_is lt least (omega (arith, most))).0);
   count = length-range (submission_in c past shuffle) 1 (shape_in c).members;
-  bytes = all-range IsBytes (submission_in c past shuffle) 1 (shape_in c).members (λ k least most. (submission-is c stage past shuffle k is shuffle_is lt least (omega (arith, most))).1);
+  bytes = all-range IsBytes (submission_in c past shuffle) 1 (shape_in c).members
+      (λ k least most. (submission-is c stage past shuffle k is shuffle_is lt least (omega (arith, most))).1);
 }
 
 -- the list after some turns, where none of them said Abort
 pub list-is : (c : Configuration) (stage : ℕ) (past : List Post) (shuffle turn : ℕ) (entries : List (List ℕ)) → IsPastAt c stage past
     → IsShuffle shuffle → turn ≤ (shape_in c).members
-    → submit_stage (shape_in c) shuffle + turn < stage → list_said (shape_in c) (contents_of past) shuffle turn ≡ Some entries → AreEntries (shape_in c).members (level (shape_in c).members shuffle turn) entries
+    → submit_stage (shape_in c) shuffle + turn < stage → list_said (shape_in c) (contents_of past) shuffle turn ≡ Some entries
+    → AreEntries (shape_in c).members (level (shape_in c).members shuffle turn) entries
 list-is c stage past shuffle zero entries is shuffle_is most lt e =
-    subst (AreEntries (shape_in c).members (level (shape_in c).members shuffle 0)) (some-entries _ entries e) (submissions-are c stage past shuffle is shuffle_is (omega (arith, lt)))
+    subst (AreEntries (shape_in c).members (level (shape_in c).members shuffle 0)) (some-entries _ entries e)
+    (submissions-are c stage past shuffle is shuffle_is (omega (arith, lt)))
 list-is c stage past shuffle (suc turn) entries is shuffle_is most lt e =
     let shape = shape_in c in
     let at : ℕ = submit_stage shape shuffle + suc turn in
     let said = past-said c stage at (suc turn) past is (turn-speaks shape shuffle (suc turn) shuffle_is (omega arith) most) lt in
     list-entries shape (slots_before shape at) shuffle (suc turn) said.body entries
-    (kind-body shape at (AtShuffle shuffle (suc turn)) said.body (turn-kind shape shuffle (suc turn) shuffle_is (omega arith) most) said.grammar) said.bytes
+    (kind-body shape at (AtShuffle shuffle (suc turn)) said.body (turn-kind shape shuffle (suc turn) shuffle_is (omega arith) most)
+    said.grammar) said.bytes
     (sym (ap list_of said.said) ∙ e)

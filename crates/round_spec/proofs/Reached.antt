@@ -28,23 +28,33 @@ record Fills (c : Configuration) (others : Others) (stand : Stand) (posts : List
   pub is : kind_of_stage (shape_in c) stand.at ≡ Some kind
   pub posts_are : map (post_of c others stand) (senders_in (shape_in c) kind) ≡ map (λ post. Some post) posts
 
-filled-parts : (c : Configuration) (others : Others) (stand : Stand) (posts : List Post) → stage_filled c others stand ≡ Some posts → Fills c others stand posts
+filled-parts : (c : Configuration) (others : Others) (stand : Stand) (posts : List Post) → stage_filled c others stand ≡ Some posts
+    → Fills c others stand posts
 unfolding stage_filled
 filled-parts c others stand posts e = by_kind (kind_of_stage (shape_in c) stand.at) refl e
   where
-    by_kind : (o : Option StageKind) → kind_of_stage (shape_in c) stand.at ≡ o → option_and_then (posts_of_kind c others stand) o ≡ Some posts → Fills c others stand posts
+    by_kind : (o : Option StageKind) → kind_of_stage (shape_in c) stand.at ≡ o
+        → option_and_then (posts_of_kind c others stand) o ≡ Some posts → Fills c others stand posts
     by_kind None is e = absurd (none-some posts e)
-    by_kind (Some kind) is e = record { kind = kind; is = is; posts_are = all_some-is (map (post_of c others stand) (senders_in (shape_in c) kind)) posts e }
+    by_kind (Some kind) is e = record {
+      kind = kind;
+      is = is;
+      posts_are = all_some-is
+          (map (post_of c others stand) (senders_in (shape_in c) kind)) posts e;
+    }
 
 -- as many posts as senders
-fills-count : (c : Configuration) (others : Others) (stand : Stand) (posts : List Post) (fills : Fills c others stand posts) → length posts ≡ senders_of (shape_in c) fills.kind
+fills-count : (c : Configuration) (others : Others) (stand : Stand) (posts : List Post) (fills : Fills c others stand posts)
+    → length posts ≡ senders_of (shape_in c) fills.kind
 fills-count c others stand posts fills =
     sym (length-map posts (λ (post : Post). Some post)) ∙ sym (ap length fills.posts_are)
     ∙ length-map (senders_in (shape_in c) fills.kind) (post_of c others stand) ∙ length-senders_in (shape_in c) fills.kind
 
 -- a sender of the stage, at its place
-sender-place : (c : Configuration) (stage sender : ℕ) (kind : StageKind) → kind_of_stage (shape_in c) stage ≡ Some kind → is_slot (shape_in c) stage sender ≡ true
-    → (place : ℕ) × (slot_number (shape_in c) stage sender ≡ slots_before (shape_in c) stage + place) × (slice_get (senders_in (shape_in c) kind) place ≡ Some sender)
+sender-place : (c : Configuration) (stage sender : ℕ) (kind : StageKind) → kind_of_stage (shape_in c) stage ≡ Some kind
+    → is_slot (shape_in c) stage sender ≡ true
+    → (place : ℕ) × (slot_number (shape_in c) stage sender ≡ slots_before (shape_in c) stage + place)
+    × (slice_get (senders_in (shape_in c) kind) place ≡ Some sender)
 sender-place c stage sender kind is speaks =
     let shape = shape_in c in
     let within = slot_number-within shape stage sender speaks in
@@ -67,12 +77,14 @@ sender-place c stage sender kind is speaks =
         sender_in a b e = let same : a ≡ b = cc in ap (λ (s : Slot). s.sender) same
 
 -- the post of a sender among those that fill the stage
-filled-post : (c : Configuration) (others : Others) (stand : Stand) (posts : List Post) (place sender : ℕ) (fills : Fills c others stand posts)
+filled-post : (c : Configuration) (others : Others) (stand : Stand) (posts : List Post) (place sender : ℕ)
+    (fills : Fills c others stand posts)
     → slice_get (senders_in (shape_in c) fills.kind) place ≡ Some sender → slice_get posts place ≡ post_of c others stand sender
 filled-post c others stand posts place sender fills at = by_post (slice_get posts place) refl
   where
     both : option_map (λ (post : Post). Some post) (slice_get posts place) ≡ Some (post_of c others stand sender)
-    both = sym (slice_get-map (λ (post : Post). Some post) posts place) ∙ sym (ap (λ (os : List (Option Post)). slice_get os place) fills.posts_are)
+    both = sym (slice_get-map (λ (post : Post). Some post) posts place)
+        ∙ sym (ap (λ (os : List (Option Post)). slice_get os place) fills.posts_are)
         ∙ slice_get-map (post_of c others stand) (senders_in (shape_in c) fills.kind) place ∙ ap (option_map (post_of c others stand)) at
 
     told_same : (x y : Option Post) → (let told : Option Post → Option (Option Post) = λ z. Some z in told x ≡ told y) → x ≡ y
@@ -80,12 +92,14 @@ filled-post c others stand posts place sender fills at = by_post (slice_get post
 
     by_post : (o : Option Post) → slice_get posts place ≡ o → slice_get posts place ≡ post_of c others stand sender
     by_post None e = absurd (none-some (post_of c others stand sender) (sym (ap (option_map (λ (post : Post). Some post)) e) ∙ both))
-    by_post (Some post) e = e ∙ told_same (Some post) (post_of c others stand sender) (sym (ap (option_map (λ (post : Post). Some post)) e) ∙ both)
+    by_post (Some post) e = e ∙ told_same (Some post) (post_of c others stand sender)
+        (sym (ap (option_map (λ (post : Post). Some post)) e) ∙ both)
 
 -- ---- one stage more
 
 pub next-parts : (c : Configuration) (others : Others) (stand next : Stand) → next_stand c others stand ≡ Some next
-    → (is_open stand.verdict ≡ true) × ((posts : List Post) × (stage_filled c others stand ≡ Some posts) × (stand_behind c stand posts ≡ next))
+    → (is_open stand.verdict ≡ true) × ((posts : List Post) × (stage_filled c others stand ≡ Some posts)
+    × (stand_behind c stand posts ≡ next))
 unfolding next_stand
 next-parts c others stand next e = elim (cases_Bool (is_open stand.verdict)) [
   | inl still ↦ (
@@ -93,7 +107,8 @@ next-parts c others stand next e = elim (cases_Bool (is_open stand.verdict)) [
     option_map-some (stand_behind c stand) (stage_filled c others stand) next
         (sym (cond-true (is_open stand.verdict) (option_map (stand_behind c stand) (stage_filled c others stand)) None still) ∙ e),
   )
-  | inr ended ↦ absurd (none-some next (sym (cond-false (is_open stand.verdict) (option_map (stand_behind c stand) (stage_filled c others stand)) None ended) ∙ e))
+  | inr ended ↦ absurd (none-some next (sym (cond-false (is_open stand.verdict)
+      (option_map (stand_behind c stand) (stage_filled c others stand)) None ended) ∙ e))
 ]
 
 -- one stage is passed
@@ -107,21 +122,26 @@ open-goes Done e = absurd cc
 open-goes (Convicts t) e = absurd cc
 
 -- what is due in a slot of a longer past
-due-longer : (c : Configuration) (others : Others) (past posts : List Post) (stage sender : ℕ) → slots_before (shape_in c) stage ≤ length past
+due-longer : (c : Configuration) (others : Others) (past posts : List Post) (stage sender : ℕ)
+    → slots_before (shape_in c) stage ≤ length past
     → post_due c others past stage sender ≡ post_due c others (past ++ posts) stage sender
 due-longer c others past posts stage sender long =
-    ap (λ (front : List Post). if sender == c.number then Some (own_post c front stage) else others (record { stage = stage; sender = sender }))
+    ap (λ (front : List Post). if sender == c.number then Some (own_post c front stage) else others
+    (record { stage = stage; sender = sender }))
     (sym (take-append-le (slots_before (shape_in c) stage) past posts long))
 
 -- what is due in the stage that is being filled
-due-now : (c : Configuration) (others : Others) (stand : Stand) (posts : List Post) (sender : ℕ) → length stand.past ≡ slots_before (shape_in c) stand.at
+due-now : (c : Configuration) (others : Others) (stand : Stand) (posts : List Post) (sender : ℕ)
+    → length stand.past ≡ slots_before (shape_in c) stand.at
     → post_of c others stand sender ≡ post_due c others (stand.past ++ posts) stand.at sender
 due-now c others stand posts sender whole =
     let n : ℕ = slots_before (shape_in c) stand.at in
-    ap (λ (front : List Post). if sender == c.number then Some (own_post c front stand.at) else others (record { stage = stand.at; sender = sender }))
+    ap (λ (front : List Post). if sender == c.number then Some (own_post c front stand.at) else others
+    (record { stage = stand.at; sender = sender }))
     (sym (take-append-le n stand.past posts (omega (arith, whole)) ∙ take_all n stand.past (omega (arith, whole))))
 
-behind-reached : (c : Configuration) (others : Others) (stand : Stand) (posts : List Post) → is_open stand.verdict ≡ true → stage_filled c others stand ≡ Some posts
+behind-reached : (c : Configuration) (others : Others) (stand : Stand) (posts : List Post) → is_open stand.verdict ≡ true
+    → stage_filled c others stand ≡ Some posts
     → IsReached c others stand → IsReached c others (stand_behind c stand posts)
 unfolding stand_behind
 behind-reached c others stand posts still filled is = record {
@@ -129,7 +149,8 @@ behind-reached c others stand posts still filled is = record {
   whole = long;
   posts = λ stage sender speaks lt. each stage sender speaks lt (cases_lt stage stand.at);
   goes = λ stage lt. gone stage lt (cases_lt (stage + 1) stand.at);
-  last = λ stage e. (let same : stage ≡ stand.at = omega (arith, e) in ap (λ (s : ℕ). verdict_of (closing_of c (stand.past ++ posts) s)) same);
+  last = λ stage e. (let same : stage ≡ stand.at = omega (arith, e) in ap (λ (s : ℕ). verdict_of (closing_of c (stand.past ++ posts) s))
+      same);
   first = λ e. absurd (omega (arith, e));
 }
   where
@@ -160,13 +181,18 @@ behind-reached c others stand posts still filled is = record {
         ∙ due-longer c others stand.past posts stage sender (omega (arith, is.whole))
     each stage sender speaks lt (inr now) =
         let same : stage ≡ stand.at = omega arith in
-        subst (λ (s : ℕ). slice_get (stand.past ++ posts) (slot_number (shape_in c) s sender) ≡ post_due c others (stand.past ++ posts) s sender) (sym same)
-        (here sender (sender-place c stand.at sender fills.kind fills.is (sym (ap (λ (s : ℕ). is_slot (shape_in c) s sender) same) ∙ speaks)))
+        subst (λ (s : ℕ). slice_get (stand.past ++ posts) (slot_number (shape_in c) s sender) ≡ post_due c others (stand.past ++ posts) s
+        sender) (sym same)
+        (here sender (sender-place c stand.at sender fills.kind fills.is
+        (sym (ap (λ (s : ℕ). is_slot (shape_in c) s sender) same) ∙ speaks)))
       where
-        here : (sender : ℕ) → (place : ℕ) × (slot_number (shape_in c) stand.at sender ≡ slots_before (shape_in c) stand.at + place) × (slice_get (senders_in (shape_in c) fills.kind) place ≡ Some sender)
-            → slice_get (stand.past ++ posts) (slot_number (shape_in c) stand.at sender) ≡ post_due c others (stand.past ++ posts) stand.at sender
+        here : (sender : ℕ) → (place : ℕ) × (slot_number (shape_in c) stand.at sender ≡ slots_before (shape_in c) stand.at + place)
+            × (slice_get (senders_in (shape_in c) fills.kind) place ≡ Some sender)
+            → slice_get (stand.past ++ posts) (slot_number (shape_in c) stand.at sender) ≡ post_due c others (stand.past ++ posts) stand.at
+            sender
         here sender at =
-            let number : slot_number (shape_in c) stand.at sender ≡ length stand.past + at.0 = at.1 ∙ ap (λ (k : ℕ). k + at.0) (sym is.whole) in
+            let number : slot_number (shape_in c) stand.at sender ≡ length stand.past + at.0 = at.1
+            ∙ ap (λ (k : ℕ). k + at.0) (sym is.whole) in
             ap (slice_get (stand.past ++ posts)) number
             ∙ slice_get_right stand.past posts at.0
             ∙ filled-post c others stand posts at.0 sender fills at.2
@@ -176,13 +202,16 @@ behind-reached c others stand posts still filled is = record {
         → verdict_of (closing_of c (take (slots_before (shape_in c) (stage + 1)) (stand.past ++ posts)) stage) ≡ Goes
     gone stage lt (inl earlier) =
         let rises = slots_before-rises (shape_in c) (stage + 1) stand.at (omega arith) in
-        ap (λ (front : List Post). verdict_of (closing_of c front stage)) (take-append-le (slots_before (shape_in c) (stage + 1)) stand.past posts (omega (arith, is.whole)))
+        ap (λ (front : List Post). verdict_of (closing_of c front stage))
+        (take-append-le (slots_before (shape_in c) (stage + 1)) stand.past posts (omega (arith, is.whole)))
         ∙ is.goes stage earlier
     gone stage lt (inr now) =
         let same : stage + 1 ≡ stand.at = omega arith in
-        let n : slots_before (shape_in c) (stage + 1) ≡ length stand.past = ap (λ (s : ℕ). slots_before (shape_in c) s) same ∙ sym is.whole in
+        let n : slots_before (shape_in c) (stage + 1) ≡ length stand.past = ap (λ (s : ℕ). slots_before (shape_in c) s) same
+        ∙ sym is.whole in
         ap (λ (front : List Post). verdict_of (closing_of c front stage))
-        (take-append-le (slots_before (shape_in c) (stage + 1)) stand.past posts (omega (arith, n)) ∙ take_all (slots_before (shape_in c) (stage + 1)) stand.past (omega (arith, n)))
+        (take-append-le (slots_before (shape_in c) (stage + 1)) stand.past posts (omega (arith, n))
+        ∙ take_all (slots_before (shape_in c) (stage + 1)) stand.past (omega (arith, n)))
         ∙ is.last stage same ∙ open-goes stand.verdict still
 
 first-reached : (c : Configuration) (others : Others) → IsReached c others first_stand
@@ -195,17 +224,20 @@ first-reached c others = record {
   first = λ e. refl;
 }
 
-pub next-reached : (c : Configuration) (others : Others) (stand next : Stand) → next_stand c others stand ≡ Some next → IsReached c others stand → IsReached c others next
+pub next-reached : (c : Configuration) (others : Others) (stand next : Stand) → next_stand c others stand ≡ Some next
+    → IsReached c others stand → IsReached c others next
 next-reached c others stand next e is =
     let parts = next-parts c others stand next e in
     subst (IsReached c others) parts.1.2 (behind-reached c others stand parts.1.0 parts.0 parts.1.1 is)
 
-pub course-reached : (c : Configuration) (others : Others) (stages : ℕ) (stand : Stand) → IsReached c others stand → IsReached c others (course_from c others stages stand)
+pub course-reached : (c : Configuration) (others : Others) (stages : ℕ) (stand : Stand) → IsReached c others stand
+    → IsReached c others (course_from c others stages stand)
 unfolding course_from
 course-reached c others zero stand is = is
 course-reached c others (suc stages) stand is = elim (cases_Some (next_stand c others stand)) [
   | inl none ↦ subst (IsReached c others) (sym (course-stays c others (suc stages) stand none)) is
-  | inr next ↦ subst (IsReached c others) (sym (course-next c others stages stand next.0 next.1)) (course-reached c others stages next.0 (next-reached c others stand next.0 next.1 is))
+  | inr next ↦ subst (IsReached c others) (sym (course-next c others stages stand next.0 next.1))
+      (course-reached c others stages next.0 (next-reached c others stand next.0 next.1 is))
 ]
 
 pub stands_are_reached : StandsAreReached

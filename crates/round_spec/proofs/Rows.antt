@@ -32,8 +32,13 @@ pub checks-parts : (roster : Roster) (round : ℕ) (post : Post) (content : Cont
     → (header : Header) × (admission_of roster round post ≡ Ok header) × (content_read (shape_of_roster roster) post.content ≡ Ok content)
 unfolding check_of
 checks-parts roster round post content e =
-    let header = bind_ok (admission_of roster round post) (λ header. fault_as (λ offence. Body offence.at offence.rule) (content_read (shape_of_roster roster) post.content)) content e in
-    (header.0, header.1, fault_as_ok (λ offence. Body offence.at offence.rule) (content_read (shape_of_roster roster) post.content) content header.2)
+    let header = bind_ok (admission_of roster round post) (λ header. fault_as (λ offence. Body offence.at offence.rule)
+    (content_read (shape_of_roster roster) post.content)) content e in (
+      header.0,
+      header.1,
+      fault_as_ok (λ offence. Body offence.at offence.rule) (content_read (shape_of_roster roster) post.content) content
+          header.2,
+    )
 
 -- ---- what one run sent
 
@@ -45,12 +50,15 @@ pub own_row : OwnRow
 unfolding sent
 own_row run content honest listed =
     let found = contains-map (λ (post : Post). post.content) (posts_said run) content listed in
-    let at = contains-filter_map (λ stage. kept_in run.log (own_slot run stage)) (range_with_len 0 (stage_count run.log.shape)) found.0 found.1 in
+    let at = contains-filter_map (λ stage. kept_in run.log (own_slot run stage)) (range_with_len 0 (stage_count run.log.shape)) found.0
+    found.1 in
     row at.0 found.0 at.2 found.2 (honest.own at.0 found.0 at.2) (honest.posts (own_slot run at.0) found.0 at.2)
   where
-    row : (stage : ℕ) (post : Post) → kept_in run.log (own_slot run stage) ≡ Some post → post.content ≡ content → IsOwnPost run stage post → ChecksIn run.config (own_slot run stage) post → IsOwnRow run content
+    row : (stage : ℕ) (post : Post) → kept_in run.log (own_slot run stage) ≡ Some post → post.content ≡ content → IsOwnPost run stage post
+        → ChecksIn run.config (own_slot run stage) post → IsOwnRow run content
     row stage post kept is own checks =
-        let said : content ≡ own_content run.config own.past stage = sym is ∙ ap (λ (p : Post). p.content) own.said ∙ own-content run.config own.past stage in
+        let said : content ≡ own_content run.config own.past stage = sym is ∙ ap (λ (p : Post). p.content) own.said
+        ∙ own-content run.config own.past stage in
         let parts = checks-parts run.config.roster run.config.round post checks.content checks.checks in
         let spelled = content-is_spelled (shape_in run.config) post.content checks.content checks.content_bytes parts.2 in
         record {
@@ -85,8 +93,16 @@ run_of_content roster runs number content header honest listed reads =
     let found = contains-flat sent (runs_of runs number) content listed in
     let of_member = contains-filter (λ (run : Run). run.config.number == number) runs found.0 found.1 in
     let row = own_row found.0 content (All-contains HonestRun runs found.0 honest.honest of_member.0) found.2 in
-    let same = headers-same (own_header found.0.config row.past row.stage) header (header_of content) row.header reads in
-    (found.0, record { listed = of_member.0; number = eqb-true found.0.config.number number of_member.1; round = ap (λ (h : Header). h.round) same }, found.2)
+    let same = headers-same (own_header found.0.config row.past row.stage) header (header_of content) row.header reads in (
+      found.0,
+      record {
+        listed = of_member.0;
+        number = eqb-true found.0.config.number number of_member.1;
+        round = ap
+            (λ (h : Header). h.round) same;
+      },
+      found.2,
+    )
 
 runs-same : (x y : Run) → (let told : Run → Option Run = λ z. Some z in told x ≡ told y) → x ≡ y
 runs-same x y e = cc
@@ -98,10 +114,12 @@ at-place runs k run d lt e = runs-same _ _ (sym (slice_get-get_or runs k d lt) �
 pub run_unique : RunUnique
 run_unique roster runs number round run other honest is is_other = by_place is.listed is_other.listed
   where
-    apart : (k l : ℕ) (a b : Run) → k < l → l < length runs → slice_index_or runs k a ≡ a → slice_index_or runs l b ≡ b → a.config.number ≡ b.config.number → a.config.round ≡ b.config.round → ⊥
+    apart : (k l : ℕ) (a b : Run) → k < l → l < length runs → slice_index_or runs k a ≡ a → slice_index_or runs l b ≡ b
+        → a.config.number ≡ b.config.number → a.config.round ≡ b.config.round → ⊥
     apart k l a b lt within at there numbers rounds =
         let far = honest.apart k l a lt within in
-        let both : AreApart a b = subst (λ (x : Run). AreApart x b) at (subst (λ (y : Run). AreApart (slice_index_or runs k a) y) (at-place runs l b a within there) far) in
+        let both : AreApart a b = subst (λ (x : Run). AreApart x b) at
+        (subst (λ (y : Run). AreApart (slice_index_or runs k a) y) (at-place runs l b a within there) far) in
         both numbers rounds
 
     by_place : Contains runs run → Contains runs other → run ≡ other
@@ -109,7 +127,8 @@ run_unique roster runs number round run other honest is is_other = by_place is.l
       | inl earlier ↦ absurd (apart k l run other earlier lt' at there (is.number ∙ sym is_other.number) (is.round ∙ sym is_other.round))
       | inr later ↦ elim (cases_lt l k) [
         | inl before ↦ absurd (apart l k other run before lt there at (is_other.number ∙ sym is.number) (is_other.round ∙ sym is.round))
-        | inr same ↦ (let e : l ≡ k = omega arith in sym at ∙ sym (ap (λ (m : ℕ). slice_index_or runs m run) e) ∙ at-place runs l other run lt' there)
+        | inr same ↦ (let e : l ≡ k = omega arith in sym at ∙ sym (ap (λ (m : ℕ). slice_index_or runs m run) e)
+            ∙ at-place runs l other run lt' there)
       ]
     ]
 
@@ -117,20 +136,30 @@ some-post : (x y : Post) → (let told : Post → Option Post = λ z. Some z in 
 some-post x y e = cc
 
 -- two contents of one run at one stage
-same-stage : (run : Run) (a b : List ℕ) (h g : Header) → HonestRun run → Contains (sent run) a → Contains (sent run) b → header_of a ≡ Ok h → header_of b ≡ Ok g → h.stage ≡ g.stage → a ≡ b
+same-stage : (run : Run) (a b : List ℕ) (h g : Header) → HonestRun run → Contains (sent run) a → Contains (sent run) b → header_of a ≡ Ok h
+    → header_of b ≡ Ok g → h.stage ≡ g.stage → a ≡ b
 same-stage run a b h g honest listed_a listed_b reads_a reads_b stages =
     let row_a = own_row run a honest listed_a in
     let row_b = own_row run b honest listed_b in
-    let stage_a : row_a.stage ≡ h.stage = ap (λ (x : Header). x.stage) (headers-same (own_header run.config row_a.past row_a.stage) h (header_of a) row_a.header reads_a) in
-    let stage_b : row_b.stage ≡ g.stage = ap (λ (x : Header). x.stage) (headers-same (own_header run.config row_b.past row_b.stage) g (header_of b) row_b.header reads_b) in
+    let stage_a : row_a.stage ≡ h.stage = ap (λ (x : Header). x.stage)
+    (headers-same (own_header run.config row_a.past row_a.stage) h (header_of a) row_a.header reads_a) in
+    let stage_b : row_b.stage ≡ g.stage = ap (λ (x : Header). x.stage)
+    (headers-same (own_header run.config row_b.past row_b.stage) g (header_of b) row_b.header reads_b) in
     let one : row_a.stage ≡ row_b.stage = stage_a ∙ stages ∙ sym stage_b in
-    let posts : row_a.post ≡ row_b.post = some-post _ _ (sym row_a.kept ∙ ap (λ (s : ℕ). kept_in run.log (own_slot run s)) one ∙ row_b.kept) in
+    let posts : row_a.post ≡ row_b.post = some-post _ _ (sym row_a.kept ∙ ap (λ (s : ℕ). kept_in run.log (own_slot run s)) one ∙ row_b.kept)
+    in
     sym row_a.content_is ∙ ap (λ (p : Post). p.content) posts ∙ row_b.content_is
 
 pub one_per_slot : OnePerSlot
 one_per_slot roster runs number a b h g honest listed_a listed_b reads_a reads_b rounds stages =
     let run_a = run_of_content roster runs number a h honest listed_a reads_a in
     let run_b = run_of_content roster runs number b g honest listed_b reads_b in
-    let is_b : IsRunOf runs number h.round run_b.0 = record { listed = run_b.1.listed; number = run_b.1.number; round = run_b.1.round ∙ sym rounds } in
+    let is_b : IsRunOf runs number h.round run_b.0 = record {
+      listed = run_b.1.listed;
+      number = run_b.1.number;
+      round = run_b.1.round
+          ∙ sym rounds;
+    } in
     let same : run_b.0 ≡ run_a.0 = run_unique roster runs number h.round run_b.0 run_a.0 honest is_b run_a.1 in
-    same-stage run_a.0 a b h g (All-contains HonestRun runs run_a.0 honest.honest run_a.1.listed) run_a.2 (subst (λ (run : Run). Contains (sent run) b) same run_b.2) reads_a reads_b stages
+    same-stage run_a.0 a b h g (All-contains HonestRun runs run_a.0 honest.honest run_a.1.listed) run_a.2
+    (subst (λ (run : Run). Contains (sent run) b) same run_b.2) reads_a reads_b stages

@@ -27,7 +27,8 @@ pub all-map : {A B : Type 0} (P : B → Type 0) (f : A → B) (xs : List A) → 
 all-map P f [] each = tt
 all-map P f (x ∷ xs) each = (each x, all-map P f xs each)
 
-pub all-map-from : {A B : Type 0} (P : B → Type 0) (f : A → B) (xs : List A) → AllByRecursion (λ x. P (f x)) xs → AllByRecursion P (map f xs)
+pub all-map-from : {A B : Type 0} (P : B → Type 0) (f : A → B) (xs : List A) → AllByRecursion (λ x. P (f x)) xs
+    → AllByRecursion P (map f xs)
 all-map-from P f [] all = tt
 all-map-from P f (x ∷ xs) all = (all.0, all-map-from P f xs all.1)
 
@@ -69,7 +70,8 @@ bytes-flat (x ∷ xs) all = (IsBytes-front x (flat_map (λ x. x) xs) all, bytes-
 pub prefixed-bytes : (xs : List (List ℕ)) → AllByRecursion IsBytes xs → IsBytes (flat_map prefixed xs)
 prefixed-bytes [] all = IsBytes-nil
 prefixed-bytes (x ∷ xs) all =
-    IsBytes-append (prefixed x) (flat_map prefixed xs) (IsBytes-append (to_be_bytes w32 (length x)) x (IsBytes-to_be_bytes w32 (length x)) all.0) (prefixed-bytes xs all.1)
+    IsBytes-append (prefixed x) (flat_map prefixed xs) (IsBytes-append (to_be_bytes w32 (length x)) x (IsBytes-to_be_bytes w32 (length x))
+    all.0) (prefixed-bytes xs all.1)
 
 map-bytes : (f : ℕ → ℕ) (ns : List ℕ) → ((n : ℕ) → f n < 256) → IsBytes (map f ns)
 map-bytes f [] each = IsBytes-nil
@@ -87,7 +89,8 @@ xor-small x y p q = xor_of_8 x y p q
 pub xor-bytes : (xs ys : List ℕ) → IsBytes xs → IsBytes ys → IsBytes (exclusive_or xs ys)
 xor-bytes [] ys p q = IsBytes-nil
 xor-bytes (x ∷ xs) [] p q = IsBytes-nil
-xor-bytes (x ∷ xs) (y ∷ ys) p q = IsBytes-cons (bit_xor x y) (exclusive_or xs ys) (xor-small x y (p 0) (q 0)) (xor-bytes xs ys (λ i. p (suc i)) (λ i. q (suc i)))
+xor-bytes (x ∷ xs) (y ∷ ys) p q = IsBytes-cons (bit_xor x y) (exclusive_or xs ys) (xor-small x y (p 0) (q 0))
+    (xor-bytes xs ys (λ i. p (suc i)) (λ i. q (suc i)))
 
 drawn-small : (key : List ℕ) (place : ℕ) → byte_of key place < 256
 unfolding byte_of
@@ -113,14 +116,16 @@ unfolding capsule_of
 capsule-bytes key m = sealed-bytes (hash_of RingCoins (key ∷ m ∷ [])) (uniform (take 32 key)) (unpacked (drop 32 key)) m
 
 masked-bytes : (m body : List ℕ) → IsBytes body → IsBytes (masked m body)
-masked-bytes m body is = xor-bytes body (bytes_from (hash_of LayerStream (m ∷ [])) 0 (length body)) is (stream-bytes (hash_of LayerStream (m ∷ [])) 0 (length body))
+masked-bytes m body is = xor-bytes body (bytes_from (hash_of LayerStream (m ∷ [])) 0 (length body)) is
+    (stream-bytes (hash_of LayerStream (m ∷ [])) 0 (length body))
 
 layer-bytes : (key m body : List ℕ) → IsBytes body → IsBytes (layer_of key m body)
 unfolding layer_of
 layer-bytes key m body is =
     let check : List ℕ = hash_of LayerTag (m ∷ masked m body ∷ []) in
     IsBytes-append (capsule_of key m ++ hash_of LayerTag (m ∷ masked m body ∷ [])) (masked m body)
-    (IsBytes-append (capsule_of key m) (hash_of LayerTag (m ∷ masked m body ∷ [])) (capsule-bytes key m) (hash_bytes LayerTag (m ∷ masked m body ∷ [])).1) (masked-bytes m body is)
+    (IsBytes-append (capsule_of key m) (hash_of LayerTag (m ∷ masked m body ∷ [])) (capsule-bytes key m)
+    (hash_bytes LayerTag (m ∷ masked m body ∷ [])).1) (masked-bytes m body is)
 
 pub wrapping-bytes : (keys ms : List (List ℕ)) (blob : List ℕ) → IsBytes blob → IsBytes (wrapping_of keys ms blob)
 unfolding wrapping_of
@@ -133,7 +138,8 @@ opened-bytes : (seed layer m body : List ℕ) → Opens seed layer m body → Is
 unfolding layer_of
 opened-bytes seed layer m body opens is =
     let whole : IsBytes (layer_of (key_of_seed seed) m body) = subst IsBytes opens.is is in
-    let hidden : IsBytes (masked m body) = IsBytes-back (capsule_of (key_of_seed seed) m ++ hash_of LayerTag (m ∷ masked m body ∷ [])) (masked m body) whole in
+    let hidden : IsBytes (masked m body) = IsBytes-back (capsule_of (key_of_seed seed) m ++ hash_of LayerTag (m ∷ masked m body ∷ []))
+    (masked m body) whole in
     subst IsBytes (masked_twice m body) (masked-bytes m (masked m body) hidden)
 
 pub bodies-bytes : (seed : List ℕ) (entries bodies : List (List ℕ)) → AllZip (HasBody seed) entries bodies → AllByRecursion IsBytes entries
@@ -141,7 +147,11 @@ pub bodies-bytes : (seed : List ℕ) (entries bodies : List (List ℕ)) → AllZ
 bodies-bytes seed [] [] are all = tt
 bodies-bytes seed [] (body ∷ bodies) are all = absurd are
 bodies-bytes seed (entry ∷ entries) [] are all = absurd are
-bodies-bytes seed (entry ∷ entries) (body ∷ bodies) are all = (opened-bytes seed entry are.0.0 body are.0.1 all.0, bodies-bytes seed entries bodies are.1 all.1)
+bodies-bytes seed (entry ∷ entries) (body ∷ bodies) are all = (
+  opened-bytes seed entry are.0.0 body are.0.1 all.0,
+  bodies-bytes seed entries
+      bodies are.1 all.1,
+)
 
 pub bodies-long : (seed : List ℕ) (size : ℕ) (entries bodies : List (List ℕ)) → AllZip (HasBody seed) entries bodies
     → AllByRecursion (λ entry. length entry ≡ size + 2272) entries
@@ -152,8 +162,10 @@ bodies-long seed size (entry ∷ entries) [] are all = absurd are
 bodies-long seed size (entry ∷ entries) (body ∷ bodies) are all =
     (body-long seed size entry are.0.0 body are.0.1 all.0, bodies-long seed size entries bodies are.1 all.1)
   where
-    body-long : (seed : List ℕ) (size : ℕ) (entry m body : List ℕ) → Opens seed entry m body → length entry ≡ size + 2272 → length body ≡ size
-    body-long seed size entry m body opens long = (let whole = ap length opens.is in omega (arith, long, whole, layer_adds (key_of_seed seed) m body))
+    body-long : (seed : List ℕ) (size : ℕ) (entry m body : List ℕ) → Opens seed entry m body → length entry ≡ size + 2272
+        → length body ≡ size
+    body-long seed size entry m body opens long = (let whole = ap length opens.is in omega
+        (arith, long, whole, layer_adds (key_of_seed seed) m body))
 
 -- ---- descriptors and pads
 
@@ -167,15 +179,18 @@ hidden-bytes bytes (pad ∷ pads) is all = hidden-bytes (exclusive_or bytes pad)
 pub own-pad-bytes : (seeds : List (List ℕ)) (member : ℕ) (message : List ℕ) → IsBytes message → IsBytes (own_pad seeds member message)
 unfolding own_pad pads_of
 own-pad-bytes seeds member message is =
-    hidden-bytes message (other_pads seeds member (length message)) is (all-map IsBytes (λ seed. pad_of seed (length message)) _ (λ seed. pad-bytes seed (length message)))
+    hidden-bytes message (other_pads seeds member (length message)) is
+    (all-map IsBytes (λ seed. pad_of seed (length message)) _ (λ seed. pad-bytes seed (length message)))
 
-pub descriptor-bytes : (keys seeds : List (List ℕ)) (member : ℕ) (message : List ℕ) → IsBytes (descriptor_text (made_descriptor keys seeds member message))
+pub descriptor-bytes : (keys seeds : List (List ℕ)) (member : ℕ) (message : List ℕ)
+    → IsBytes (descriptor_text (made_descriptor keys seeds member message))
 unfolding made_descriptor sealed_seeds
 descriptor-bytes keys seeds member message =
     let hashes : List (List ℕ) = map hash_of_pad (made_pads seeds member message) in
     let capsules : List (List ℕ) = map (λ (p : List ℕ × List ℕ). capsule_of p.0 p.1) (zip keys seeds) in
     let hash : List ℕ = hash_of Message (message ∷ []) in
-    IsBytes-append (to_be_bytes w32 (length message)) (hash ++ (concat hashes ++ concat capsules)) (IsBytes-to_be_bytes w32 (length message))
+    IsBytes-append (to_be_bytes w32 (length message)) (hash ++ (concat hashes ++ concat capsules))
+    (IsBytes-to_be_bytes w32 (length message))
     (IsBytes-append hash (concat hashes ++ concat capsules) (hash_bytes Message (message ∷ [])).1
     (IsBytes-append (concat hashes) (concat capsules)
     (concat-bytes hashes (all-map IsBytes hash_of_pad (made_pads seeds member message) (λ pad. (hash_bytes PadHash (pad ∷ [])).1)))

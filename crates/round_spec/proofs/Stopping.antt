@@ -43,46 +43,59 @@ same-header : (a b : Header) (r : Result Header Short) → r ≡ Ok a → r ≡ 
 same-header a b r e e' = let both = sym e ∙ e' in cc
 
 -- the header that stands before an own content
-pub own-header : (c : Configuration) (posts : List Post) (stage : ℕ) → c.round < 2 ^ 64 → header_of (own_content c posts stage) ≡ Ok (own_header c posts stage)
+pub own-header : (c : Configuration) (posts : List Post) (stage : ℕ) → c.round < 2 ^ 64
+    → header_of (own_content c posts stage) ≡ Ok (own_header c posts stage)
 unfolding own_content content_with
 own-header c posts stage small =
     let x : Content = content_with c (own_descriptor c (contents_of posts)) posts stage in
     begins-header_of (content_text x) (own_header c posts stage) (record {
-      widths = record { group_long = (hash_bytes _ _).0; round_small = small; view_long = view-long (shape_in c) (contents_of posts) stage };
+      widths = record {
+        group_long = (hash_bytes _ _).0;
+        round_small = small;
+        view_long = view-long (shape_in c) (contents_of posts) stage;
+      };
       rest = (kind_number x.body ∷ []) ++ body_text x.body;
       spelled = refl;
     })
 
-pub own-names : (c : Configuration) (posts : List Post) (stage : ℕ) (content : Content) → c.round < 2 ^ 64 → content_read (shape_in c) (own_post c posts stage).content ≡ Ok content
+pub own-names : (c : Configuration) (posts : List Post) (stage : ℕ) (content : Content) → c.round < 2 ^ 64
+    → content_read (shape_in c) (own_post c posts stage).content ≡ Ok content
     → content.header ≡ own_header c posts stage
 unfolding own_post
 own-names c posts stage content small reads =
-    same-header content.header (own_header c posts stage) (header_of (own_content c posts stage)) (content-header (shape_in c) (own_content c posts stage) content reads) (own-header c posts stage small)
+    same-header content.header (own_header c posts stage) (header_of (own_content c posts stage))
+    (content-header (shape_in c) (own_content c posts stage) content reads) (own-header c posts stage small)
 
 -- ---- the last stage
 
-due-names : (c : Configuration) (others : Others) (past : List Post) (stage sender : ℕ) (post : Post) (content : Content) → c.round < 2 ^ 64 → NameSlots c others
+due-names : (c : Configuration) (others : Others) (past : List Post) (stage sender : ℕ) (post : Post) (content : Content) → c.round < 2 ^ 64
+    → NameSlots c others
     → post_due c others past stage sender ≡ Some post → content_read (shape_in c) post.content ≡ Ok content → content.header.stage ≡ stage
 due-names c others past stage sender post content small names due reads = elim (cases_Bool (sender == c.number)) [
   | inl own ↦
-      let is : own_post c (take (slots_before (shape_in c) stage) past) stage ≡ post = told_same _ _ (sym (cond-true (sender == c.number) (Some (own_post c (take (slots_before (shape_in c) stage) past) stage)) _ own) ∙ due) in
-      ap (λ (h : Header). h.stage) (own-names c (take (slots_before (shape_in c) stage) past) stage content small (ap (λ (p : Post). content_read (shape_in c) p.content) is ∙ reads))
+      let is : own_post c (take (slots_before (shape_in c) stage) past) stage ≡ post = told_same _ _
+      (sym (cond-true (sender == c.number) (Some (own_post c (take (slots_before (shape_in c) stage) past) stage)) _ own) ∙ due) in
+      ap (λ (h : Header). h.stage) (own-names c (take (slots_before (shape_in c) stage) past) stage content small
+      (ap (λ (p : Post). content_read (shape_in c) p.content) is ∙ reads))
   | inr other ↦
       ap (λ (slot : Slot). slot.stage) (names (record { stage = stage; sender = sender }) post content
-      (sym (cond-false (sender == c.number) (Some (own_post c (take (slots_before (shape_in c) stage) past) stage)) (others (record { stage = stage; sender = sender })) other) ∙ due) reads)
+      (sym (cond-false (sender == c.number) (Some (own_post c (take (slots_before (shape_in c) stage) past) stage))
+      (others (record { stage = stage; sender = sender })) other) ∙ due) reads)
 ]
   where
     told_same : (x y : Post) → (let told : Post → Option Post = λ z. Some z in told x ≡ told y) → x ≡ y
     told_same x y e = cc
 
-due-there : (past : List Post) (number : ℕ) (o : Option Post) (content : Content) (shape : Shape) → slice_get past number ≡ o → content_read shape (slice_index_or past number no_post).content ≡ Ok content
+due-there : (past : List Post) (number : ℕ) (o : Option Post) (content : Content) (shape : Shape) → slice_get past number ≡ o
+    → content_read shape (slice_index_or past number no_post).content ≡ Ok content
     → number < length past → (post : Post) × (o ≡ Some post) × (content_read shape post.content ≡ Ok content)
 due-there past number o content shape e reads lt =
     let there = slice_get-get_or past number no_post lt in
     (slice_index_or past number no_post, sym e ∙ there, reads)
 
 -- a stand behind the end of shuffle B is not open
-last-ends : (c : Configuration) (others : Others) (stand : Stand) → c.round < 2 ^ 64 → 1 ≤ (shape_in c).members → NameSlots c others → IsReached c others stand
+last-ends : (c : Configuration) (others : Others) (stand : Stand) → c.round < 2 ^ 64 → 1 ≤ (shape_in c).members → NameSlots c others
+    → IsReached c others stand
     → stand.at ≡ stage_count (shape_in c) → is_open stand.verdict ≡ false
 last-ends c others stand small least names is end = ended stand.verdict (λ goes. final_b_ends v whole kind (is.last stage back ∙ goes))
   where
@@ -107,11 +120,14 @@ last-ends c others stand small least names is end = ended stand.verdict (λ goes
     named member content in_round reads =
         let first = in_round.least in
         let last = in_round.most in
-        let speaks_there : is_slot (shape_in c) stage member ≡ true = ap (λ (o : Option StageKind). speaks (shape_in c) o member) kind ∙ is_there member first last in
+        let speaks_there : is_slot (shape_in c) stage member ≡ true = ap (λ (o : Option StageKind). speaks (shape_in c) o member) kind
+        ∙ is_there member first last in
         let within = slot_number-within (shape_in c) stage member speaks_there in
         let after = within.1 in
-        let n : slots_before (shape_in c) (stage + 1) ≡ length stand.past = ap (λ (s : ℕ). slots_before (shape_in c) s) back ∙ sym is.whole in
-        let there = due-there stand.past (slot_number (shape_in c) stage member) _ content (shape_in c) (is.posts stage member speaks_there (omega (arith, back))) reads (omega (arith, n)) in
+        let n : slots_before (shape_in c) (stage + 1) ≡ length stand.past = ap (λ (s : ℕ). slots_before (shape_in c) s) back
+        ∙ sym is.whole in
+        let there = due-there stand.past (slot_number (shape_in c) stage member) _ content (shape_in c)
+        (is.posts stage member speaks_there (omega (arith, back))) reads (omega (arith, n)) in
         due-names c others stand.past stage member there.0 content small names there.1 there.2
       where
         is_there : (member : ℕ) → 1 ≤ member → member ≤ (shape_in c).members → is_member (shape_in c).members member ≡ true
@@ -128,7 +144,8 @@ last-ends c others stand small least names is end = ended stand.verdict (λ goes
 -- ---- the course
 
 -- a course of so many stages has no next stand, or all of them are passed
-fuel : (c : Configuration) (others : Others) (stages : ℕ) (stand : Stand) → (next_stand c others (course_from c others stages stand) ≡ None) ⊎ ((course_from c others stages stand).at ≡ stand.at + stages)
+fuel : (c : Configuration) (others : Others) (stages : ℕ) (stand : Stand) → (next_stand c others (course_from c others stages stand) ≡ None)
+    ⊎ ((course_from c others stages stand).at ≡ stand.at + stages)
 unfolding course_from
 fuel c others zero stand = inr (omega arith)
 fuel c others (suc stages) stand = elim (cases_Some (next_stand c others stand)) [
@@ -143,13 +160,16 @@ fuel c others (suc stages) stand = elim (cases_Some (next_stand c others stand))
 ]
   where
     step_is : (next : Stand) → next_stand c others stand ≡ Some next → next.at ≡ stand.at + 1
-    step_is next e = (let parts = next-parts c others stand next e in sym (ap (λ (s : Stand). s.at) parts.1.2) ∙ behind-at c stand parts.1.0)
+    step_is next e = (let parts = next-parts c others stand next e in sym (ap (λ (s : Stand). s.at) parts.1.2)
+        ∙ behind-at c stand parts.1.0)
 
 -- nothing is next of an open stand: the stage is not filled
-unfilled : (c : Configuration) (others : Others) (stand : Stand) → next_stand c others stand ≡ None → is_open stand.verdict ≡ true → stage_filled c others stand ≡ None
+unfilled : (c : Configuration) (others : Others) (stand : Stand) → next_stand c others stand ≡ None → is_open stand.verdict ≡ true
+    → stage_filled c others stand ≡ None
 unfolding next_stand
 unfilled c others stand none still =
-    nothing_mapped (stand_behind c stand) (stage_filled c others stand) (sym (cond-true (is_open stand.verdict) (option_map (stand_behind c stand) (stage_filled c others stand)) None still) ∙ none)
+    nothing_mapped (stand_behind c stand) (stage_filled c others stand)
+    (sym (cond-true (is_open stand.verdict) (option_map (stand_behind c stand) (stage_filled c others stand)) None still) ∙ none)
 
 pub course_stops : CourseStops
 unfolding course_of
@@ -171,9 +191,11 @@ course_stops c others small least names = record {
     none : next_stand c others end ≡ None
     none = elim (fuel c others (stage_count (shape_in c)) first_stand) [
       | inl stopped ↦ stopped
-      | inr all ↦ next-ended c others end (last-ends c others end small least names is (let at : end.at ≡ 0 + stage_count (shape_in c) = all in omega (arith, at)))
+      | inr all ↦ next-ended c others end (last-ends c others end small least names is
+          (let at : end.at ≡ 0 + stage_count (shape_in c) = all in omega (arith, at)))
     ]
 
-    by_kind : is_open end.verdict ≡ true → (o : Option StageKind) → kind_of_stage (shape_in c) end.at ≡ o → (kind : StageKind) × (kind_of_stage (shape_in c) end.at ≡ Some kind)
+    by_kind : is_open end.verdict ≡ true → (o : Option StageKind) → kind_of_stage (shape_in c) end.at ≡ o → (kind : StageKind)
+        × (kind_of_stage (shape_in c) end.at ≡ Some kind)
     by_kind still (Some kind) e = (kind, e)
     by_kind still None e = absurd (let over = last-ends c others end small least names is (at_end e) in let both = sym still ∙ over in cc)

@@ -20,14 +20,19 @@ pub submit-b : (shape : Shape) (shuffle : ℕ) → shuffle ≡ 2 → submit_stag
 submit-b shape shuffle b = cond-false (shuffle == 1) 1 (shape.members + 7) (ap (λ (s : ℕ). s == 1) b)
 
 -- the kinds of its stages
-pub submit-kind : (shape : Shape) (shuffle : ℕ) → IsShuffle shuffle → kind_of_stage shape (submit_stage shape shuffle) ≡ Some (Submit shuffle)
-submit-kind shape shuffle (inl a) = submit_a_is shape (submit_stage shape shuffle) (submit-a shape shuffle a) ∙ ap (λ (s : ℕ). Some (Submit s)) (sym a)
-submit-kind shape shuffle (inr b) = submit_b_is shape (submit_stage shape shuffle) (submit-b shape shuffle b) ∙ ap (λ (s : ℕ). Some (Submit s)) (sym b)
+pub submit-kind : (shape : Shape) (shuffle : ℕ) → IsShuffle shuffle
+    → kind_of_stage shape (submit_stage shape shuffle) ≡ Some (Submit shuffle)
+submit-kind shape shuffle (inl a) = submit_a_is shape (submit_stage shape shuffle) (submit-a shape shuffle a)
+    ∙ ap (λ (s : ℕ). Some (Submit s)) (sym a)
+submit-kind shape shuffle (inr b) = submit_b_is shape (submit_stage shape shuffle) (submit-b shape shuffle b)
+    ∙ ap (λ (s : ℕ). Some (Submit s)) (sym b)
 
 pub turn-kind : (shape : Shape) (shuffle k : ℕ) → IsShuffle shuffle → 1 ≤ k → k ≤ shape.members
     → kind_of_stage shape (submit_stage shape shuffle + k) ≡ Some (Shuffle shuffle k)
-turn-kind shape shuffle k (inl a) least most = turn_a shape (submit_stage shape shuffle + k) k (omega (arith, submit-a shape shuffle a)) least most ∙ ap (λ (s : ℕ). Some (Shuffle s k)) (sym a)
-turn-kind shape shuffle k (inr b) least most = turn_b shape (submit_stage shape shuffle + k) k (omega (arith, submit-b shape shuffle b)) least most ∙ ap (λ (s : ℕ). Some (Shuffle s k)) (sym b)
+turn-kind shape shuffle k (inl a) least most = turn_a shape (submit_stage shape shuffle + k) k (omega (arith, submit-a shape shuffle a))
+    least most ∙ ap (λ (s : ℕ). Some (Shuffle s k)) (sym a)
+turn-kind shape shuffle k (inr b) least most = turn_b shape (submit_stage shape shuffle + k) k (omega (arith, submit-b shape shuffle b))
+    least most ∙ ap (λ (s : ℕ). Some (Shuffle s k)) (sym b)
 
 -- ---- which stage a kind has
 
@@ -45,19 +50,34 @@ record SameTurn (x y i j : ℕ) : Type 0 where
 same-turn : (o : Option StageKind) (x y i j : ℕ) → o ≡ Some (Shuffle x i) → o ≡ Some (Shuffle y j) → SameTurn x y i j
 same-turn o x y i j e f = let both : Some (Shuffle x i) ≡ Some (Shuffle y j) = sym e ∙ f in record { shuffle = cc; turn = cc }
 
-turn-from-a : (shape : Shape) (stage shuffle k : ℕ) → kind_of_stage shape stage ≡ Some (Shuffle shuffle k) → 2 ≤ stage → stage < shape.members + 2
+turn-from-a : (shape : Shape) (stage shuffle k : ℕ) → kind_of_stage shape stage ≡ Some (Shuffle shuffle k) → 2 ≤ stage
+    → stage < shape.members + 2
     → TurnAt shape stage shuffle k
 turn-from-a shape stage shuffle k e least most =
-    let same = same-turn (kind_of_stage shape stage) 1 shuffle (stage - 1) k (turn_a shape stage (stage - 1) (omega arith) (omega arith) (omega arith)) e in
+    let same = same-turn (kind_of_stage shape stage) 1 shuffle (stage - 1) k
+    (turn_a shape stage (stage - 1) (omega arith) (omega arith) (omega arith)) e in
     let turn = same.turn in
-    record { is = inl (sym same.shuffle); least = omega arith; most = omega arith; at = omega (arith, submit-a shape shuffle (sym same.shuffle)) }
+    record {
+      is = inl (sym same.shuffle);
+      least = omega arith;
+      most = omega arith;
+      at = omega
+          (arith, submit-a shape shuffle (sym same.shuffle));
+    }
 
 turn-from-b : (shape : Shape) (stage shuffle k : ℕ) → kind_of_stage shape stage ≡ Some (Shuffle shuffle k) → shape.members + 7 < stage
     → stage < shape.members + shape.members + 8 → TurnAt shape stage shuffle k
 turn-from-b shape stage shuffle k e least most =
-    let same = same-turn (kind_of_stage shape stage) 2 shuffle (stage - (shape.members + 7)) k (turn_b shape stage (stage - (shape.members + 7)) (omega arith) (omega arith) (omega arith)) e in
+    let same = same-turn (kind_of_stage shape stage) 2 shuffle (stage - (shape.members + 7)) k
+    (turn_b shape stage (stage - (shape.members + 7)) (omega arith) (omega arith) (omega arith)) e in
     let turn = same.turn in
-    record { is = inr (sym same.shuffle); least = omega arith; most = omega arith; at = omega (arith, submit-b shape shuffle (sym same.shuffle)) }
+    record {
+      is = inr (sym same.shuffle);
+      least = omega arith;
+      most = omega arith;
+      at = omega
+          (arith, submit-b shape shuffle (sym same.shuffle));
+    }
 
 -- a stage between the turns of the two shuffles is no turn
 no-turn : (shape : Shape) (stage shuffle k : ℕ) → kind_of_stage shape stage ≡ Some (Shuffle shuffle k) → shape.members + 1 < stage
@@ -81,7 +101,8 @@ no-turn shape stage shuffle k e least most =
     ]
 
 -- nor is one behind the turns of shuffle B
-past-turns : (shape : Shape) (stage shuffle k : ℕ) → kind_of_stage shape stage ≡ Some (Shuffle shuffle k) → shape.members + shape.members + 8 ≤ stage → ⊥
+past-turns : (shape : Shape) (stage shuffle k : ℕ) → kind_of_stage shape stage ≡ Some (Shuffle shuffle k)
+    → shape.members + shape.members + 8 ≤ stage → ⊥
 past-turns shape stage shuffle k e least =
     elim (cases_eq stage (shape.members + shape.members + 8)) [
       | inl at ↦ (let is = sym (go_b_is shape stage at) ∙ e in cc)
@@ -121,17 +142,20 @@ data IsEarly (kind : StageKind) : Type 0 where
 some-kind : (o : Option StageKind) (a b : StageKind) → o ≡ Some a → o ≡ Some b → b ≡ a
 some-kind o a b e f = let both : Some a ≡ Some b = sym e ∙ f in cc
 
-early-kind : (shape : Shape) (stage : ℕ) (kind : StageKind) → kind_of_stage shape stage ≡ Some kind → stage < shape.members + 2 → IsEarly kind
+early-kind : (shape : Shape) (stage : ℕ) (kind : StageKind) → kind_of_stage shape stage ≡ Some kind → stage < shape.members + 2
+    → IsEarly kind
 early-kind shape stage kind e lt =
     elim (cases_eq stage 0) [
       | inl at ↦ OfKeys (some-kind (kind_of_stage shape stage) Keys kind (keys_is shape stage at) e)
       | inr not0 ↦ elim (cases_eq stage 1) [
         | inl at ↦ OfSubmit (some-kind (kind_of_stage shape stage) (Submit 1) kind (submit_a_is shape stage at) e)
-        | inr not1 ↦ OfTurn (stage - 1) (some-kind (kind_of_stage shape stage) (Shuffle 1 (stage - 1)) kind (turn_a shape stage (stage - 1) (omega arith) (omega arith) (omega arith)) e)
+        | inr not1 ↦ OfTurn (stage - 1) (some-kind (kind_of_stage shape stage) (Shuffle 1 (stage - 1)) kind
+            (turn_a shape stage (stage - 1) (omega arith) (omega arith) (omega arith)) e)
       ]
     ]
 
-late-unless : (shape : Shape) (stage : ℕ) (kind : StageKind) → kind_of_stage shape stage ≡ Some kind → (IsEarly kind → ⊥) → shape.members + 1 < stage
+late-unless : (shape : Shape) (stage : ℕ) (kind : StageKind) → kind_of_stage shape stage ≡ Some kind → (IsEarly kind → ⊥)
+    → shape.members + 1 < stage
 late-unless shape stage kind e never = elim (cases_lt stage (shape.members + 2)) [
   | inl lt ↦ absurd (never (early-kind shape stage kind e lt))
   | inr le ↦ omega arith
@@ -147,7 +171,8 @@ pad-late shape stage e = late-unless shape stage Pad e never
     never (OfTurn k is) = cc
 
 -- and so are the submissions of shuffle B
-pub submit-late : (shape : Shape) (stage shuffle : ℕ) → kind_of_stage shape stage ≡ Some (Submit shuffle) → (shuffle == 1) ≡ false → shape.members + 1 < stage
+pub submit-late : (shape : Shape) (stage shuffle : ℕ) → kind_of_stage shape stage ≡ Some (Submit shuffle) → (shuffle == 1) ≡ false
+    → shape.members + 1 < stage
 submit-late shape stage shuffle e other = late-unless shape stage (Submit shuffle) e never
   where
     never : IsEarly (Submit shuffle) → ⊥

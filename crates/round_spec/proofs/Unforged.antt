@@ -34,7 +34,8 @@ record IsKeysOf (configs : List Configuration) (bytes : List ℕ) (post : Post) 
   pub listed : Contains configs config
   pub is : post ≡ keys_post config
 
-given-keys : (configs : List Configuration) (bytes : List ℕ) (post : Post) → All IsConfiguration configs → Contains (map (λ c. post_spelling (keys_post c)) configs) bytes
+given-keys : (configs : List Configuration) (bytes : List ℕ) (post : Post) → All IsConfiguration configs
+    → Contains (map (λ c. post_spelling (keys_post c)) configs) bytes
     → frame_of bytes ≡ Ok post → IsKeysOf configs bytes post
 given-keys configs bytes post all given spelled =
     let found = contains-map (λ (c : Configuration). post_spelling (keys_post c)) configs bytes given in
@@ -42,7 +43,8 @@ given-keys configs bytes post all given spelled =
     record {
       config = found.0;
       listed = found.1;
-      is = post-same post (keys_post found.0) (frame_of bytes) spelled (sym (ap frame_of found.2) ∙ framed-again (keys_post found.0) (keys-admitted found.0 is).frame);
+      is = post-same post (keys_post found.0) (frame_of bytes) spelled
+          (sym (ap frame_of found.2) ∙ framed-again (keys_post found.0) (keys-admitted found.0 is).frame);
     }
 
 range-first : (n : ℕ) → Contains (range_with_len 0 (suc n)) 0
@@ -54,19 +56,24 @@ unfolding sent
 keys-sent c is =
     let stages : stage_count (shape_in c) ≡ suc (2 * length c.roster.keys + 9) = omega arith in
     contains-map-from (λ (post : Post). post.content) (posts_said (keys_run c)) (keys_post c)
-    (contains-filter_map-from (λ stage. kept_in (keys_run c).log (own_slot (keys_run c) stage)) (range_with_len 0 (stage_count (shape_in c))) 0 (keys_post c)
+    (contains-filter_map-from (λ stage. kept_in (keys_run c).log (own_slot (keys_run c) stage))
+    (range_with_len 0 (stage_count (shape_in c))) 0 (keys_post c)
     (subst (λ (n : ℕ). Contains (range_with_len 0 n) 0) (sym stages) (range-first (2 * length c.roster.keys + 9))) (keys-there c is))
 
-keys-listed : (configs : List Configuration) (c : Configuration) (number : ℕ) → IsConfiguration c → Contains configs c → c.number ≡ number → Sent (map keys_run configs) number (keys_post c).content
+keys-listed : (configs : List Configuration) (c : Configuration) (number : ℕ) → IsConfiguration c → Contains configs c → c.number ≡ number
+    → Sent (map keys_run configs) number (keys_post c).content
 unfolding contents_sent
 keys-listed configs c number is listed same =
     contains-flat-from sent (runs_of (map keys_run configs) number) (keys_run c) (keys_post c).content
-    (contains-filter-from (λ (run : Run). run.config.number == number) (map keys_run configs) (keys_run c) (contains-map-from keys_run configs c listed) (eq-eqb c.number number same))
+    (contains-filter-from (λ (run : Run). run.config.number == number) (map keys_run configs) (keys_run c)
+    (contains-map-from keys_run configs c listed) (eq-eqb c.number number same))
     (keys-sent c is)
 
 -- keys close nothing
-not-closing : (roster : Roster) (stage : ℕ) → stage ≡ 0 → IsSome (option_and_then vote_of (kind_of_stage (shape_of_roster roster) stage)) → ⊥
-not-closing roster stage first closing = nothing_closes (subst (λ (s : ℕ). IsSome (option_and_then vote_of (kind_of_stage (shape_of_roster roster) s))) first closing)
+not-closing : (roster : Roster) (stage : ℕ) → stage ≡ 0 → IsSome (option_and_then vote_of (kind_of_stage (shape_of_roster roster) stage))
+    → ⊥
+not-closing roster stage first closing = nothing_closes (subst (λ (s : ℕ). IsSome
+    (option_and_then vote_of (kind_of_stage (shape_of_roster roster) s))) first closing)
   where
     nothing_closes : IsSome (option_and_then vote_of (kind_of_stage (shape_of_roster roster) 0)) → ⊥
     nothing_closes closes = cc
@@ -76,12 +83,15 @@ keys_are_not_forged roster configs all one bytes post header (inl given) spelled
     let keys = given-keys configs bytes post all given spelled in
     let is = All-contains IsConfiguration configs keys.config all keys.listed in
     let own = (keys-admitted keys.config is).reads in
-    let headers = header-same header (own_header keys.config [] 0) (header_of post.content) admitted.reads (ap (λ (p : Post). header_of p.content) keys.is ∙ own) in
+    let headers = header-same header (own_header keys.config [] 0) (header_of post.content) admitted.reads
+    (ap (λ (p : Post). header_of p.content) keys.is ∙ own) in
     subst (λ (p : Post). Sent (map keys_run configs) header.sender p.content) (sym keys.is)
     (keys-listed configs keys.config header.sender is keys.listed (sym (ap (λ (h : Header). h.sender) headers)))
 keys_are_not_forged roster configs all one bytes post header (inr (outer, given, embedded)) spelled admitted numbered =
     let keys = given-keys configs outer embedded.post all given embedded.spelled in
     let is = All-contains IsConfiguration configs keys.config all keys.listed in
     let own = (keys-admitted keys.config is).reads in
-    let headers = header-same embedded.content.header (own_header keys.config [] 0) (header_of embedded.post.content) (content-header (shape_of_roster roster) embedded.post.content embedded.content embedded.reads) (ap (λ (p : Post). header_of p.content) keys.is ∙ own) in
+    let headers = header-same embedded.content.header (own_header keys.config [] 0) (header_of embedded.post.content)
+    (content-header (shape_of_roster roster) embedded.post.content embedded.content embedded.reads)
+    (ap (λ (p : Post). header_of p.content) keys.is ∙ own) in
     absurd (not-closing roster embedded.content.header.stage (ap (λ (h : Header). h.stage) headers) embedded.closing)

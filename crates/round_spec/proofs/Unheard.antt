@@ -33,15 +33,18 @@ pub names-self : (header : Header) → names_slot (slot_named header) header ≡
 names-self header = rw (eq-eqb header.stage header.stage refl, eq-eqb header.sender header.sender refl) refl
 
 -- the post file of a slot of another member gives it a post
-pub gives-post : (c : Configuration) (slot : Slot) (bytes : List ℕ) (post : Post) → slot.sender ≢ c.number → IsPostOf c.roster c.round slot bytes post → post_given c slot bytes ≡ Some post
+pub gives-post : (c : Configuration) (slot : Slot) (bytes : List ℕ) (post : Post) → slot.sender ≢ c.number
+    → IsPostOf c.roster c.round slot bytes post → post_given c slot bytes ≡ Some post
 unfolding post_given heard_of
 gives-post c slot bytes post other is =
     let header : Header = is.content.header in
     let framed : frame_of bytes ≡ Ok post = ap frame_of is.spelled ∙ framed-again post is.admitted.frame in
     let admitted = admit-again c.roster c.round post is.content.header is.admitted in
     let sender : is.content.header.sender ≡ slot.sender = ap (λ (s : Slot). s.sender) is.named in
-    let apart : (is.content.header.sender == c.number) ≡ false = false_from_ne_true (is.content.header.sender == c.number) (λ same. other (sym sender ∙ eqb-true is.content.header.sender c.number same)) in
-    let names : names_slot slot is.content.header ≡ true = subst (λ (s : Slot). names_slot s is.content.header ≡ true) is.named (names-self is.content.header) in
+    let apart : (is.content.header.sender == c.number) ≡ false = false_from_ne_true (is.content.header.sender == c.number)
+    (λ same. other (sym sender ∙ eqb-true is.content.header.sender c.number same)) in
+    let names : names_slot slot is.content.header ≡ true = subst (λ (s : Slot). names_slot s is.content.header ≡ true) is.named
+    (names-self is.content.header) in
     rw (framed, admitted, apart, names, is.reads) refl
 
 pub none-of : {A B : Type 0} (f : A → Option B) (xs : List A) (x : A) → first_some (map f xs) ≡ None → Contains xs x → f x ≡ None
@@ -56,16 +59,20 @@ none-of {A} {B} f (y ∷ ys) x e there =
 pub missing_are_unheard : MissingAreUnheard
 unfolding first_posts
 missing_are_unheard c delivered slot all other = (
-  λ e bytes post listed is. none-some post (sym (none-of (post_given c slot) delivered bytes e listed) ∙ gives-post c slot bytes post other is),
+  λ e bytes post listed is. none-some post (sym (none-of (post_given c slot) delivered bytes e listed)
+      ∙ gives-post c slot bytes post other is),
   λ unheard. by_first (first_posts c delivered slot) refl unheard,
 )
   where
-    by_first : (o : Option Post) → first_posts c delivered slot ≡ o → ((bytes : List ℕ) (post : Post) → Contains delivered bytes → IsPostOf c.roster c.round slot bytes post → ⊥) → first_posts c delivered slot ≡ None
+    by_first : (o : Option Post) → first_posts c delivered slot ≡ o
+        → ((bytes : List ℕ) (post : Post) → Contains delivered bytes → IsPostOf c.roster c.round slot bytes post → ⊥)
+        → first_posts c delivered slot ≡ None
     by_first None e unheard = e
     by_first (Some post) e unheard =
         let is = first_posts_delivered c delivered slot post all e in
         let parts = checks-parts c.roster c.round post is.checks.content is.checks.checks in
-        let headers = header-same is.header is.checks.content.header (header_of post.content) is.admitted.reads (content-header (shape_in c) post.content is.checks.content parts.2) in
+        let headers = header-same is.header is.checks.content.header (header_of post.content) is.admitted.reads
+        (content-header (shape_in c) post.content is.checks.content parts.2) in
         absurd (unheard is.bytes post is.listed (record {
           spelled = (framed-found is.bytes post (All-contains IsBytes delivered is.bytes all is.listed) is.spelled).1;
           content = is.checks.content;

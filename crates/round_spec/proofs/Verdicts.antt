@@ -47,12 +47,14 @@ use Rattle.round_spec.proofs.Votes.{not-none, not_unanimous_blames, votes-front}
 -- ---- the first of the members
 
 -- none on any member
-on-none : (v : ClosedStage) (verdict_on : ℕ → Option Verdict) (member : ℕ) → first_on v verdict_on ≡ None → IsMemberOf v member → verdict_on member ≡ None
+on-none : (v : ClosedStage) (verdict_on : ℕ → Option Verdict) (member : ℕ) → first_on v verdict_on ≡ None → IsMemberOf v member
+    → verdict_on member ≡ None
 on-none v verdict_on member none is =
     let least = is.least in
     let most = is.most in
     let same : (member - 1) + 1 ≡ member = omega arith in
-    subst (λ (k : ℕ). verdict_on k ≡ None) same (first_below-each (λ place. verdict_on (place + 1)) (shape_at v).members none (member - 1) (omega arith))
+    subst (λ (k : ℕ). verdict_on k ≡ None) same (first_below-each (λ place. verdict_on (place + 1)) (shape_at v).members none (member - 1)
+    (omega arith))
 
 -- the least member on which there is one
 record IsFirstOn (v : ClosedStage) (verdict_on : ℕ → Option Verdict) (verdict : Verdict) : Type 0 where
@@ -61,7 +63,8 @@ record IsFirstOn (v : ClosedStage) (verdict_on : ℕ → Option Verdict) (verdic
   pub here : verdict_on member ≡ Some verdict
   pub earlier : (other : ℕ) → IsMemberOf v other → other < member → verdict_on other ≡ None
 
-on-some : (v : ClosedStage) (verdict_on : ℕ → Option Verdict) (verdict : Verdict) → first_on v verdict_on ≡ Some verdict → IsFirstOn v verdict_on verdict
+on-some : (v : ClosedStage) (verdict_on : ℕ → Option Verdict) (verdict : Verdict) → first_on v verdict_on ≡ Some verdict
+    → IsFirstOn v verdict_on verdict
 on-some v verdict_on verdict some =
     let found = first_below-found (λ place. verdict_on (place + 1)) (shape_at v).members verdict some in
     let within = found.1 in record {
@@ -90,16 +93,19 @@ unless-some false x y e = (refl, sym (some-is x y e))
 
 -- ---- justified contents
 
-read-justified : (v : ClosedStage) (r : Result Content Offence) → is_read_justified v r ≡ true → (content : Content) × (r ≡ Ok content) × (is_content_justified v.roster v.round content ≡ true)
+read-justified : (v : ClosedStage) (r : Result Content Offence) → is_read_justified v r ≡ true → (content : Content) × (r ≡ Ok content)
+    × (is_content_justified v.roster v.round content ≡ true)
 read-justified v (Ok content) e = (content, refl, e)
 read-justified v (Err offence) e = absurd cc
 
-justify-parts : (shape : Shape) (content : Content) (r : Result (List Post) BadPost) → is_justified_by shape content r ≡ true → (posts : List Post) × (r ≡ Ok posts) × (is_justified shape content (contents_of posts) ≡ true)
+justify-parts : (shape : Shape) (content : Content) (r : Result (List Post) BadPost) → is_justified_by shape content r ≡ true
+    → (posts : List Post) × (r ≡ Ok posts) × (is_justified shape content (contents_of posts) ≡ true)
 justify-parts shape content (Ok posts) e = (posts, refl, e)
 justify-parts shape content (Err bad) e = absurd cc
 
 justified-parts : (v : ClosedStage) (content : Content) → is_content_justified v.roster v.round content ≡ true
-    → (posts : List Post) × (posts_in_content v.roster v.round content ≡ Ok posts) × (is_justified (shape_at v) content (contents_of posts) ≡ true)
+    → (posts : List Post) × (posts_in_content v.roster v.round content ≡ Ok posts)
+    × (is_justified (shape_at v) content (contents_of posts) ≡ true)
 unfolding is_content_justified
 justified-parts v content e = justify-parts (shape_at v) content (posts_in_content v.roster v.round content) e
 
@@ -121,11 +127,15 @@ closing-kind shape stage closing = by_kind (kind_of_stage shape stage) refl
     by_kind (Some AtConfirm) e = record { kind = AtConfirm; vote = AtCheck; is = e; closes = refl; all_vote = refl }
     by_kind None e = absurd (let none = sym (ap (λ (o : Option StageKind). is_some (option_and_then vote_of o)) e) ∙ closing in cc)
     by_kind (Some AtKeys) e = absurd (let none = sym (ap (λ (o : Option StageKind). is_some (option_and_then vote_of o)) e) ∙ closing in cc)
-    by_kind (Some (AtSubmit shuffle)) e = absurd (let none = sym (ap (λ (o : Option StageKind). is_some (option_and_then vote_of o)) e) ∙ closing in cc)
-    by_kind (Some (AtShuffle shuffle k)) e = absurd (let none = sym (ap (λ (o : Option StageKind). is_some (option_and_then vote_of o)) e) ∙ closing in cc)
-    by_kind (Some (AtGo shuffle)) e = absurd (let none = sym (ap (λ (o : Option StageKind). is_some (option_and_then vote_of o)) e) ∙ closing in cc)
+    by_kind (Some (AtSubmit shuffle)) e = absurd (let none = sym (ap (λ (o : Option StageKind). is_some (option_and_then vote_of o)) e)
+        ∙ closing in cc)
+    by_kind (Some (AtShuffle shuffle k)) e = absurd (let none = sym (ap (λ (o : Option StageKind). is_some (option_and_then vote_of o)) e)
+        ∙ closing in cc)
+    by_kind (Some (AtGo shuffle)) e = absurd (let none = sym (ap (λ (o : Option StageKind). is_some (option_and_then vote_of o)) e)
+        ∙ closing in cc)
     by_kind (Some AtPad) e = absurd (let none = sym (ap (λ (o : Option StageKind). is_some (option_and_then vote_of o)) e) ∙ closing in cc)
-    by_kind (Some AtCheck) e = absurd (let none = sym (ap (λ (o : Option StageKind). is_some (option_and_then vote_of o)) e) ∙ closing in cc)
+    by_kind (Some AtCheck) e = absurd (let none = sym (ap (λ (o : Option StageKind). is_some (option_and_then vote_of o)) e)
+        ∙ closing in cc)
 
 -- one that assents embeds a post of each member, and else it dissents and embeds one of each slot before
 abbrev IsOfKind : Shape → ℕ → Body → Type 0
@@ -141,7 +151,8 @@ body-kind shape stage AtConfirm (Differ posts) is = inr (refl, refl, is)
 body-kind shape stage _ _ is = absurd is
 
 -- as many posts as slots
-slots-count : (shape : Shape) (content : Content) → IsClosingKind shape content.header.stage → IsOfKind shape content.header.stage content.body
+slots-count : (shape : Shape) (content : Content) → IsClosingKind shape content.header.stage
+    → IsOfKind shape content.header.stage content.body
     → length (posts_embedded content.body) ≡ length (slots_embedded shape content)
 slots-count shape content is (inl assents) =
     let stage : ℕ = content.header.stage in
@@ -153,13 +164,16 @@ slots-count shape content is (inl assents) =
     let within : b - a ≤ length (drop a (slots_of shape)) = omega (arith, length-drop a (slots_of shape), length-slots_of shape) in
     let long : length (slice_range (slots_of shape) a b) ≡ b - a = length-take-le (b - a) (drop a (slots_of shape)) within in
     let few : b - a ≡ shape.members = omega (arith, next) in
-    assents.1 ∙ sym few ∙ sym long ∙ sym (ap length (cond-true (is_assent content.body) (slice_range (slots_of shape) a b) (take (slots_before shape stage) (slots_of shape)) assents.0))
+    assents.1 ∙ sym few ∙ sym long ∙ sym (ap length (cond-true (is_assent content.body) (slice_range (slots_of shape) a b)
+    (take (slots_before shape stage) (slots_of shape)) assents.0))
 slots-count shape content is (inr dissents) =
     let stage : ℕ = content.header.stage in
     let n : ℕ = slots_before shape stage in
     let most = slots_before-most shape stage in
     let long : length (take n (slots_of shape)) ≡ n = length-take-le n (slots_of shape) (omega (arith, length-slots_of shape)) in
-    dissents.2 ∙ sym long ∙ sym (ap length (cond-false (is_assent content.body) (slice_range (slots_of shape) (slots_before shape (stage - 1)) (slots_before shape (stage - 1 + 1))) (take n (slots_of shape)) dissents.0))
+    dissents.2 ∙ sym long ∙ sym (ap length (cond-false (is_assent content.body)
+    (slice_range (slots_of shape) (slots_before shape (stage - 1)) (slots_before shape (stage - 1 + 1))) (take n (slots_of shape))
+    dissents.0))
 
 -- ---- no bad log and no equivocation
 
@@ -167,11 +181,13 @@ bad-none : (v : ClosedStage) → bad_log v ≡ None → AllJustified v
 unfolding bad_log
 bad-none v none member is = unless-none (is_read_justified v (closing_content v member)) _ (on-none v (bad_log_of v) member none is)
 
-second-none : (v : ClosedStage) (member : ℕ) (content : Content) → equivocation v ≡ None → IsMemberOf v member → closing_content v member ≡ Ok content
+second-none : (v : ClosedStage) (member : ℕ) (content : Content) → equivocation v ≡ None → IsMemberOf v member
+    → closing_content v member ≡ Ok content
     → first_some (map (second_content v) (embedded_pairs v.roster content)) ≡ None
 unfolding equivocation
 second-none v member content none is reads =
-    sym (ap (λ (r : Result Content Offence). first_some (map (second_content v) (pairs_read v r))) reads) ∙ on-none v (equivocation_in v) member none is
+    sym (ap (λ (r : Result Content Offence). first_some (map (second_content v) (pairs_read v r))) reads)
+    ∙ on-none v (equivocation_in v) member none is
 
 -- so each member said what it ought to
 pub faithful : (v : ClosedStage) → IsWhole v → bad_log v ≡ None → equivocation v ≡ None → AreFaithful v
@@ -180,22 +196,26 @@ faithful v whole no_bad no_second member is =
     let content : Content = found.0 in
     faithful_by content found.1 found.2
   where
-    faithful_by : (content : Content) → closing_content v member ≡ Ok content → is_content_justified v.roster v.round content ≡ true → IsFaithful v member
+    faithful_by : (content : Content) → closing_content v member ≡ Ok content → is_content_justified v.roster v.round content ≡ true
+        → IsFaithful v member
     faithful_by content reads justified =
         let stage_is : content.header.stage ≡ v.stage = whole.named member content is reads in
         let kind : IsClosingKind (shape_at v) v.stage = closing-kind (shape_at v) v.stage whole.closing in
         let kind' : IsClosingKind (shape_at v) content.header.stage = subst (IsClosingKind (shape_at v)) (sym stage_is) kind in
         let body : IsOfKind (shape_at v) content.header.stage content.body =
-        body-kind (shape_at v) content.header.stage kind'.kind content.body (closings_are_read (shape_at v) (post_in v v.stage member).content content kind'.kind kind'.vote reads kind'.is kind'.closes) in
+        body-kind (shape_at v) content.header.stage kind'.kind content.body
+        (closings_are_read (shape_at v) (post_in v v.stage member).content content kind'.kind kind'.vote reads kind'.is kind'.closes) in
         let least = (closing-follows (shape_at v) content.header.stage kind'.kind kind'.vote kind'.is kind'.closes).0 in
         let rises = slots_before-rises (shape_at v) v.stage (v.stage + 1) (omega arith) in
-        let long : slots_before (shape_at v) content.header.stage ≤ length v.posts = subst (λ (s : ℕ). slots_before (shape_at v) s ≤ length v.posts) (sym stage_is) (omega (arith, whole.posts)) in
+        let long : slots_before (shape_at v) content.header.stage ≤ length v.posts = subst
+        (λ (s : ℕ). slots_before (shape_at v) s ≤ length v.posts) (sym stage_is) (omega (arith, whole.posts)) in
         let parts = justified-parts v content justified in
         let contents : contents_of parts.0 ≡ embedded_of (shape_at v) content (past_at v) =
         embedded-contents v 0 (embedded_pairs v.roster content) parts.0 parts.1 (second-none v member content no_second is reads)
         ∙ kept-pairs v content (slots-count (shape_at v) content kind' body)
         ∙ kept-embedded v content least long in
-        let closing : IsSome (option_and_then vote_of (kind_of_stage (shape_at v) content.header.stage)) = subst (λ (s : ℕ). IsSome (option_and_then vote_of (kind_of_stage (shape_at v) s))) (sym stage_is) whole.closing in
+        let closing : IsSome (option_and_then vote_of (kind_of_stage (shape_at v) content.header.stage)) = subst
+        (λ (s : ℕ). IsSome (option_and_then vote_of (kind_of_stage (shape_at v) s))) (sym stage_is) whole.closing in
         let assents : is_assent content.body ≡ agree_before v =
         one-kind (shape_at v) (past_at v) content closing (sym (ap (is_justified (shape_at v) content) contents) ∙ parts.2)
         ∙ ap (votes_agree (shape_at v) (past_at v)) stage_is in
@@ -219,41 +239,49 @@ faithful v whole no_bad no_second member is =
 closing-body : (v : ClosedStage) (member : ℕ) → closing_body v member ≡ body_of (closing_content v member)
 unfolding said_in
 closing-body v member =
-    ap (λ (bytes : List ℕ). body_of (content_read (shape_at v) bytes)) (get_or-map (λ (post : Post). post.content) v.posts (slot_number (shape_at v) v.stage member) no_post)
+    ap (λ (bytes : List ℕ). body_of (content_read (shape_at v) bytes))
+    (get_or-map (λ (post : Post). post.content) v.posts (slot_number (shape_at v) v.stage member) no_post)
 
 faithful-body : (v : ClosedStage) (member : ℕ) (is : IsFaithful v member) → closing_body v member ≡ is.content.body
 faithful-body v member is = closing-body v member ∙ ap body_of is.reads
 
 range-all : (p : ℕ → Bool) (a n : ℕ) → ((k : ℕ) → a ≤ k → k < a + n → p k ≡ true) → list_all p (range_with_len a n) ≡ true
 range-all p a zero each = refl
-range-all p a (suc n) each = and_from (p a) (list_all p (range_with_len (a + 1) n)) (each a (omega arith) (omega arith)) (range-all p (a + 1) n (λ k le lt. each k (omega arith) (omega arith)))
+range-all p a (suc n) each = and_from (p a) (list_all p (range_with_len (a + 1) n)) (each a (omega arith) (omega arith))
+    (range-all p (a + 1) n (λ k le lt. each k (omega arith) (omega arith)))
 
 range-not : (p : ℕ → Bool) (a n : ℕ) → 1 ≤ n → p a ≡ false → list_all p (range_with_len a n) ≡ false
 range-not p a zero le e = absurd (omega arith)
 range-not p a (suc n) le e = and_left (p a) (list_all p (range_with_len (a + 1) n)) e
 
-all-say : (v : ClosedStage) (is_one : Body → Bool) → ((member : ℕ) → IsMemberOf v member → is_one (closing_body v member) ≡ true) → all_say v is_one ≡ true
+all-say : (v : ClosedStage) (is_one : Body → Bool) → ((member : ℕ) → IsMemberOf v member → is_one (closing_body v member) ≡ true)
+    → all_say v is_one ≡ true
 all-say v is_one each =
     list_all-map (λ body. is_one body) (closing_body v) (range_with_len 1 (shape_at v).members)
-    ∙ range-all (λ member. is_one (closing_body v member)) 1 (shape_at v).members (λ k le lt. each k (record { least = le; most = omega arith }))
+    ∙ range-all (λ member. is_one (closing_body v member)) 1 (shape_at v).members
+    (λ k le lt. each k (record { least = le; most = omega arith }))
 
-not-all-say : (v : ClosedStage) (is_one : Body → Bool) → 1 ≤ (shape_at v).members → is_one (closing_body v 1) ≡ false → all_say v is_one ≡ false
+not-all-say : (v : ClosedStage) (is_one : Body → Bool) → 1 ≤ (shape_at v).members → is_one (closing_body v 1) ≡ false
+    → all_say v is_one ≡ false
 not-all-say v is_one le e =
     list_all-map (λ body. is_one body) (closing_body v) (range_with_len 1 (shape_at v).members)
     ∙ range-not (λ member. is_one (closing_body v member)) 1 (shape_at v).members le e
 
 -- where the votes are unanimous, all agree, and else all dissent
-concluded-agreed : (v : ClosedStage) → AreFaithful v → agree_before v ≡ true → concluded_at v ≡ agreed_at v (kind_of_stage (shape_at v) v.stage)
+concluded-agreed : (v : ClosedStage) → AreFaithful v → agree_before v ≡ true
+    → concluded_at v ≡ agreed_at v (kind_of_stage (shape_at v) v.stage)
 unfolding concluded_at
 concluded-agreed v all agree =
     cond-true (all_say v is_assent) (agreed_at v (kind_of_stage (shape_at v) v.stage)) _
     (all-say v is_assent (λ member is. ap is_assent (faithful-body v member (all member is)) ∙ (all member is).assents ∙ agree))
 
-concluded-dissented : (v : ClosedStage) → 1 ≤ (shape_at v).members → AreFaithful v → agree_before v ≡ false → concluded_at v ≡ dissented_at v
+concluded-dissented : (v : ClosedStage) → 1 ≤ (shape_at v).members → AreFaithful v → agree_before v ≡ false
+    → concluded_at v ≡ dissented_at v
 unfolding concluded_at
 concluded-dissented v least all differ =
     let first : IsMemberOf v 1 = record { least = omega arith; most = least } in
-    cond-false (all_say v is_assent) (agreed_at v (kind_of_stage (shape_at v) v.stage)) (if all_say v is_dissent then dissented_at v else Goes)
+    cond-false (all_say v is_assent) (agreed_at v (kind_of_stage (shape_at v) v.stage))
+    (if all_say v is_dissent then dissented_at v else Goes)
     (not-all-say v is_assent least (ap is_assent (faithful-body v 1 (all 1 first)) ∙ (all 1 first).assents ∙ differ))
     ∙ cond-true (all_say v is_dissent) (dissented_at v) Goes
     (all-say v is_dissent (λ member is. ap is_dissent (faithful-body v member (all member is)) ∙ (all member is).dissents differ))
@@ -261,7 +289,8 @@ concluded-dissented v least all differ =
 -- ---- the cases
 
 -- what gives the first answer of a list is in it
-first-in : {A : Type 0} (f : A → Option Verdict) (xs : List A) (x : Verdict) → first_some (map f xs) ≡ Some x → (y : A) × Contains xs y × (f y ≡ Some x)
+first-in : {A : Type 0} (f : A → Option Verdict) (xs : List A) (x : Verdict) → first_some (map f xs) ≡ Some x → (y : A) × Contains xs y
+    × (f y ≡ Some x)
 first-in f [] x e = absurd (none-some x e)
 first-in f (y ∷ ys) x e = elim (first_some-some_parts (f y) (map f ys) x e) [
   | inl here ↦ (y, (0, omega arith, refl), here)
@@ -272,9 +301,11 @@ first-in f (y ∷ ys) x e = elim (first_some-some_parts (f y) (map f ys) x e) [
 ]
 
 -- the verdict of a closing stage: a bad log, else an equivocation, else what its contents come to
-verdict-is : (v : ClosedStage) → is_closing (shape_at v) v.stage ≡ true → verdict_of v ≡ unwrap_or (first_some (bad_log v ∷ equivocation v ∷ [])) (concluded_at v)
+verdict-is : (v : ClosedStage) → is_closing (shape_at v) v.stage ≡ true
+    → verdict_of v ≡ unwrap_or (first_some (bad_log v ∷ equivocation v ∷ [])) (concluded_at v)
 unfolding verdict_of
-verdict-is v closing = cond-true (is_closing (shape_at v) v.stage) (unwrap_or (first_some (bad_log v ∷ equivocation v ∷ [])) (concluded_at v)) Goes closing
+verdict-is v closing = cond-true (is_closing (shape_at v) v.stage)
+    (unwrap_or (first_some (bad_log v ∷ equivocation v ∷ [])) (concluded_at v)) Goes closing
 
 case-bad_log : (v : ClosedStage) (x verdict : Verdict) → bad_log v ≡ Some x → verdict ≡ x → IsBadLog v verdict
 unfolding bad_log
@@ -289,13 +320,15 @@ case-bad_log v x verdict some is =
       verdict_is = is ∙ here.1;
     }
 
-case-equivocation : (v : ClosedStage) (x verdict : Verdict) → bad_log v ≡ None → equivocation v ≡ Some x → verdict ≡ x → IsEquivocation v verdict
+case-equivocation : (v : ClosedStage) (x verdict : Verdict) → bad_log v ≡ None → equivocation v ≡ Some x → verdict ≡ x
+    → IsEquivocation v verdict
 unfolding equivocation
 case-equivocation v x verdict none some is =
     let found = on-some v (equivocation_in v) x some in
     let read = read-justified v (closing_content v found.member) (bad-none v none found.member found.is_member) in
     let pairs_are : pairs_read v (closing_content v found.member) ≡ embedded_pairs v.roster read.0 = ap (pairs_read v) read.1 in
-    let first = first-in (second_content v) (embedded_pairs v.roster read.0) x (sym (ap (λ (pairs : List (Slot × List ℕ)). first_some (map (second_content v) pairs)) pairs_are) ∙ found.here) in
+    let first = first-in (second_content v) (embedded_pairs v.roster read.0) x
+    (sym (ap (λ (pairs : List (Slot × List ℕ)). first_some (map (second_content v) pairs)) pairs_are) ∙ found.here) in
     let pair : Slot × List ℕ = first.0 in
     let kept : List ℕ = (post_in v pair.0.stage pair.0.sender).content in
     let here = unless-some (bytes_eq (content_of_post (frame_of pair.1)) kept) _ x first.2 in
@@ -308,11 +341,13 @@ case-equivocation v x verdict none some is =
       earlier = found.earlier;
       pair = pair;
       embedded = first.1;
-      other_content = λ same. (let equal = (bytes_eq-Decides (content_of_post (frame_of pair.1)) kept).1 same in let not_equal = here.0 in cc);
+      other_content = λ same. (let equal = (bytes_eq-Decides (content_of_post (frame_of pair.1)) kept).1 same in let not_equal = here.0 in
+          cc);
       verdict_is = is ∙ here.1;
     }
 
-case-wrong_seed : (v : ClosedStage) (shuffle : ℕ) (x verdict : Verdict) → AreFaithful v → agree_before v ≡ true → kind_of_stage (shape_at v) v.stage ≡ Some (AtFinal shuffle)
+case-wrong_seed : (v : ClosedStage) (shuffle : ℕ) (x verdict : Verdict) → AreFaithful v → agree_before v ≡ true
+    → kind_of_stage (shape_at v) v.stage ≡ Some (AtFinal shuffle)
     → wrong_seed v shuffle ≡ Some x → verdict ≡ x → IsWrongSeed v verdict
 unfolding wrong_seed
 case-wrong_seed v shuffle x verdict all agree kind some is =
@@ -330,7 +365,8 @@ case-wrong_seed v shuffle x verdict all agree kind some is =
       verdict_is = is ∙ here.1;
     }
 
-seed-none : (v : ClosedStage) (shuffle member : ℕ) → wrong_seed v shuffle ≡ None → IsMemberOf v member → is_inner_seed v shuffle member ≡ true
+seed-none : (v : ClosedStage) (shuffle member : ℕ) → wrong_seed v shuffle ≡ None → IsMemberOf v member
+    → is_inner_seed v shuffle member ≡ true
 unfolding wrong_seed
 seed-none v shuffle member none is = unless-none (is_inner_seed v shuffle member) _ (on-none v (wrong_seed_of v shuffle) member none is)
 
@@ -341,7 +377,8 @@ final-number : (a b : ℕ) → AtFinal a ≡ AtFinal b → a ≡ b
 final-number a b e = cc
 
 -- all agree at the end of a shuffle where no seed is wrong
-agree-final : (v : ClosedStage) (shuffle : ℕ) → AreFaithful v → agree_before v ≡ true → kind_of_stage (shape_at v) v.stage ≡ Some (AtFinal shuffle) → wrong_seed v shuffle ≡ None → AllAgree v
+agree-final : (v : ClosedStage) (shuffle : ℕ) → AreFaithful v → agree_before v ≡ true
+    → kind_of_stage (shape_at v) v.stage ≡ Some (AtFinal shuffle) → wrong_seed v shuffle ≡ None → AllAgree v
 agree-final v shuffle all agree kind none = record {
   faithful = all;
   votes = agree;
@@ -359,12 +396,14 @@ agree-confirm v all agree kind = record {
 
 -- an item that gives a verdict is an accusation that holds
 pad-parts : (v : ClosedStage) (item : Option (List ℕ)) (x : Verdict) → bad_pad_by v item ≡ Some x
-    → (bytes : List ℕ) × (a : Accusation) × (item ≡ Some bytes) × (accusation_of bytes ≡ Some a) × (is_held (shape_at v) (past_at v) a ≡ true) × (x ≡ bad_pad v a)
+    → (bytes : List ℕ) × (a : Accusation) × (item ≡ Some bytes) × (accusation_of bytes ≡ Some a)
+    × (is_held (shape_at v) (past_at v) a ≡ true) × (x ≡ bad_pad v a)
 pad-parts v None x e = absurd (none-some x e)
 pad-parts v (Some bytes) x e = by_accusation (accusation_of bytes) refl e
   where
     by_accusation : (o : Option Accusation) → accusation_of bytes ≡ o → option_and_then (bad_pad_if v) o ≡ Some x
-        → (bytes' : List ℕ) × (a : Accusation) × (Some bytes ≡ Some bytes') × (accusation_of bytes' ≡ Some a) × (is_held (shape_at v) (past_at v) a ≡ true) × (x ≡ bad_pad v a)
+        → (bytes' : List ℕ) × (a : Accusation) × (Some bytes ≡ Some bytes') × (accusation_of bytes' ≡ Some a)
+        × (is_held (shape_at v) (past_at v) a ≡ true) × (x ≡ bad_pad v a)
     by_accusation None is e = absurd (none-some x e)
     by_accusation (Some a) is e =
         let held = held_parts (is_held (shape_at v) (past_at v) a) (bad_pad v a) e in
@@ -374,7 +413,8 @@ pad-parts v (Some bytes) x e = by_accusation (accusation_of bytes) refl e
         held_parts true y e = (refl, sym (some-is y x e))
         held_parts false y e = absurd (none-some x e)
 
-case-bad_pad : (v : ClosedStage) (shuffle : ℕ) (x verdict : Verdict) → AllAgree v → kind_of_stage (shape_at v) v.stage ≡ Some (AtFinal shuffle) → shuffle ≢ 1
+case-bad_pad : (v : ClosedStage) (shuffle : ℕ) (x verdict : Verdict) → AllAgree v
+    → kind_of_stage (shape_at v) v.stage ≡ Some (AtFinal shuffle) → shuffle ≢ 1
     → first_bad_pad v ≡ Some x → verdict ≡ x → IsBadPad v verdict
 unfolding first_bad_pad
 case-bad_pad v shuffle x verdict agree kind second some is =
@@ -393,7 +433,8 @@ case-bad_pad v shuffle x verdict agree kind second some is =
       verdict_is = is ∙ parts.5;
     }
 
-case-final : (v : ClosedStage) (shuffle : ℕ) (verdict : Verdict) → AreFaithful v → agree_before v ≡ true → kind_of_stage (shape_at v) v.stage ≡ Some (AtFinal shuffle)
+case-final : (v : ClosedStage) (shuffle : ℕ) (verdict : Verdict) → AreFaithful v → agree_before v ≡ true
+    → kind_of_stage (shape_at v) v.stage ≡ Some (AtFinal shuffle)
     → verdict ≡ agreed_at v (Some (AtFinal shuffle)) → Case v verdict
 case-final v shuffle verdict all agree kind is = by_seed (wrong_seed v shuffle) refl
   where
@@ -401,20 +442,27 @@ case-final v shuffle verdict all agree kind is = by_seed (wrong_seed v shuffle) 
     none_wrong = if shuffle == 1 then Goes else unwrap_or (first_bad_pad v) Done
 
     by_seed : (o : Option Verdict) → wrong_seed v shuffle ≡ o → Case v verdict
-    by_seed (Some x) e = ByWrongSeed (case-wrong_seed v shuffle x verdict all agree kind e (is ∙ ap (λ (o : Option Verdict). unwrap_or o (if shuffle == 1 then Goes else unwrap_or (first_bad_pad v) Done)) e))
+    by_seed (Some x) e = ByWrongSeed (case-wrong_seed v shuffle x verdict all agree kind e
+        (is ∙ ap (λ (o : Option Verdict). unwrap_or o (if shuffle == 1 then Goes else unwrap_or (first_bad_pad v) Done)) e))
     by_seed None e =
         let agrees = agree-final v shuffle all agree kind e in
-        let is_so : verdict ≡ (if shuffle == 1 then Goes else unwrap_or (first_bad_pad v) Done) = is ∙ ap (λ (o : Option Verdict). unwrap_or o (if shuffle == 1 then Goes else unwrap_or (first_bad_pad v) Done)) e in
+        let is_so : verdict ≡ (if shuffle == 1 then Goes else unwrap_or (first_bad_pad v) Done) = is
+        ∙ ap (λ (o : Option Verdict). unwrap_or o (if shuffle == 1 then Goes else unwrap_or (first_bad_pad v) Done)) e in
         elim (cases_Bool (shuffle == 1)) [
-          | inl first ↦ GoesOn agrees (inl (kind ∙ ap (λ (s : ℕ). Some (AtFinal s)) (eqb-true shuffle 1 first))) (is_so ∙ cond-true (shuffle == 1) Goes (unwrap_or (first_bad_pad v) Done) first)
-          | inr second ↦ by_pad agrees (eqb-false shuffle 1 second) (is_so ∙ cond-false (shuffle == 1) Goes (unwrap_or (first_bad_pad v) Done) second) (first_bad_pad v) refl
+          | inl first ↦ GoesOn agrees (inl (kind ∙ ap (λ (s : ℕ). Some (AtFinal s)) (eqb-true shuffle 1 first)))
+              (is_so ∙ cond-true (shuffle == 1) Goes (unwrap_or (first_bad_pad v) Done) first)
+          | inr second ↦ by_pad agrees (eqb-false shuffle 1 second)
+              (is_so ∙ cond-false (shuffle == 1) Goes (unwrap_or (first_bad_pad v) Done) second) (first_bad_pad v) refl
         ]
       where
-        by_pad : AllAgree v → shuffle ≢ 1 → verdict ≡ unwrap_or (first_bad_pad v) Done → (o : Option Verdict) → first_bad_pad v ≡ o → Case v verdict
-        by_pad agrees second is (Some x) e = ByBadPad (case-bad_pad v shuffle x verdict agrees kind second e (is ∙ ap (λ (o : Option Verdict). unwrap_or o Done) e))
+        by_pad : AllAgree v → shuffle ≢ 1 → verdict ≡ unwrap_or (first_bad_pad v) Done → (o : Option Verdict) → first_bad_pad v ≡ o
+            → Case v verdict
+        by_pad agrees second is (Some x) e = ByBadPad (case-bad_pad v shuffle x verdict agrees kind second e
+            (is ∙ ap (λ (o : Option Verdict). unwrap_or o Done) e))
         by_pad agrees second is None e = Ends agrees (inl (shuffle, kind, second, e)) (is ∙ ap (λ (o : Option Verdict). unwrap_or o Done) e)
 
-case-confirm : (v : ClosedStage) (verdict : Verdict) → AreFaithful v → agree_before v ≡ true → kind_of_stage (shape_at v) v.stage ≡ Some AtConfirm
+case-confirm : (v : ClosedStage) (verdict : Verdict) → AreFaithful v → agree_before v ≡ true
+    → kind_of_stage (shape_at v) v.stage ≡ Some AtConfirm
     → verdict ≡ agreed_at v (Some AtConfirm) → Case v verdict
 case-confirm v verdict all agree kind is =
     let some_bad : Bool = list_any is_bad (slots_of_past (shape_at v) (past_at v)) in
@@ -423,7 +471,8 @@ case-confirm v verdict all agree kind is =
       | inr good ↦ Ends (agree-confirm v all agree kind) (inr (kind, good)) (is ∙ cond-false some_bad Goes Done good)
     ]
 
-case-agreed : (v : ClosedStage) (verdict : Verdict) → IsWhole v → AreFaithful v → agree_before v ≡ true → verdict ≡ agreed_at v (kind_of_stage (shape_at v) v.stage) → Case v verdict
+case-agreed : (v : ClosedStage) (verdict : Verdict) → IsWhole v → AreFaithful v → agree_before v ≡ true
+    → verdict ≡ agreed_at v (kind_of_stage (shape_at v) v.stage) → Case v verdict
 case-agreed v verdict whole all agree is = by_kind (closing-kind (shape_at v) v.stage whole.closing)
   where
     by_kind : IsClosingKind (shape_at v) v.stage → Case v verdict
@@ -440,7 +489,8 @@ case-agreed v verdict whole all agree is = by_kind (closing-kind (shape_at v) v.
         by_case AtCheck vote kind closes = absurd cc
 
 -- votes that are not unanimous are so in the past that is replayed
-case-dissented : (v : ClosedStage) (verdict : Verdict) → IsWhole v → AreFaithful v → agree_before v ≡ false → verdict ≡ dissented_at v → Case v verdict
+case-dissented : (v : ClosedStage) (verdict : Verdict) → IsWhole v → AreFaithful v → agree_before v ≡ false → verdict ≡ dissented_at v
+    → Case v verdict
 unfolding dissented_at
 case-dissented v verdict whole all differ is = by_culprit (culprit_of (inquiry_into v)) refl
   where
@@ -448,7 +498,8 @@ case-dissented v verdict whole all differ is = by_culprit (culprit_of (inquiry_i
     n = slots_before (shape_at v) v.stage
 
     long : n ≤ length (past_at v)
-    long = let rises = slots_before-rises (shape_at v) v.stage (v.stage + 1) (omega arith) in omega (arith, whole.posts, length-map v.posts (λ (post : Post). post.content))
+    long = let rises = slots_before-rises (shape_at v) v.stage (v.stage + 1) (omega arith) in omega
+        (arith, whole.posts, length-map v.posts (λ (post : Post). post.content))
 
     front : n ≤ length (take n (past_at v))
     front = omega (arith, length-take-le n (past_at v) long)
@@ -461,13 +512,15 @@ case-dissented v verdict whole all differ is = by_culprit (culprit_of (inquiry_i
       culprit = e;
       verdict_is = is ∙ ap (λ (o : Option Fault). unwrap_or (option_map (replay_conviction v) o) Goes) e;
     })
-    by_culprit None e = absurd (not-none (culprit_of (inquiry_into v)) (not_unanimous_blames (inquiry_into v) whole.closing front (votes-front (shape_at v) (past_at v) v.stage whole.closing ∙ differ)) e)
+    by_culprit None e = absurd (not-none (culprit_of (inquiry_into v))
+        (not_unanimous_blames (inquiry_into v) whole.closing front (votes-front (shape_at v) (past_at v) v.stage whole.closing ∙ differ)) e)
 
 pub verdict_cases : VerdictCases
 verdict_cases v whole = by_bad (bad_log v) refl
   where
     from : (o p : Option Verdict) → bad_log v ≡ o → equivocation v ≡ p → verdict_of v ≡ unwrap_or (first_some (o ∷ p ∷ [])) (concluded_at v)
-    from o p e e' = verdict-is v whole.closing ∙ ap (λ (o : Option Verdict). unwrap_or (first_some (o ∷ equivocation v ∷ [])) (concluded_at v)) e ∙ ap (λ (p : Option Verdict). unwrap_or (first_some (o ∷ p ∷ [])) (concluded_at v)) e'
+    from o p e e' = verdict-is v whole.closing ∙ ap (λ (o : Option Verdict). unwrap_or (first_some (o ∷ equivocation v ∷ []))
+        (concluded_at v)) e ∙ ap (λ (p : Option Verdict). unwrap_or (first_some (o ∷ p ∷ [])) (concluded_at v)) e'
 
     by_second : bad_log v ≡ None → (p : Option Verdict) → equivocation v ≡ p → Case v (verdict_of v)
     by_second none (Some x) e = ByEquivocation (case-equivocation v x (verdict_of v) none e (from None (Some x) none e))

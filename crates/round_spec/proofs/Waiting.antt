@@ -27,25 +27,32 @@ use Rattle.round_spec.proofs.Settling.{before-settled, filled-if, reached-end, s
 use Rattle.round_spec.proofs.Stopping.{course_stops}
 
 -- each stage before the one that is being filled is complete
-earlier-complete : (c : Configuration) (others : Others) (stage : ℕ) → IsReached c others (course_of c others) → stage < (course_of c others).at → is_complete (settled_log c others) stage ≡ true
+earlier-complete : (c : Configuration) (others : Others) (stage : ℕ) → IsReached c others (course_of c others)
+    → stage < (course_of c others).at → is_complete (settled_log c others) stage ≡ true
 earlier-complete c others stage is lt =
     complete-before (settled_log c others) (course_of c others).at stage
-    (some_is (before (settled_log c others) (course_of c others).at) _ (before-settled c others (course_of c others).at is (omega arith))) lt
+    (some_is (before (settled_log c others) (course_of c others).at) _ (before-settled c others (course_of c others).at is (omega arith)))
+    lt
 
 -- and that one is not, where the round is open
-here-incomplete : (c : Configuration) (others : Others) → IsReached c others (course_of c others) → IsStopped c others (course_of c others) → is_open (course_of c others).verdict ≡ true
+here-incomplete : (c : Configuration) (others : Others) → IsReached c others (course_of c others) → IsStopped c others (course_of c others)
+    → is_open (course_of c others).verdict ≡ true
     → is_complete (settled_log c others) (course_of c others).at ≡ false
 here-incomplete c others is stops still = false_from_ne_true _ (λ complete.
     let kind = stops.stage still in
-    let there = before-complete (settled_log c others) ((course_of c others).at + 1) (λ earlier lt. each earlier lt complete (cases_lt earlier (course_of c others).at)) in
+    let there = before-complete (settled_log c others) ((course_of c others).at + 1)
+    (λ earlier lt. each earlier lt complete (cases_lt earlier (course_of c others).at)) in
     none-some _ (sym (stops.unfilled still) ∙ filled-if c others kind.0 there.0 is still kind.1 there.1))
   where
-    each : (earlier : ℕ) → earlier < (course_of c others).at + 1 → is_complete (settled_log c others) (course_of c others).at ≡ true → (earlier < (course_of c others).at) ⊎ ((course_of c others).at ≤ earlier)
+    each : (earlier : ℕ) → earlier < (course_of c others).at + 1 → is_complete (settled_log c others) (course_of c others).at ≡ true
+        → (earlier < (course_of c others).at) ⊎ ((course_of c others).at ≤ earlier)
         → is_complete (settled_log c others) earlier ≡ true
     each earlier lt complete (inl before_it) = earlier-complete c others earlier is before_it
-    each earlier lt complete (inr now) = (let same : (course_of c others).at ≡ earlier = omega arith in ap (is_complete (settled_log c others)) (sym same) ∙ complete)
+    each earlier lt complete (inr now) = (let same : (course_of c others).at ≡ earlier = omega arith in ap
+        (is_complete (settled_log c others)) (sym same) ∙ complete)
 
-within-round : (c : Configuration) (stage : ℕ) (kind : StageKind) → kind_of_stage (shape_in c) stage ≡ Some kind → stage < stage_count (shape_in c)
+within-round : (c : Configuration) (stage : ℕ) (kind : StageKind) → kind_of_stage (shape_in c) stage ≡ Some kind
+    → stage < stage_count (shape_in c)
 within-round c stage kind e = elim (cases_lt stage (stage_count (shape_in c))) [
   | inl lt ↦ lt
   | inr le ↦ absurd (none-some kind (sym (stage-past (shape_in c) stage le) ∙ e))
@@ -56,19 +63,25 @@ unfolding settled_log
 shape-same c others n lt = lt
 
 missing-is : (c : Configuration) (others : Others) (member : ℕ) → is_slot (shape_in c) (course_of c others).at member ≡ true
-    → is_missing (settled_log c others) (course_of c others).at member ≡ is_none (kept_in (settled_log c others) (record { stage = (course_of c others).at; sender = member }))
+    → is_missing (settled_log c others) (course_of c others).at member ≡ is_none
+    (kept_in (settled_log c others) (record { stage = (course_of c others).at; sender = member }))
 unfolding settled_log
-missing-is c others member speaks = ap (λ (b : Bool). b && is_none (kept_in (settled_log c others) (record { stage = (course_of c others).at; sender = member }))) speaks
+missing-is c others member speaks = ap (λ (b : Bool). b && is_none
+    (kept_in (settled_log c others) (record { stage = (course_of c others).at; sender = member }))) speaks
 
-first-incomplete : (c : Configuration) (others : Others) (kind : StageKind) → IsReached c others (course_of c others) → IsStopped c others (course_of c others) → is_open (course_of c others).verdict ≡ true
-    → kind_of_stage (shape_in c) (course_of c others).at ≡ Some kind → first_incomplete_of (settled_log c others) ≡ Some (course_of c others).at
+first-incomplete : (c : Configuration) (others : Others) (kind : StageKind) → IsReached c others (course_of c others)
+    → IsStopped c others (course_of c others) → is_open (course_of c others).verdict ≡ true
+    → kind_of_stage (shape_in c) (course_of c others).at ≡ Some kind
+    → first_incomplete_of (settled_log c others) ≡ Some (course_of c others).at
 first-incomplete c others kind is stops still e =
-    first_below-some (incomplete_stage (settled_log c others)) (stage_count (settled_log c others).shape) (course_of c others).at (course_of c others).at (shape-same c others (course_of c others).at (within-round c (course_of c others).at kind e))
+    first_below-some (incomplete_stage (settled_log c others)) (stage_count (settled_log c others).shape) (course_of c others).at
+    (course_of c others).at (shape-same c others (course_of c others).at (within-round c (course_of c others).at kind e))
     (λ j lt. complete-none (settled_log c others) j (earlier-complete c others j is lt))
     (incomplete-some (settled_log c others) (course_of c others).at (here-incomplete c others is stops still))
 
 -- a member's post is missing in the log exactly where it is awaited
-missing-awaited : (c : Configuration) (others : Others) (member : ℕ) → IsReached c others (course_of c others) → is_open (course_of c others).verdict ≡ true → is_slot (shape_in c) (course_of c others).at member ≡ true
+missing-awaited : (c : Configuration) (others : Others) (member : ℕ) → IsReached c others (course_of c others)
+    → is_open (course_of c others).verdict ≡ true → is_slot (shape_in c) (course_of c others).at member ≡ true
     → is_missing (settled_log c others) (course_of c others).at member ≡ is_awaited c others (course_of c others).at member
 missing-awaited c others member is still speaks =
     missing-is c others member speaks
@@ -81,9 +94,14 @@ missing-awaited c others member is still speaks =
     own : Option Post
     own = Some (own_post c (course_of c others).past (course_of c others).at)
 
-    by_sender : (member == c.number ≡ true) ⊎ (member == c.number ≡ false) → is_none (post_of c others (course_of c others) member) ≡ is_awaited c others (course_of c others).at member
-    by_sender (inl is_own) = ap is_none (cond-true (member == c.number) (Some (own_post c (course_of c others).past (course_of c others).at)) (others slot) is_own) ∙ sym (ap (λ (b : Bool). not b && is_none (others slot)) is_own)
-    by_sender (inr other) = ap is_none (cond-false (member == c.number) (Some (own_post c (course_of c others).past (course_of c others).at)) (others slot) other) ∙ sym (ap (λ (b : Bool). not b && is_none (others slot)) other)
+    by_sender : (member == c.number ≡ true) ⊎ (member == c.number ≡ false)
+        → is_none (post_of c others (course_of c others) member) ≡ is_awaited c others (course_of c others).at member
+    by_sender (inl is_own) = ap is_none (cond-true (member == c.number)
+        (Some (own_post c (course_of c others).past (course_of c others).at)) (others slot) is_own)
+        ∙ sym (ap (λ (b : Bool). not b && is_none (others slot)) is_own)
+    by_sender (inr other) = ap is_none (cond-false (member == c.number)
+        (Some (own_post c (course_of c others).past (course_of c others).at)) (others slot) other)
+        ∙ sym (ap (λ (b : Bool). not b && is_none (others slot)) other)
 
 pub open_rounds_wait : OpenRoundsWait
 open_rounds_wait c others small least names still =
@@ -96,7 +114,14 @@ open_rounds_wait c others small least names still =
 
 -- an inquiry of a verdict with another shape and another past
 inquiry_with : ClosedStage → Shape → List (List ℕ) → Inquiry
-inquiry_with v shape past = record { shape = shape; past = past; stage = v.stage; round = v.round; shown = shown_at v (kind_of_stage (shape_at v) v.stage) }
+inquiry_with v shape past = record {
+  shape = shape;
+  past = past;
+  stage = v.stage;
+  round = v.round;
+  shown = shown_at v
+      (kind_of_stage (shape_at v) v.stage);
+}
 
 pub inquiry_is_of_log : InquiryIsOfLog
 unfolding inquiry_with

@@ -33,7 +33,8 @@ pub record IsWhole (v : ClosedStage) : Type 0 where
   pub members : 1 ≤ (shape_at v).members
   pub closing : IsTrue (is_closing (shape_at v) v.stage)
   pub posts : length v.posts ≡ slots_before (shape_at v) (v.stage + 1)
-  pub named : (member : ℕ) (content : Content) → IsMemberOf v member → closing_content v member ≡ Ok content → content.header.stage ≡ v.stage
+  pub named : (member : ℕ) (content : Content) → IsMemberOf v member → closing_content v member ≡ Ok content
+      → content.header.stage ≡ v.stage
 
 -- ---- what all said
 

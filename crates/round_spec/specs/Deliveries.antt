@@ -24,7 +24,8 @@ pub record FirstPostsGrow (c : Configuration) (delivered : List (List ℕ)) (byt
 pub record LeastEndingGrows (c : Configuration) (delivered : List (List ℕ)) (bytes : List ℕ) : Type 0 where
   pub stays : (ending : ℕ × Verdict) → least_ending c delivered ≡ Some ending → least_ending c (with_last delivered bytes) ≡ Some ending
   pub comes : least_ending c delivered ≡ None →
-      least_ending c (with_last delivered bytes) ≡ option_map (λ verdict. (length delivered + 1, verdict)) (ending_of c (with_last delivered bytes))
+      least_ending c (with_last delivered bytes) ≡ option_map (λ verdict. (length delivered + 1, verdict))
+      (ending_of c (with_last delivered bytes))
 
 -- what has come of fewer deliveries has come of more
 abbrev pub FirstPostsContained : Type 0

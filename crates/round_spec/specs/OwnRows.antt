@@ -29,7 +29,8 @@ content_due c past stage = content_with c (own_descriptor c (contents_of past)) 
 
 -- is of the grammar
 abbrev pub OwnRowOfGrammar : Type 0
-OwnRowOfGrammar = (c : Configuration) (stage : ℕ) (past : List Post) → CanSay c stage past → OfGrammar (shape_in c) (content_due c past stage)
+OwnRowOfGrammar = (c : Configuration) (stage : ℕ) (past : List Post) → CanSay c stage past
+    → OfGrammar (shape_in c) (content_due c past stage)
 
 -- and so it would be with any bytes for its own descriptor, as long as there are as many as in a descriptor of the group
 abbrev pub RowOfGrammar : Type 0

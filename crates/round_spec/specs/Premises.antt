@@ -107,7 +107,8 @@ contents_listed roster t = contents_read (shape_of_roster roster) (posts_listed 
 
 -- the slots before the pads, with the posts that a claim of a bad pad lists for them
 abbrev pub pairs_listed : Roster → Transcript → List (Slot × List ℕ)
-pairs_listed roster t = zip (take (slots_before (shape_of_roster roster) (pad_stage (shape_of_roster roster))) (slots_of (shape_of_roster roster))) t.posts
+pairs_listed roster t = zip (take (slots_before (shape_of_roster roster) (pad_stage (shape_of_roster roster)))
+    (slots_of (shape_of_roster roster))) t.posts
 
 -- the log that a transcript lists: that before the pads, which a claim of a bad pad lists
 abbrev pub log_listed : Roster → Transcript → Claim → Option Log

@@ -42,8 +42,10 @@ HasPads contents strings = (content : Content) (pads : List (List ℕ)) (pad : L
 -- what is among the strings of a run
 pub record RunHasStrings (run : Run) : Type 0 where
   pub views : HasViews run.log (strings_of_run run)
-  pub own_layers : (shuffle side layer : ℕ) → Contains (1 ∷ 2 ∷ []) shuffle → Contains (1 ∷ 2 ∷ []) side → 1 ≤ layer → layer ≤ (shape_in run.config).members →
-      Contains (strings_of_run run) (layer_seed_string (own_opening run.config shuffle side) run.config.round shuffle side run.config.number layer)
+  pub own_layers : (shuffle side layer : ℕ) → Contains (1 ∷ 2 ∷ []) shuffle → Contains (1 ∷ 2 ∷ []) side → 1 ≤ layer
+      → layer ≤ (shape_in run.config).members →
+      Contains (strings_of_run run) (layer_seed_string (own_opening run.config shuffle side) run.config.round shuffle side run.config.number
+      layer)
   pub shown : HasShown run.log.shape run.config.round (contents_kept run) (strings_of_run run)
   pub own_pads : (pad : List ℕ) → Contains (made_pads (own_pad_seeds run.config) run.config.number run.config.message) pad →
       Contains (strings_of_run run) (pad_string pad)

@@ -152,7 +152,8 @@ bad_pad v a = Convicts (record {
   accused = a.member;
   round = v.round;
   detail = Some a;
-  posts = map post_spelling (take (slots_before (shape_at v) (pad_stage (shape_at v))) v.posts) ++ sent_in v (pad_stage (shape_at v)) a.member ∷ [];
+  posts = map post_spelling (take (slots_before (shape_at v) (pad_stage (shape_at v))) v.posts)
+      ++ sent_in v (pad_stage (shape_at v)) a.member ∷ [];
 })
 
 -- whether an accusation holds, by the descriptors and the pads of the round and the members' bulk keys

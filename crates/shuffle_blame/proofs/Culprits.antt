@@ -34,7 +34,8 @@ none_between None n = refl
 
 -- the culprit is the first of the fault of a view, of that which is found by what is shown, and of that of a vote
 pub culprit-parts : (o : Option StageKind) (q : Inquiry) → culprit_at o q ≡ first_some (view_fault q ∷ fault_shown o q ∷ vote_fault q ∷ [])
-culprit-parts (Some (Final shuffle)) q = in_turn (view_fault q) (seed_fault q shuffle) (submission_fault q shuffle) (turn_fault q) (vote_fault q)
+culprit-parts (Some (Final shuffle)) q = in_turn (view_fault q) (seed_fault q shuffle) (submission_fault q shuffle) (turn_fault q)
+    (vote_fault q)
 culprit-parts None q = none_between (view_fault q) (vote_fault q)
 culprit-parts (Some Keys) q = none_between (view_fault q) (vote_fault q)
 culprit-parts (Some (Submit shuffle)) q = none_between (view_fault q) (vote_fault q)
@@ -62,15 +63,19 @@ pub view-told : (log : Log) (stage round : ℕ) (shown : List Shown) (found : Op
     → view_fault (inquiry_of log stage round shown) ≡ option_map (λ slot. fault View slot.sender) found
 view-told log stage round shown found e =
     let posts = option_map-some (λ (posts : List Post). first_wrong log.shape (contents_of posts) stage) (before log stage) found e in
-    ap (λ (o : Option (List Post)). option_map (λ (slot : Slot). fault View slot.sender) (first_wrong log.shape (contents_of (unwrap_or o [])) stage)) posts.1
+    ap (λ (o : Option (List Post)). option_map (λ (slot : Slot). fault View slot.sender)
+    (first_wrong log.shape (contents_of (unwrap_or o [])) stage)) posts.1
     ∙ ap (option_map (λ (slot : Slot). fault View slot.sender)) posts.2
 
 -- what is shown at the end of a shuffle, made ready for use
-pub shown-length : (shape : Shape) (o : Option StageKind) (shuffle : ℕ) (shown : List Shown) → o ≡ Some (Final shuffle) → AreShown shape o shown → length shown ≡ shape.members
+pub shown-length : (shape : Shape) (o : Option StageKind) (shuffle : ℕ) (shown : List Shown) → o ≡ Some (Final shuffle)
+    → AreShown shape o shown → length shown ≡ shape.members
 shown-length shape o shuffle shown e are = subst (λ (o : Option StageKind). AreShown shape o shown) e are
 
-pub shown-told : (log : Log) (stage round shuffle : ℕ) (shown : List Shown) (parts : List Part) → kind_of_stage log.shape stage ≡ Some (Final shuffle) → shown_by parts ≡ shown
-    → fault_shown (Some (Final shuffle)) (inquiry_of log stage round (shown_by parts)) ≡ fault_shown (kind_of_stage log.shape stage) (inquiry_of log stage round shown)
+pub shown-told : (log : Log) (stage round shuffle : ℕ) (shown : List Shown) (parts : List Part)
+    → kind_of_stage log.shape stage ≡ Some (Final shuffle) → shown_by parts ≡ shown
+    → fault_shown (Some (Final shuffle)) (inquiry_of log stage round (shown_by parts)) ≡ fault_shown (kind_of_stage log.shape stage)
+    (inquiry_of log stage round shown)
 shown-told log stage round shuffle shown parts kind same =
     ap (λ (s : List Shown). fault_shown (Some (Final shuffle)) (inquiry_of log stage round s)) same
     ∙ ap (λ (o : Option StageKind). fault_shown o (inquiry_of log stage round shown)) (sym kind)

@@ -29,7 +29,8 @@ same_shuffle : (o : Option StageKind) (x y : ℕ) → o ≡ Some (Final x) → o
 same_shuffle o x y e f = let both : Some (Final x) ≡ Some (Final y) = sym e ∙ f in cc
 
 -- nor does one between the ends
-between : (shape : Shape) (stage shuffle : ℕ) → kind_of_stage shape stage ≡ Some (Final shuffle) → shape.members + 3 < stage → stage < shape.members + shape.members + 9 → ⊥
+between : (shape : Shape) (stage shuffle : ℕ) → kind_of_stage shape stage ≡ Some (Final shuffle) → shape.members + 3 < stage
+    → stage < shape.members + shape.members + 9 → ⊥
 between shape stage shuffle e le lt =
     elim (cases_eq stage (shape.members + 4)) [
       | inl at ↦ (let is = sym (pad_is shape stage at) ∙ e in cc)
@@ -41,7 +42,8 @@ between shape stage shuffle e le lt =
             | inl at ↦ (let is = sym (submit_b_is shape stage at) ∙ e in cc)
             | inr no7 ↦ elim (cases_eq stage (shape.members + shape.members + 8)) [
               | inl at ↦ (let is = sym (go_b_is shape stage at) ∙ e in cc)
-              | inr no8 ↦ (let is = sym (turn_b shape stage (stage - (shape.members + 7)) (omega arith) (omega arith) (omega arith)) ∙ e in cc)
+              | inr no8 ↦ (let is = sym (turn_b shape stage (stage - (shape.members + 7)) (omega arith) (omega arith) (omega arith))
+                  ∙ e in cc)
             ]
           ]
         ]
@@ -65,17 +67,21 @@ ends_at shape stage shuffle e =
     ]
 
 -- the stage of the submissions, and those of the turns
-pub submit_there : (shape : Shape) (stage shuffle : ℕ) → kind_of_stage shape stage ≡ Some (Final shuffle) → kind_of_stage shape (stage - (shape.members + 2)) ≡ Some (Submit shuffle)
+pub submit_there : (shape : Shape) (stage shuffle : ℕ) → kind_of_stage shape stage ≡ Some (Final shuffle)
+    → kind_of_stage shape (stage - (shape.members + 2)) ≡ Some (Submit shuffle)
 submit_there shape stage shuffle e =
     elim (ends_at shape stage shuffle e) [
       | inl a ↦ submit_a_is shape (stage - (shape.members + 2)) (omega (arith, a.1)) ∙ ap (λ (s : ℕ). Some (Submit s)) (sym a.0)
       | inr b ↦ submit_b_is shape (stage - (shape.members + 2)) (omega (arith, b.1)) ∙ ap (λ (s : ℕ). Some (Submit s)) (sym b.0)
     ]
 
-pub turn_there : (shape : Shape) (stage shuffle turn : ℕ) → kind_of_stage shape stage ≡ Some (Final shuffle) → 1 ≤ turn → turn ≤ shape.members
+pub turn_there : (shape : Shape) (stage shuffle turn : ℕ) → kind_of_stage shape stage ≡ Some (Final shuffle) → 1 ≤ turn
+    → turn ≤ shape.members
     → kind_of_stage shape (stage - (shape.members + 2) + turn) ≡ Some (Shuffle shuffle turn)
 turn_there shape stage shuffle turn e least most =
     elim (ends_at shape stage shuffle e) [
-      | inl a ↦ turn_a shape (stage - (shape.members + 2) + turn) turn (omega (arith, a.1)) least most ∙ ap (λ (s : ℕ). Some (Shuffle s turn)) (sym a.0)
-      | inr b ↦ turn_b shape (stage - (shape.members + 2) + turn) turn (omega (arith, b.1)) least most ∙ ap (λ (s : ℕ). Some (Shuffle s turn)) (sym b.0)
+      | inl a ↦ turn_a shape (stage - (shape.members + 2) + turn) turn (omega (arith, a.1)) least most
+          ∙ ap (λ (s : ℕ). Some (Shuffle s turn)) (sym a.0)
+      | inr b ↦ turn_b shape (stage - (shape.members + 2) + turn) turn (omega (arith, b.1)) least most
+          ∙ ap (λ (s : ℕ). Some (Shuffle s turn)) (sym b.0)
     ]

@@ -28,12 +28,14 @@ use Rattle.shuffle_blame.specs.Replay.{Inquiry, body_in, bytes_in, culprit_at, f
 use Rattle.shuffle_blame.specs.Laws.{HasNo, HasTwoViews, IsMember, NoSeedFault, NoViewFault, UnlikeVotesBlame}
 
 -- where no member has a fault, each has none
-pub first_member-each : (q : Inquiry) (fault_at : ℕ → Option Fault) (member : ℕ) → first_member q fault_at ≡ None → IsMember q member → fault_at member ≡ None
+pub first_member-each : (q : Inquiry) (fault_at : ℕ → Option Fault) (member : ℕ) → first_member q fault_at ≡ None → IsMember q member
+    → fault_at member ≡ None
 first_member-each q fault_at member none is =
     let least = is.least in
     let most = is.most in
     let same : (member - 1) + 1 ≡ member = omega arith in
-    subst (λ (k : ℕ). fault_at k ≡ None) same (first_below-each (λ place. fault_at (place + 1)) q.shape.members none (member - 1) (omega arith))
+    subst (λ (k : ℕ). fault_at k ≡ None) same (first_below-each (λ place. fault_at (place + 1)) q.shape.members none (member - 1)
+    (omega arith))
 
 -- ---- views
 
@@ -45,7 +47,8 @@ pub no_view_fault : NoViewFault
 no_view_fault q stage sender none speaks before =
     let slot : Slot = record { stage = stage; sender = sender } in
     let number : ℕ = slot_number q.shape stage sender in
-    let wrong : first_wrong q.shape q.past q.stage ≡ None = nothing_mapped (λ (slot : Slot). fault View slot.sender) (first_wrong q.shape q.past q.stage) none in
+    let wrong : first_wrong q.shape q.past q.stage ≡ None = nothing_mapped (λ (slot : Slot). fault View slot.sender)
+    (first_wrong q.shape q.past q.stage) none in
     let within = slot_number-within q.shape stage sender speaks in
     let rises = slots_before-rises q.shape (stage + 1) q.stage (omega arith) in
     let here = first_below-each (wrong_at q.shape q.past) (slots_before q.shape q.stage) wrong number (omega (arith, within.1)) in
@@ -53,7 +56,8 @@ no_view_fault q stage sender none speaks before =
     right_of (is_right q.shape q.past slot) slot (sym (ap (option_and_then (wrong_slot q.shape q.past)) at) ∙ here)
 
 -- what stands in a slot that is right carries the view
-carried_there : (view : List ℕ) (past : List (List ℕ)) (number : ℕ) → is_carried view (slice_get past number) ≡ true → has_view view (header_of (get_or past number [])) ≡ true
+carried_there : (view : List ℕ) (past : List (List ℕ)) (number : ℕ) → is_carried view (slice_get past number) ≡ true
+    → has_view view (header_of (get_or past number [])) ≡ true
 carried_there view [] number e = absurd cc
 carried_there view (content ∷ past) zero e = e
 carried_there view (content ∷ past) (suc number) e = carried_there view past number e
@@ -64,7 +68,8 @@ view_there view (Ok found) header is e =
     sym (ap (λ (h : Header). h.view) same) ∙ (bytes_eq-Decides found.view view).0 e
 view_there view (Err short) header is e = absurd cc
 
-pub right_view : (q : Inquiry) (stage sender : ℕ) (content : Content) → view_fault q ≡ None → IsTrue (is_slot q.shape stage sender) → stage < q.stage
+pub right_view : (q : Inquiry) (stage sender : ℕ) (content : Content) → view_fault q ≡ None → IsTrue (is_slot q.shape stage sender)
+    → stage < q.stage
     → content_read q.shape (bytes_in q stage sender) ≡ Ok content → content.header.view ≡ view_of q.shape q.past stage
 right_view q stage sender content none speaks before read =
     let right = no_view_fault q stage sender none speaks before in
@@ -91,7 +96,8 @@ key_said shuffle seed (Differ posts) e = absurd cc
 pub no_seed_fault : NoSeedFault
 no_seed_fault q shuffle member none is =
     let here = first_member-each q (λ member. fault_unless (shows_its_seed q shuffle member) (fault OuterSeed member)) member none is in
-    key_said shuffle (outer_seed q member) (body_in q 0 member) (fault_unless-holds (shows_its_seed q shuffle member) (fault OuterSeed member) here)
+    key_said shuffle (outer_seed q member) (body_in q 0 member)
+    (fault_unless-holds (shows_its_seed q shuffle member) (fault OuterSeed member) here)
 
 -- ---- votes
 
@@ -108,7 +114,8 @@ later_there (Some x) others is = refl
 later_there None others is = is
 
 -- a fault of a view or a vote is enough, at every closing stage
-named_in_five : (views seeds layers turns votes : Option Fault) → IsSome views ⊎ IsSome votes → IsSome (first_some (views ∷ seeds ∷ layers ∷ turns ∷ votes ∷ []))
+named_in_five : (views seeds layers turns votes : Option Fault) → IsSome views ⊎ IsSome votes
+    → IsSome (first_some (views ∷ seeds ∷ layers ∷ turns ∷ votes ∷ []))
 named_in_five views seeds layers turns votes (inl is) = first_there views (seeds ∷ layers ∷ turns ∷ votes ∷ []) is
 named_in_five views seeds layers turns votes (inr is) =
     later_there views (seeds ∷ layers ∷ turns ∷ votes ∷ []) (later_there seeds (layers ∷ turns ∷ votes ∷ [])
@@ -119,7 +126,8 @@ named_in_two views votes (inl is) = first_there views (votes ∷ []) is
 named_in_two views votes (inr is) = later_there views (votes ∷ []) (first_there votes [] is)
 
 named_at : (o : Option StageKind) (q : Inquiry) → IsSome (view_fault q) ⊎ IsSome (vote_fault q) → IsSome (culprit_at o q)
-named_at (Some (AtFinal shuffle)) q is = named_in_five (view_fault q) (seed_fault q shuffle) (submission_fault q shuffle) (turn_fault q) (vote_fault q) is
+named_at (Some (AtFinal shuffle)) q is = named_in_five (view_fault q) (seed_fault q shuffle) (submission_fault q shuffle) (turn_fault q)
+    (vote_fault q) is
 named_at None q is = named_in_two (view_fault q) (vote_fault q) is
 named_at (Some AtKeys) q is = named_in_two (view_fault q) (vote_fault q) is
 named_at (Some (AtSubmit shuffle)) q is = named_in_two (view_fault q) (vote_fault q) is

@@ -27,13 +27,15 @@ unfolding content_read
 nothing_said shape = refl
 
 at_number : (shape : Shape) (posts : List Post) (number : ℕ)
-    → body_of_post shape (option_flatten (option_map Some (slice_get posts number))) ≡ body_of (content_read shape (get_or (contents_of posts) number []))
+    → body_of_post shape (option_flatten (option_map Some (slice_get posts number))) ≡ body_of
+    (content_read shape (get_or (contents_of posts) number []))
 at_number shape [] number = nothing_said shape
 at_number shape (post ∷ posts) zero = refl
 at_number shape (post ∷ posts) (suc number) = at_number shape posts number
 
 pub body_kept-past : (log : Log) (stage round : ℕ) (shown : List Shown) (posts : List Post) (slot : Slot) → before log stage ≡ Some posts
-    → is_slot log.shape slot.stage slot.sender ≡ true → slot.stage < stage → body_kept log slot ≡ body_in (inquiry_of log stage round shown) slot.stage slot.sender
+    → is_slot log.shape slot.stage slot.sender ≡ true → slot.stage < stage
+    → body_kept log slot ≡ body_in (inquiry_of log stage round shown) slot.stage slot.sender
 body_kept-past log stage round shown posts slot e speaks lt =
     let number : ℕ = slot_number log.shape slot.stage slot.sender in
     let n : ℕ = slots_before log.shape stage in
@@ -41,7 +43,8 @@ body_kept-past log stage round shown posts slot e speaks lt =
     let rises = slots_before-rises log.shape (slot.stage + 1) stage (omega arith) in
     let kept = cond-true (is_slot log.shape slot.stage slot.sender) (option_flatten (slice_get log.posts number)) None speaks in
     let there : slice_get log.posts number ≡ option_map Some (slice_get posts number)
-    = sym (slice_get-take log.posts n number (omega (arith, within.1))) ∙ ap (λ (t : List (Option Post)). slice_get t number) (all_some-is (take n log.posts) posts e) ∙ slice_get-map Some posts number in
+    = sym (slice_get-take log.posts n number (omega (arith, within.1)))
+    ∙ ap (λ (t : List (Option Post)). slice_get t number) (all_some-is (take n log.posts) posts e) ∙ slice_get-map Some posts number in
     let past : posts ≡ unwrap_or (before log stage) [] = sym (ap (λ (o : Option (List Post)). unwrap_or o []) e) in
     ap (body_of_post log.shape) (kept ∙ ap (λ (o : Option (Option Post)). option_flatten o) there)
     ∙ at_number log.shape posts number

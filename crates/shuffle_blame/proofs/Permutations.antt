@@ -11,7 +11,8 @@ use Rattle.shuffle_blame.specs.Replay.{is_passed, is_permutation}
 use Rattle.shuffle_blame.specs.Laws.{PermutationsAreFound}
 
 permutation-cons : (entry : List ℕ) (entries others : List (List ℕ))
-    → is_permutation (entry ∷ entries) others ≡ is_passed (λ place. is_permutation entries (remove others place)) (position (bytes_eq entry) others)
+    → is_permutation (entry ∷ entries) others ≡ is_passed (λ place. is_permutation entries (remove others place))
+    (position (bytes_eq entry) others)
 unfolding is_permutation
 permutation-cons entry entries others = refl
 
@@ -20,7 +21,8 @@ passed-some passes None e = absurd cc
 passed-some passes (Some x) e = (x, refl, e)
 
 -- taking an entry out of its place puts it to the front
-to_front : (entry : List ℕ) (others : List (List ℕ)) (place : ℕ) → position (bytes_eq entry) others ≡ Some place → IsPermutation others (entry ∷ remove others place)
+to_front : (entry : List ℕ) (others : List (List ℕ)) (place : ℕ) → position (bytes_eq entry) others ≡ Some place
+    → IsPermutation others (entry ∷ remove others place)
 to_front entry others place e =
     let found = position-Some (bytes_eq entry) others place entry e in
     IsPermutation-remove others place entry found.0 ((bytes_eq-Decides entry (get_or others place entry)).0 found.1)
@@ -30,7 +32,8 @@ unfolding is_permutation
 permutation_there [] [] e = IsPermutation-refl []
 permutation_there [] (body ∷ bodies) e = absurd cc
 permutation_there (entry ∷ entries) bodies e =
-    let found = passed-some (λ place. is_permutation entries (remove bodies place)) (position (bytes_eq entry) bodies) (sym (permutation-cons entry entries bodies) ∙ e) in
+    let found = passed-some (λ place. is_permutation entries (remove bodies place)) (position (bytes_eq entry) bodies)
+    (sym (permutation-cons entry entries bodies) ∙ e) in
     IsPermutation-trans bodies (entry ∷ remove bodies found.0) (entry ∷ entries) (to_front entry bodies found.0 found.1)
     (IsPermutation-cons entry (remove bodies found.0) entries (permutation_there entries (remove bodies found.0) found.2))
 
@@ -53,13 +56,15 @@ count-self x xs =
     count-cons x x xs ∙ ap (λ (b : Bool). cond b 1 0 + count_of x xs) test
 
 -- where an entry stands nowhere it is counted nowhere
-count-absent : (entry : List ℕ) (others : List (List ℕ)) → ((k : ℕ) → k < length others → bytes_eq entry (get_or others k []) ≡ false) → count_of entry others ≡ 0
+count-absent : (entry : List ℕ) (others : List (List ℕ)) → ((k : ℕ) → k < length others → bytes_eq entry (get_or others k []) ≡ false)
+    → count_of entry others ≡ 0
 unfolding count_of
 count-absent entry [] fails = refl
 count-absent entry (other ∷ others) fails =
     let first : bytes_eq entry other ≡ false = fails 0 (omega arith) in
     let rest : count_of entry others ≡ 0 = count-absent entry others (λ k lt. fails (suc k) (omega arith)) in
-    count-cons entry other others ∙ ap (λ (b : Bool). cond b 1 0 + count_of entry others) first ∙ (let sum : cond false 1 0 + count_of entry others ≡ 0 = omega (arith, rest) in sum)
+    count-cons entry other others ∙ ap (λ (b : Bool). cond b 1 0 + count_of entry others) first
+    ∙ (let sum : cond false 1 0 + count_of entry others ≡ 0 = omega (arith, rest) in sum)
 
 -- the same number of each entry
 SameCounts : List (List ℕ) → List (List ℕ) → Type 0
@@ -84,7 +89,8 @@ past_end : (b : Bool) (place : ℕ) → cond b (Some place) None ≡ None → b 
 past_end true place e = absurd cc
 past_end false place e = refl
 
-fails_each : (entry : List ℕ) (others : List (List ℕ)) → position (bytes_eq entry) others ≡ None → (k : ℕ) → k < length others → bytes_eq entry (get_or others k []) ≡ false
+fails_each : (entry : List ℕ) (others : List (List ℕ)) → position (bytes_eq entry) others ≡ None → (k : ℕ) → k < length others
+    → bytes_eq entry (get_or others k []) ≡ false
 fails_each entry others e k lt =
     let first : ℕ = position_or_len (bytes_eq entry) others in
     let test : nat_lt first (length others) ≡ false = past_end (nat_lt first (length others)) first e in
@@ -104,7 +110,8 @@ permutation_back [] (body ∷ bodies) same =
     let none = count-nothing body in
     absurd (omega arith)
 permutation_back (entry ∷ entries) bodies same =
-    by_place (position (bytes_eq entry) bodies) refl (λ place e. permutation_back entries (remove bodies place) (counts-rest entry entries bodies place e same))
+    by_place (position (bytes_eq entry) bodies) refl (λ place e. permutation_back entries (remove bodies place)
+    (counts-rest entry entries bodies place e same))
   where
     by_place : (o : Option ℕ) → position (bytes_eq entry) bodies ≡ o
         → ((place : ℕ) → position (bytes_eq entry) bodies ≡ Some place → is_permutation entries (remove bodies place) ≡ true)
@@ -119,4 +126,8 @@ permutation_back (entry ∷ entries) bodies same =
 
 pub permutations_are_found : PermutationsAreFound
 unfolding SameCounts
-permutations_are_found list bodies = (permutation_there list bodies, λ order. permutation_back list bodies (λ y. sym (count-order y bodies list order)))
+permutations_are_found list bodies = (
+  permutation_there list bodies,
+  λ order. permutation_back list bodies
+      (λ y. sym (count-order y bodies list order)),
+)

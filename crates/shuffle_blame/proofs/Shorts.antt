@@ -11,7 +11,8 @@ use Rattle.shuffle_blame.specs.Rules.{IsShort}
 entries_short : (list : List (List ℕ)) (n : ℕ) → length (flat_map (λ entry. entry) list) < n → All (λ entry. length entry < n) list
 entries_short [] n lt k d below = absurd (omega arith)
 entries_short (entry ∷ list) n lt zero d below = omega (arith, length-append entry (flat_map (λ entry. entry) list))
-entries_short (entry ∷ list) n lt (suc k) d below = entries_short list n (omega (arith, length-append entry (flat_map (λ entry. entry) list))) k d (omega arith)
+entries_short (entry ∷ list) n lt (suc k) d below = entries_short list n
+    (omega (arith, length-append entry (flat_map (λ entry. entry) list))) k d (omega arith)
 
 short_text : (front : List ℕ) (body : Body) → length (front ++ ((kind_number body ∷ []) ++ body_text body)) < 2 ^ 32 → IsShort body
 short_text front (Submit ciphertext) lt = omega (arith, length-append front (2 ∷ ciphertext))

@@ -29,7 +29,8 @@ said-there : (log : Log) (stage round : ℕ) (shown : List Shown) (slot : Slot) 
     → body_kept log slot ≡ body_in (inquiry_of log stage round shown) slot.stage slot.sender
 said-there log stage round shown slot kind complete at speaks_there lt =
     let posts = some_of (before log stage) complete in
-    let is : is_slot log.shape slot.stage slot.sender ≡ true = ap (λ (o : Option StageKind). speaks log.shape o slot.sender) at ∙ speaks_there in
+    let is : is_slot log.shape slot.stage slot.sender ≡ true = ap (λ (o : Option StageKind). speaks log.shape o slot.sender) at
+    ∙ speaks_there in
     body_kept-past log stage round shown posts.0 slot posts.1 is lt
 
 -- ---- votes
@@ -62,28 +63,35 @@ votes-before shape stage closing = by_kind (kind_of_stage shape stage) refl clos
 pub closing-least : (shape : Shape) (stage : ℕ) → IsClosing shape stage → 1 ≤ stage
 closing-least shape stage closing = (votes-before shape stage closing).least
 
-pub vote-said : (log : Log) (stage round member : ℕ) (shown : List Shown) → IsClosing log.shape stage → IsSome (before log stage) → 1 ≤ member → member ≤ log.shape.members
+pub vote-said : (log : Log) (stage round member : ℕ) (shown : List Shown) → IsClosing log.shape stage → IsSome (before log stage)
+    → 1 ≤ member → member ≤ log.shape.members
     → body_kept log (record { stage = stage - 1; sender = member }) ≡ body_in (inquiry_of log stage round shown) (stage - 1) member
 vote-said log stage round member shown closing complete least most =
     let votes = votes-before log.shape stage closing in
-    said-there log stage round shown (record { stage = stage - 1; sender = member }) votes.kind complete votes.at (votes.all_speak member (member-there log.shape.members member least most)) (omega (arith, votes.least))
+    said-there log stage round shown (record { stage = stage - 1; sender = member }) votes.kind complete votes.at
+    (votes.all_speak member (member-there log.shape.members member least most)) (omega (arith, votes.least))
 
 -- ---- the end of a shuffle
 
 pub end-least : (shape : Shape) (stage shuffle : ℕ) → kind_of_stage shape stage ≡ Some (Final shuffle) → shape.members + 3 ≤ stage
 end-least shape stage shuffle e = elim (ends_at shape stage shuffle e) [ inl a ↦ omega (arith, a.1) | inr b ↦ omega (arith, b.1) ]
 
-pub keys-said : (log : Log) (ended : Ended) (parts : List Part) (member : ℕ) → IsEnd log ended parts → 1 ≤ member → member ≤ log.shape.members
+pub keys-said : (log : Log) (ended : Ended) (parts : List Part) (member : ℕ) → IsEnd log ended parts → 1 ≤ member
+    → member ≤ log.shape.members
     → body_kept log (record { stage = 0; sender = member }) ≡ body_in (inquiry_at log ended parts) 0 member
 keys-said log ended parts member is least most =
-    said-there log ended.stage ended.round (shown_by parts) (record { stage = 0; sender = member }) Keys is.complete refl (member-there log.shape.members member least most)
+    said-there log ended.stage ended.round (shown_by parts) (record { stage = 0; sender = member }) Keys is.complete refl
+    (member-there log.shape.members member least most)
     (omega (arith, end-least log.shape ended.stage ended.shuffle is.ends))
 
-pub submission-said : (log : Log) (ended : Ended) (parts : List Part) (member : ℕ) → kind_of_stage log.shape ended.stage ≡ Some (Final ended.shuffle) → IsSome (before log ended.stage)
+pub submission-said : (log : Log) (ended : Ended) (parts : List Part) (member : ℕ)
+    → kind_of_stage log.shape ended.stage ≡ Some (Final ended.shuffle) → IsSome (before log ended.stage)
     → 1 ≤ member → member ≤ log.shape.members
-    → body_kept log (record { stage = ended.stage - (log.shape.members + 2); sender = member }) ≡ body_in (inquiry_at log ended parts) (submit_stage (inquiry_at log ended parts)) member
+    → body_kept log (record { stage = ended.stage - (log.shape.members + 2); sender = member }) ≡ body_in (inquiry_at log ended parts)
+    (submit_stage (inquiry_at log ended parts)) member
 submission-said log ended parts member ends complete least most =
-    said-there log ended.stage ended.round (shown_by parts) (record { stage = ended.stage - (log.shape.members + 2); sender = member }) (Submit ended.shuffle) complete
+    said-there log ended.stage ended.round (shown_by parts) (record { stage = ended.stage - (log.shape.members + 2); sender = member })
+    (Submit ended.shuffle) complete
     (submit_there log.shape ended.stage ended.shuffle ends) (member-there log.shape.members member least most)
     (omega (arith, end-least log.shape ended.stage ended.shuffle ends))
 
@@ -91,6 +99,7 @@ pub turn-said : (log : Log) (ended : Ended) (parts : List Part) (turn : ℕ) →
     → body_kept log (record { stage = ended.stage - (log.shape.members + 2) + turn; sender = turn })
     ≡ body_in (inquiry_at log ended parts) (submit_stage (inquiry_at log ended parts) + turn) turn
 turn-said log ended parts turn is least most =
-    said-there log ended.stage ended.round (shown_by parts) (record { stage = ended.stage - (log.shape.members + 2) + turn; sender = turn }) (Shuffle ended.shuffle turn) is.complete
+    said-there log ended.stage ended.round (shown_by parts) (record { stage = ended.stage - (log.shape.members + 2) + turn; sender = turn })
+    (Shuffle ended.shuffle turn) is.complete
     (turn_there log.shape ended.stage ended.shuffle turn is.ends least most) (eq-eqb turn turn refl)
     (omega (arith, end-least log.shape ended.stage ended.shuffle is.ends))

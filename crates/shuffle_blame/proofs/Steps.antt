@@ -26,7 +26,8 @@ under-some m (Some found) body e = by_test (bytes_eq found.0 m) refl e
         ap (λ (x : List ℕ). Some (x, found.1)) carried ∙ ap (λ (x : List ℕ). Some (m, x)) inner
     by_test false is e = absurd cc
 
-under-none : (m : List ℕ) (o : Option (List ℕ × List ℕ)) → None ≡ body_under m o → is_passed (λ x. bytes_eq x m) (option_map (λ (found : List ℕ × List ℕ). found.0) o) ≡ false
+under-none : (m : List ℕ) (o : Option (List ℕ × List ℕ)) → None ≡ body_under m o
+    → is_passed (λ x. bytes_eq x m) (option_map (λ (found : List ℕ × List ℕ). found.0) o) ≡ false
 under-none m None e = refl
 under-none m (Some found) e = by_test (bytes_eq found.0 m) refl e
   where
@@ -37,14 +38,17 @@ under-none m (Some found) e = by_test (bytes_eq found.0 m) refl e
 -- what a layer carries, by what is left above it
 carried : (q : Inquiry) (shuffle member layer : ℕ) (bytes : List ℕ) → inside q (submission q member) (layer - 1) ≡ Some bytes
     → has_layer q shuffle member layer
-    ≡ is_passed (λ m. bytes_eq m (own_layer_seed q shuffle member layer)) (option_map (λ (found : List ℕ × List ℕ). found.0) (peeled (outer_seed q layer) bytes))
+    ≡ is_passed (λ m. bytes_eq m (own_layer_seed q shuffle member layer))
+    (option_map (λ (found : List ℕ × List ℕ). found.0) (peeled (outer_seed q layer) bytes))
 carried q shuffle member layer bytes is =
-    ap (λ (o : Option (List ℕ)). is_passed (λ m. bytes_eq m (own_layer_seed q shuffle member layer)) (option_map (λ (found : List ℕ × List ℕ). found.0) (option_and_then (peeled (outer_seed q layer)) o))) is
+    ap (λ (o : Option (List ℕ)). is_passed (λ m. bytes_eq m (own_layer_seed q shuffle member layer))
+    (option_map (λ (found : List ℕ × List ℕ). found.0) (option_and_then (peeled (outer_seed q layer)) o))) is
 
 pub nothing-off : (q : Inquiry) (member : ℕ) → inside q (submission q member) 0 ≡ Some (submission q member)
 nothing-off q member = ap (option_map (λ (found : List (List ℕ) × List ℕ). found.1)) (opened-nil (submission q member))
 
-pub layer-next : (q : Inquiry) (shuffle member layer : ℕ) (bytes body : List ℕ) → 1 ≤ layer → layer ≤ length q.shown → inside q (submission q member) (layer - 1) ≡ Some bytes
+pub layer-next : (q : Inquiry) (shuffle member layer : ℕ) (bytes body : List ℕ) → 1 ≤ layer → layer ≤ length q.shown
+    → inside q (submission q member) (layer - 1) ≡ Some bytes
     → Some body ≡ body_under (own_layer_seed q shuffle member layer) (peeled (outer_seed q layer) bytes)
     → (inside q (submission q member) layer ≡ Some body) × (has_layer q shuffle member layer ≡ true)
 layer-next q shuffle member layer bytes body least most is e =
@@ -53,32 +57,44 @@ layer-next q shuffle member layer bytes body least most is e =
     let front : List (List ℕ) = take (layer - 1) (outer_seeds q) in
     let found : peeled seed bytes ≡ Some (own, body) = under-some own (peeled seed bytes) body e in
     let so_far = option_map-some (λ (found : List (List ℕ) × List ℕ). found.1) (opened_through front (submission q member)) bytes is in
-    let through : opened_through front (submission q member) ≡ Some (so_far.0.0, bytes) = so_far.1 ∙ ap (λ (b : List ℕ). Some (so_far.0.0, b)) so_far.2 in
+    let through : opened_through front (submission q member) ≡ Some (so_far.0.0, bytes) = so_far.1
+    ∙ ap (λ (b : List ℕ). Some (so_far.0.0, b)) so_far.2 in
     let more = opened-push front seed (submission q member) bytes own body so_far.0.0 through found in
     let place : layer - 1 + 1 ≡ layer = omega arith in
     let seeds : take layer (outer_seeds q) ≡ front ++ seed ∷ []
-    = ap (λ (k : ℕ). take k (outer_seeds q)) (sym place) ∙ seeds-next q (layer - 1) (omega arith) ∙ ap (λ (k : ℕ). front ++ outer_seed q k ∷ []) place in (
-      ap (option_map (λ (found : List (List ℕ) × List ℕ). found.1)) (ap (λ (s : List (List ℕ)). opened_through s (submission q member)) seeds ∙ more),
+    = ap (λ (k : ℕ). take k (outer_seeds q)) (sym place) ∙ seeds-next q (layer - 1) (omega arith)
+    ∙ ap (λ (k : ℕ). front ++ outer_seed q k ∷ []) place in (
+      ap (option_map (λ (found : List (List ℕ) × List ℕ). found.1))
+          (ap (λ (s : List (List ℕ)). opened_through s (submission q member)) seeds ∙ more),
       carried q shuffle member layer bytes is
-          ∙ ap (λ (o : Option (List ℕ × List ℕ)). is_passed (λ m. bytes_eq m own) (option_map (λ (found : List ℕ × List ℕ). found.0) o)) found
+          ∙ ap (λ (o : Option (List ℕ × List ℕ)). is_passed (λ m. bytes_eq m own) (option_map (λ (found : List ℕ × List ℕ). found.0) o))
+          found
           ∙ (bytes_eq-Decides own own).1 refl,
     )
 
 pub layer-stops : (q : Inquiry) (shuffle member layer : ℕ) (bytes : List ℕ) → inside q (submission q member) (layer - 1) ≡ Some bytes
-    → None ≡ body_under (own_layer_seed q shuffle member layer) (peeled (outer_seed q layer) bytes) → has_layer q shuffle member layer ≡ false
+    → None ≡ body_under (own_layer_seed q shuffle member layer) (peeled (outer_seed q layer) bytes)
+    → has_layer q shuffle member layer ≡ false
 layer-stops q shuffle member layer bytes is e =
     carried q shuffle member layer bytes is ∙ under-none (own_layer_seed q shuffle member layer) (peeled (outer_seed q layer) bytes) e
 
 -- a body is shorter than its layer
 pub body-short : (seed layer m body : List ℕ) (n : ℕ) → Opens seed layer m body → length layer < n → length body < n
-body-short seed layer m body n opens lt = omega (arith, ap (λ (bytes : List ℕ). length bytes) opens.is, layer_adds (key_of_seed seed) m body)
+body-short seed layer m body n opens lt = omega (
+  arith,
+  ap (λ (bytes : List ℕ). length bytes) opens.is,
+  layer_adds (key_of_seed seed) m
+      body,
+)
 
 -- ---- turns
 
-order-some : (bodies said : Option (List (List ℕ))) (list : List (List ℕ)) → Some list ≡ list_in_order bodies said → (is_order_of bodies said ≡ true) × (said ≡ Some list)
+order-some : (bodies said : Option (List (List ℕ))) (list : List (List ℕ)) → Some list ≡ list_in_order bodies said
+    → (is_order_of bodies said ≡ true) × (said ≡ Some list)
 order-some bodies said list e = by_test (is_order_of bodies said) refl e
   where
-    by_test : (b : Bool) → is_order_of bodies said ≡ b → Some list ≡ (if b then said else None) → (is_order_of bodies said ≡ true) × (said ≡ Some list)
+    by_test : (b : Bool) → is_order_of bodies said ≡ b → Some list ≡ (if b then said else None) → (is_order_of bodies said ≡ true)
+        × (said ≡ Some list)
     by_test true is e = (is, sym e)
     by_test false is e = absurd cc
 
@@ -90,7 +106,8 @@ order-none bodies None e = nothing bodies
     nothing (Some list) = refl
 order-none bodies (Some list) e = by_test (is_order_of bodies (Some list)) refl e
   where
-    by_test : (b : Bool) → is_order_of bodies (Some list) ≡ b → None ≡ (if b then Some list else None) → is_order_of bodies (Some list) ≡ false
+    by_test : (b : Bool) → is_order_of bodies (Some list) ≡ b → None ≡ (if b then Some list else None)
+        → is_order_of bodies (Some list) ≡ false
     by_test true is e = absurd cc
     by_test false is e = is
 

@@ -22,7 +22,14 @@ record Ordered (o said : Option (List (List ℕ))) : Type 0 where
   order : IsPermutation bodies list
 
 ordered : (o said : Option (List (List ℕ))) → is_order_of o said ≡ true → Ordered o said
-ordered (Some bodies) (Some list) e = record { bodies = bodies; list = list; first = refl; second = refl; order = permutation_there list bodies e }
+ordered (Some bodies) (Some list) e = record {
+  bodies = bodies;
+  list = list;
+  first = refl;
+  second = refl;
+  order = permutation_there list
+      bodies e;
+}
 ordered None said e = absurd cc
 ordered (Some bodies) None e = absurd cc
 
@@ -31,18 +38,21 @@ unfolding stripped_through
 nothing_off entries = refl
 
 -- one turn more
-next_list : (q : Inquiry) (turns : ℕ) → turns < length q.shown → HasStripped q turns → is_turn q (suc turns) ≡ true → HasStripped q (suc turns)
+next_list : (q : Inquiry) (turns : ℕ) → turns < length q.shown → HasStripped q turns → is_turn q (suc turns) ≡ true
+    → HasStripped q (suc turns)
 next_list q turns lt so_far right =
     let said = ordered (bodies_before q (suc turns)) (list_after q (suc turns)) right in
     let seed : List ℕ = outer_seed q (suc turns) in
     let place : suc turns - 1 ≡ turns = omega arith in
     let before : list_after q (suc turns - 1) ≡ Some so_far.list = ap (list_after q) place ∙ so_far.said in
     let bodies : stripped seed so_far.list ≡ Some said.bodies = sym (ap (option_and_then (stripped seed)) before) ∙ said.first in
-    let rest = strips_in_any_order seed so_far.list so_far.bodies said.bodies (IsPermutation-sym so_far.bodies so_far.list so_far.order) bodies in
+    let rest = strips_in_any_order seed so_far.list so_far.bodies said.bodies (IsPermutation-sym so_far.bodies so_far.list so_far.order)
+    bodies in
     let more = strips_through_more (take turns (outer_seeds q)) seed (submissions q) so_far.bodies so_far.stripped in
     let next : suc turns ≡ turns + 1 = omega arith in
     let seeds : take (suc turns) (outer_seeds q) ≡ take turns (outer_seeds q) ++ seed ∷ []
-    = ap (λ (k : ℕ). take k (outer_seeds q)) next ∙ seeds-next q turns lt ∙ ap (λ (k : ℕ). take turns (outer_seeds q) ++ outer_seed q k ∷ []) (sym next) in
+    = ap (λ (k : ℕ). take k (outer_seeds q)) next ∙ seeds-next q turns lt
+    ∙ ap (λ (k : ℕ). take turns (outer_seeds q) ++ outer_seed q k ∷ []) (sym next) in
     record {
       list = said.list;
       bodies = rest.0;
@@ -60,7 +70,8 @@ lists_are_stripped q zero le right = record {
   order = IsPermutation-refl (submissions q);
 }
 lists_are_stripped q (suc turns) le right =
-    next_list q turns (omega arith) (lists_are_stripped q turns (omega arith) (λ turn least most. right turn least (omega arith))) (right (suc turns) (omega arith) (omega arith))
+    next_list q turns (omega arith) (lists_are_stripped q turns (omega arith) (λ turn least most. right turn least (omega arith)))
+    (right (suc turns) (omega arith) (omega arith))
 
 pub last_list_has : LastListHas
 last_list_has q long none =

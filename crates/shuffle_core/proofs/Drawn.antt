@@ -24,11 +24,13 @@ use Rattle.shuffle_core.specs.Shuffle.{drawn_stream, drawn_order, in_drawn_order
 narrow_step : {X : Type 0} → List X × Chooser × Stream → List X × Chooser × Stream
 narrow_step p = let d = chooser_next p.1 p.2 in (swap p.0 p.1.n d.0, d.1, d.2)
 
-narrow-suc : {X : Type 0} (xs : List X) (c : Chooser) (s : Stream) (k : ℕ) → narrow_swaps xs c s (suc k) ≡ narrow_step (narrow_swaps xs c s k)
+narrow-suc : {X : Type 0} (xs : List X) (c : Chooser) (s : Stream) (k : ℕ)
+    → narrow_swaps xs c s (suc k) ≡ narrow_step (narrow_swaps xs c s k)
 unfolding narrow_swaps narrow_step
 narrow-suc xs c s k = refl
 
-narrow_step-map : {X Y : Type 0} (f : X → Y) (p : List X × Chooser × Stream) → narrow_step (map f p.0, p.1, p.2) ≡ (map f (narrow_step p).0, (narrow_step p).1, (narrow_step p).2)
+narrow_step-map : {X Y : Type 0} (f : X → Y) (p : List X × Chooser × Stream)
+    → narrow_step (map f p.0, p.1, p.2) ≡ (map f (narrow_step p).0, (narrow_step p).1, (narrow_step p).2)
 unfolding narrow_step
 narrow_step-map f p = let d = chooser_next p.1 p.2 in ap (λ xs. (xs, d.1, d.2)) (sym (map-swap f p.0 p.1.n d.0))
 
@@ -61,12 +63,14 @@ first_of_pair false p q = refl
 
 shuffled-list : {X : Type 0} (xs : List X) (s : Stream) → (shuffled xs 0 s).0
     ≡ list_of (nat_lt (length xs) (2 ^ 32 - 1))
-    ((narrow_swaps xs (chooser_at 0) s (length xs - 0)).0, (narrow_swaps xs (chooser_at 0) s (length xs - 0)).2) (wide_swaps xs 0 s (length xs - 0))
+    ((narrow_swaps xs (chooser_at 0) s (length xs - 0)).0, (narrow_swaps xs (chooser_at 0) s (length xs - 0)).2)
+    (wide_swaps xs 0 s (length xs - 0))
 shuffled-list xs s =
     let p = narrow_swaps xs (chooser_at 0) s (length xs - 0) in
     first_of_pair (nat_lt (length xs) (2 ^ 32 - 1)) (p.0, p.2) (wide_swaps xs 0 s (length xs - 0))
 
-list_of-map : {X Y : Type 0} (f : X → Y) (b : Bool) (p q : List X × Stream) → list_of b (map f p.0, p.1) (map f q.0, q.1) ≡ map f (list_of b p q)
+list_of-map : {X Y : Type 0} (f : X → Y) (b : Bool) (p q : List X × Stream)
+    → list_of b (map f p.0, p.1) (map f q.0, q.1) ≡ map f (list_of b p q)
 unfolding list_of
 list_of-map f true p q = refl
 list_of-map f false p q = refl
@@ -83,11 +87,13 @@ by_place : (xs : List (List ℕ)) → xs ≡ map (λ place. get_or xs place []) 
 by_place xs = fill_by_all (λ place. get_or xs place []) xs (length xs) [] refl (λ k below. refl)
 
 -- the entries, shuffled themselves
-pub in_drawn_order-shuffled : (seed : List ℕ) (entries : List (List ℕ)) → (shuffled entries 0 (drawn_stream seed)).0 ≡ in_drawn_order seed entries
+pub in_drawn_order-shuffled : (seed : List ℕ) (entries : List (List ℕ))
+    → (shuffled entries 0 (drawn_stream seed)).0 ≡ in_drawn_order seed entries
 unfolding in_drawn_order drawn_order
 in_drawn_order-shuffled seed entries =
     let numbers = range_with_len 0 (length entries) in
-    ap (λ xs. (shuffled xs 0 (drawn_stream seed)).0) (by_place entries) ∙ shuffled-map (λ place. get_or entries place []) numbers (drawn_stream seed)
+    ap (λ xs. (shuffled xs 0 (drawn_stream seed)).0) (by_place entries)
+    ∙ shuffled-map (λ place. get_or entries place []) numbers (drawn_stream seed)
 
 -- ---- what a stream of words draws is below its bound
 
@@ -139,7 +145,8 @@ canon_draws range s some within wordy =
     let high_fits = plain m range w high low fits whole some in
     either (Draws range) (nat_lt (m - range) low) _ _
     (λ test. record {
-      below = either (λ (x : ℕ). x < range) _ (high + 1) high (λ _. carry_room m range w high low fits whole (grind (arith, nat_tests)) within) (λ _. high_fits);
+      below = either (λ (x : ℕ). x < range) _ (high + 1) high (λ _. carry_room m range w high low fits whole (grind (arith, nat_tests))
+          within) (λ _. high_fits);
       rest = after_is_wordy _ u32_call one;
     })
     (λ test. record { below = high_fits; rest = one })
@@ -152,13 +159,15 @@ record IsChunk (m : ℕ) (p : ℕ × ℕ) : Type 0 where
   some : 0 < p.1
   fits : p.0 < 2 ^ 32
 
-grow_is_chunk : (fuel m product current count : ℕ) → product ≡ rising m count → current ≡ m + count → 0 < count → product < 2 ^ 32 → IsChunk m (grow fuel product current count)
+grow_is_chunk : (fuel m product current count : ℕ) → product ≡ rising m count → current ≡ m + count → 0 < count → product < 2 ^ 32
+    → IsChunk m (grow fuel product current count)
 unfolding grow
 grow_is_chunk zero m product current count is at some fits = record { product = is; some = some; fits = fits }
 grow_is_chunk (suc fuel) m product current count is at some fits =
     either (IsChunk m) (nat_lt (2 ^ 32 - 1) (product * current)) _ _
     (λ test. record { product = is; some = some; fits = fits })
-    (λ test. grow_is_chunk fuel m (product * current) (current + 1) (count + 1) (rw (is, at) (sym (rising_more m count))) (omega arith) (omega arith) (grind (arith, nat_tests)))
+    (λ test. grow_is_chunk fuel m (product * current) (current + 1) (count + 1) (rw (is, at) (sym (rising_more m count))) (omega arith)
+    (omega arith) (grind (arith, nat_tests)))
 
 -- what is left of a draw is below the product of the factors that it still serves
 record IsSound (c : Chooser) : Type 0 where
@@ -189,7 +198,8 @@ next_is_next c s small sound wordy =
     let n = c.n in
     let r = chooser_refill c s in
     let filled = refill_is_refilled c s small sound wordy in
-    either (IsNext n) (r.1 == 1) (r.0, record { n = n + 1; chunk = r.0; left = 0 }, r.2) (r.0 % (n + 1), record { n = n + 1; chunk = r.0 / (n + 1); left = r.1 - 1 }, r.2)
+    either (IsNext n) (r.1 == 1) (r.0, record { n = n + 1; chunk = r.0; left = 0 }, r.2)
+    (r.0 % (n + 1), record { n = n + 1; chunk = r.0 / (n + 1); left = r.1 - 1 }, r.2)
     (λ test.
     let one : r.1 ≡ 1 = grind (arith, nat_tests) in
     record {
@@ -224,18 +234,27 @@ narrow_step_is_narrowed xs k p below few before =
     let d = chooser_next p.1 p.2 in
     record {
       moved = IsPermutation-trans xs p.0 (swap p.0 p.1.n d.0) before.moved
-          (IsPermutation-swap p.0 (swap p.0 p.1.n d.0) p.1.n d.0 (omega (arith, before.bound, long)) (omega (arith, before.bound, long, next.within)) refl);
+          (IsPermutation-swap p.0 (swap p.0 p.1.n d.0) p.1.n d.0 (omega (arith, before.bound, long))
+          (omega (arith, before.bound, long, next.within)) refl);
       bound = omega (arith, next.bound, before.bound);
       sound = next.sound;
       rest = next.rest;
     }
 
-narrow_is_narrowed : {X : Type 0} (xs : List X) (s : Stream) (k : ℕ) → k ≤ length xs → length xs < 2 ^ 32 → IsWordy s → IsNarrowed xs k (narrow_swaps xs (chooser_at 0) s k)
+narrow_is_narrowed : {X : Type 0} (xs : List X) (s : Stream) (k : ℕ) → k ≤ length xs → length xs < 2 ^ 32 → IsWordy s
+    → IsNarrowed xs k (narrow_swaps xs (chooser_at 0) s k)
 unfolding narrow_swaps rising
-narrow_is_narrowed xs s zero within few wordy = record { moved = IsPermutation-refl xs; bound = refl; sound = record { below = λ _. omega arith }; rest = wordy }
+narrow_is_narrowed xs s zero within few wordy = record {
+  moved = IsPermutation-refl xs;
+  bound = refl;
+  sound = record
+      { below = λ _. omega arith };
+  rest = wordy;
+}
 narrow_is_narrowed xs s (suc k) within few wordy =
     rw (narrow-suc xs (chooser_at 0) s k)
-    (narrow_step_is_narrowed xs k (narrow_swaps xs (chooser_at 0) s k) (omega arith) few (narrow_is_narrowed xs s k (omega arith) few wordy))
+    (narrow_step_is_narrowed xs k (narrow_swaps xs (chooser_at 0) s k) (omega arith) few
+    (narrow_is_narrowed xs s k (omega arith) few wordy))
 
 record IsWidened {X : Type 0} (xs : List X) (p : List X × Stream) : Type 0 where
   moved : IsPermutation xs p.0
@@ -248,7 +267,8 @@ usize_draws place s small wordy =
     (λ test. record { below = omega (arith, drawn.below); rest = drawn.rest })
     (λ test. absurd (grind (arith, nat_tests)))
 
-wide_step_is_widened : {X : Type 0} (xs : List X) (place : ℕ) (p : List X × Stream) → place < length xs → length xs < 2 ^ 32 → IsWidened xs p → IsWidened xs (wide_step place p)
+wide_step_is_widened : {X : Type 0} (xs : List X) (place : ℕ) (p : List X × Stream) → place < length xs → length xs < 2 ^ 32
+    → IsWidened xs p → IsWidened xs (wide_step place p)
 unfolding wide_step
 wide_step_is_widened xs place p below few before =
     let next = usize_draws place p.1 (omega arith) before.rest in
@@ -264,13 +284,16 @@ wide-suc : {X : Type 0} (xs : List X) (s : Stream) (k : ℕ) → wide_swaps xs 0
 unfolding wide_swaps wide_step
 wide-suc xs s k = refl
 
-wide_is_widened : {X : Type 0} (xs : List X) (s : Stream) (k : ℕ) → k ≤ length xs → length xs < 2 ^ 32 → IsWordy s → IsWidened xs (wide_swaps xs 0 s k)
+wide_is_widened : {X : Type 0} (xs : List X) (s : Stream) (k : ℕ) → k ≤ length xs → length xs < 2 ^ 32 → IsWordy s
+    → IsWidened xs (wide_swaps xs 0 s k)
 unfolding wide_swaps
 wide_is_widened xs s zero within few wordy = record { moved = IsPermutation-refl xs; rest = wordy }
 wide_is_widened xs s (suc k) within few wordy =
-    rw (wide-suc xs s k) (wide_step_is_widened xs (0 + k) (wide_swaps xs 0 s k) (omega arith) few (wide_is_widened xs s k (omega arith) few wordy))
+    rw (wide-suc xs s k) (wide_step_is_widened xs (0 + k) (wide_swaps xs 0 s k) (omega arith) few
+    (wide_is_widened xs s k (omega arith) few wordy))
 
-either_moves : {X : Type 0} (xs : List X) (b : Bool) (p q : List X × Stream) → IsPermutation xs p.0 → IsPermutation xs q.0 → IsPermutation xs (list_of b p q)
+either_moves : {X : Type 0} (xs : List X) (b : Bool) (p q : List X × Stream) → IsPermutation xs p.0 → IsPermutation xs q.0
+    → IsPermutation xs (list_of b p q)
 unfolding list_of
 either_moves xs true p q first second = first
 either_moves xs false p q first second = second
@@ -281,13 +304,16 @@ shuffled_moves xs s few wordy =
     let p = narrow_swaps xs (chooser_at 0) s n in
     let narrowed = narrow_is_narrowed xs s n (omega arith) few wordy in
     let widened = wide_is_widened xs s n (omega arith) few wordy in
-    rw (shuffled-list xs s) (either_moves xs (nat_lt (length xs) (2 ^ 32 - 1)) (p.0, p.2) (wide_swaps xs 0 s n) narrowed.moved widened.moved)
+    rw (shuffled-list xs s) (either_moves xs (nat_lt (length xs) (2 ^ 32 - 1)) (p.0, p.2) (wide_swaps xs 0 s n) narrowed.moved
+    widened.moved)
 
 -- ---- the two laws
 
 pub drawn_order_permutes : DrawnOrderPermutes
 unfolding drawn_order
-drawn_order_permutes seed n few = shuffled_moves (range_with_len 0 n) (drawn_stream seed) (rw (length-range_with_len 0 n) few) (drawn_is_wordy seed)
+drawn_order_permutes seed n few = shuffled_moves (range_with_len 0 n) (drawn_stream seed) (rw (length-range_with_len 0 n) few)
+    (drawn_is_wordy seed)
 
 pub entries_are_permuted : EntriesArePermuted
-entries_are_permuted seed entries few = rw (← in_drawn_order-shuffled seed entries) (shuffled_moves entries (drawn_stream seed) few (drawn_is_wordy seed))
+entries_are_permuted seed entries few = rw (← in_drawn_order-shuffled seed entries)
+    (shuffled_moves entries (drawn_stream seed) few (drawn_is_wordy seed))

@@ -8,7 +8,8 @@ use Rattle.wire_core.proofs.ByteLists.{hash_bytes}
 use Rattle.ring_encrypt.specs.Opening.{IsMessage}
 use Rattle.shuffle_core.specs.Laws.{SeedsAreMessages, SeedsAreByLayer}
 
-all_messages : (f : ℕ → List ℕ) (from n : ℕ) → ((layer : ℕ) → IsMessage (f layer)) → AllByRecursion IsMessage (map f (range_with_len from n))
+all_messages : (f : ℕ → List ℕ) (from n : ℕ) → ((layer : ℕ) → IsMessage (f layer))
+    → AllByRecursion IsMessage (map f (range_with_len from n))
 all_messages f from zero each = tt
 all_messages f from (suc n) each = (each from, all_messages f (from + 1) n each)
 

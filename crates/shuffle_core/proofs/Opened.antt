@@ -15,7 +15,8 @@ unfolding opened_item
 last_found None seeds = refl
 last_found (Some p) seeds = inner (opened_through seeds p.1)
   where
-    inner : (r : Option (List (List ℕ) × List ℕ)) → option_map (λ (found : List (List ℕ) × List ℕ). found.1) (option_map (λ (q : List (List ℕ) × List ℕ). (p.0 ∷ q.0, q.1)) r)
+    inner : (r : Option (List (List ℕ) × List ℕ)) → option_map (λ (found : List (List ℕ) × List ℕ). found.1)
+        (option_map (λ (q : List (List ℕ) × List ℕ). (p.0 ∷ q.0, q.1)) r)
         ≡ option_map (λ (found : List (List ℕ) × List ℕ). found.1) r
     inner None = refl
     inner (Some q) = refl
@@ -24,7 +25,8 @@ pub opened_item-nil : (entry : List ℕ) → opened_item [] entry ≡ Some entry
 unfolding opened_item opened_through
 opened_item-nil entry = refl
 
-pub opened_item-cons : (seed : List ℕ) (seeds : List (List ℕ)) (entry : List ℕ) → opened_item (seed ∷ seeds) entry ≡ option_and_then (opened_item seeds) (body_of seed entry)
+pub opened_item-cons : (seed : List ℕ) (seeds : List (List ℕ)) (entry : List ℕ)
+    → opened_item (seed ∷ seeds) entry ≡ option_and_then (opened_item seeds) (body_of seed entry)
 unfolding opened_item opened_through
 opened_item-cons seed seeds entry = last_found (peeled seed entry) seeds
 
@@ -39,8 +41,10 @@ opened_item-one : (seed : List ℕ) (o : Option (List ℕ)) → option_and_then 
 opened_item-one seed None = refl
 opened_item-one seed (Some body) = opened_item-nil body
 
-opened_item-push : (seed : List ℕ) (seeds : List (List ℕ)) (entry : List ℕ) → opened_item (seeds ++ seed ∷ []) entry ≡ option_and_then (body_of seed) (opened_item seeds entry)
-opened_item-push seed [] entry = opened_item-cons seed [] entry ∙ opened_item-one seed (body_of seed entry) ∙ sym (ap (option_and_then (body_of seed)) (opened_item-nil entry))
+opened_item-push : (seed : List ℕ) (seeds : List (List ℕ)) (entry : List ℕ)
+    → opened_item (seeds ++ seed ∷ []) entry ≡ option_and_then (body_of seed) (opened_item seeds entry)
+opened_item-push seed [] entry = opened_item-cons seed [] entry ∙ opened_item-one seed (body_of seed entry)
+    ∙ sym (ap (option_and_then (body_of seed)) (opened_item-nil entry))
 opened_item-push seed (first ∷ seeds) entry =
     opened_item-cons first (seeds ++ seed ∷ []) entry
     ∙ after_first seed seeds (body_of first entry) (opened_item-push seed seeds)
@@ -50,7 +54,8 @@ pub opened_list-nil : (entries : List (List ℕ)) → map Some entries ≡ opene
 opened_list-nil [] = refl
 opened_list-nil (entry ∷ entries) = rw (opened_item-nil entry, opened_list-nil entries) refl
 
-pub opened_list-push : (seed : List ℕ) (seeds entries : List (List ℕ)) → map (option_and_then (body_of seed)) (opened_list seeds entries) ≡ opened_list (seeds ++ seed ∷ []) entries
+pub opened_list-push : (seed : List ℕ) (seeds entries : List (List ℕ))
+    → map (option_and_then (body_of seed)) (opened_list seeds entries) ≡ opened_list (seeds ++ seed ∷ []) entries
 opened_list-push seed seeds [] = refl
 opened_list-push seed seeds (entry ∷ entries) = rw (← opened_item-push seed seeds entry, opened_list-push seed seeds entries) refl
 
@@ -64,7 +69,8 @@ body_shorter seed entry body (Some p) is e =
     let same : p.1 ≡ body = cc in
     omega (arith, ap length same)
 
-through : (seed entry item : List ℕ) (seeds : List (List ℕ)) (o : Option (List ℕ)) → body_of seed entry ≡ o → option_and_then (opened_item seeds) o ≡ Some item
+through : (seed entry item : List ℕ) (seeds : List (List ℕ)) (o : Option (List ℕ)) → body_of seed entry ≡ o
+    → option_and_then (opened_item seeds) o ≡ Some item
     → ((body : List ℕ) → opened_item seeds body ≡ Some item → length item ≤ length body) → length item ≤ length entry
 through seed entry item seeds None is e rest = cc
 through seed entry item seeds (Some body) is e rest =
@@ -78,7 +84,8 @@ item_shorter [] entry item e =
     let same : entry ≡ item = cc in
     omega (arith, ap length same)
 item_shorter (seed ∷ seeds) entry item e =
-    through seed entry item seeds (body_of seed entry) refl (sym (opened_item-cons seed seeds entry) ∙ e) (λ body f. item_shorter seeds body item f)
+    through seed entry item seeds (body_of seed entry) refl (sym (opened_item-cons seed seeds entry) ∙ e)
+    (λ body f. item_shorter seeds body item f)
 
 pub opened_list_short : (seeds entries : List (List ℕ)) (bound : ℕ) → All (λ entry. length entry < bound) entries
     → All (λ item. ForSome item (λ bytes. length bytes < bound)) (opened_list seeds entries)

@@ -28,22 +28,30 @@ opens_body seed entry body (Some p) is e =
     let same : p.1 ≡ body = same_found p.1 body e in
     (p.0, rw same at ((peels_exactly seed entry p.0 p.1).0 is))
 
-wrapped_more : (seed entry item : List ℕ) (seeds : List (List ℕ)) (o : Option (List ℕ)) → body_of seed entry ≡ o → option_and_then (opened_item seeds) o ≡ Some item
+wrapped_more : (seed entry item : List ℕ) (seeds : List (List ℕ)) (o : Option (List ℕ)) → body_of seed entry ≡ o
+    → option_and_then (opened_item seeds) o ≡ Some item
     → ((body : List ℕ) → opened_item seeds body ≡ Some item → IsWrapped seeds body item) → IsWrapped (seed ∷ seeds) entry item
 unfolding wrapping_of
 wrapped_more seed entry item seeds None is e rest = cc
 wrapped_more seed entry item seeds (Some body) is e rest =
     let inside = rest body e in
-    let outside = opens_body seed entry body (peeled seed entry) refl is in
-    (outside.0 ∷ inside.0, omega (arith, inside.1), (outside.1.message, inside.2), outside.1.is ∙ ap (layer_of (key_of_seed seed) outside.0) inside.3)
+    let outside = opens_body seed entry body (peeled seed entry) refl is in (
+      outside.0 ∷ inside.0,
+      omega (arith, inside.1),
+      (outside.1.message, inside.2),
+      outside.1.is
+          ∙ ap (layer_of (key_of_seed seed) outside.0) inside.3,
+    )
 
 wrapped_of : (seeds : List (List ℕ)) (entry item : List ℕ) → opened_item seeds entry ≡ Some item → IsWrapped seeds entry item
 unfolding wrapping_of
 wrapped_of [] entry item e = ([], refl, tt, same_found entry item (sym (opened_item-nil entry) ∙ e))
 wrapped_of (seed ∷ seeds) entry item e =
-    wrapped_more seed entry item seeds (body_of seed entry) refl (sym (opened_item-cons seed seeds entry) ∙ e) (λ body f. wrapped_of seeds body item f)
+    wrapped_more seed entry item seeds (body_of seed entry) refl (sym (opened_item-cons seed seeds entry) ∙ e)
+    (λ body f. wrapped_of seeds body item f)
 
-last_of : (seeds ms : List (List ℕ)) (entry item : List ℕ) → opened_through seeds entry ≡ Some (ms, item) → opened_item seeds entry ≡ Some item
+last_of : (seeds ms : List (List ℕ)) (entry item : List ℕ) → opened_through seeds entry ≡ Some (ms, item)
+    → opened_item seeds entry ≡ Some item
 unfolding opened_item
 last_of seeds ms entry item e = ap (option_map (λ (found : List (List ℕ) × List ℕ). found.1)) e
 
@@ -51,11 +59,14 @@ pub opens_to_what_is_wrapped : OpensToWhatIsWrapped
 opens_to_what_is_wrapped seeds entry item = (
   wrapped_of seeds entry item,
   λ wrapped.
-      rw wrapped.3 (last_of seeds wrapped.0 (wrapping_of (map key_of_seed seeds) wrapped.0 item) item (wrapped_opens seeds wrapped.0 item (sym wrapped.1) wrapped.2)),
+      rw wrapped.3 (last_of seeds wrapped.0 (wrapping_of (map key_of_seed seeds) wrapped.0 item) item
+      (wrapped_opens seeds wrapped.0 item (sym wrapped.1) wrapped.2)),
 )
 
-parts_more : (seed entry inside item : List ℕ) (first others : List (List ℕ)) (o : Option (List ℕ)) → option_and_then (opened_item first) o ≡ Some inside
-    → ((body : List ℕ) → opened_item first body ≡ Some inside → opened_item (first ++ others) body ≡ Some item) → option_and_then (opened_item (first ++ others)) o ≡ Some item
+parts_more : (seed entry inside item : List ℕ) (first others : List (List ℕ)) (o : Option (List ℕ))
+    → option_and_then (opened_item first) o ≡ Some inside
+    → ((body : List ℕ) → opened_item first body ≡ Some inside → opened_item (first ++ others) body ≡ Some item)
+    → option_and_then (opened_item (first ++ others)) o ≡ Some item
 parts_more seed entry inside item first others None e rest = cc
 parts_more seed entry inside item first others (Some body) e rest = rest body e
 
@@ -63,21 +74,29 @@ pub opens_in_parts : OpensInParts
 opens_in_parts [] others entry inside item e f = let same = same_found entry inside (sym (opened_item-nil entry) ∙ e) in rw same f
 opens_in_parts (seed ∷ first) others entry inside item e f =
     opened_item-cons seed (first ++ others) entry
-    ∙ parts_more seed entry inside item first others (body_of seed entry) (sym (opened_item-cons seed first entry) ∙ e) (λ body g. opens_in_parts first others body inside item g f)
+    ∙ parts_more seed entry inside item first others (body_of seed entry) (sym (opened_item-cons seed first entry) ∙ e)
+    (λ body g. opens_in_parts first others body inside item g f)
 
 pub submission_opens : SubmissionOpens
 submission_opens inner outer inner_ms outer_ms item made =
     let inside = wrapping_of (map key_of_seed inner) inner_ms item in
     let outside = wrapping_of (map key_of_seed outer) outer_ms inside in
-    let first : opened_through outer outside ≡ Some (outer_ms, inside) = wrapped_opens outer outer_ms inside (sym made.outer_seeds) made.outer_messages in
-    let second : opened_through inner inside ≡ Some (inner_ms, item) = wrapped_opens inner inner_ms item (sym made.inner_seeds) made.inner_messages in
-    (first, second, opens_in_parts outer inner outside inside item (last_of outer outer_ms outside inside first) (last_of inner inner_ms inside item second))
+    let first : opened_through outer outside ≡ Some (outer_ms, inside) = wrapped_opens outer outer_ms inside (sym made.outer_seeds)
+    made.outer_messages in
+    let second : opened_through inner inside ≡ Some (inner_ms, item) = wrapped_opens inner inner_ms item (sym made.inner_seeds)
+    made.inner_messages in (
+      first,
+      second,
+      opens_in_parts outer inner outside inside item (last_of outer outer_ms outside inside first)
+          (last_of inner inner_ms inside item second),
+    )
 
 pub submission_adds : SubmissionAdds
 submission_adds inner outer inner_ms outer_ms item many as_many =
     let inside = wrapping_of inner inner_ms item in
     let first : length inside ≡ length item + 2272 * length inner = wrapping_adds inner inner_ms item many in
-    let second : length (wrapping_of outer outer_ms inside) ≡ length inside + 2272 * length outer = wrapping_adds outer outer_ms inside as_many in
+    let second : length (wrapping_of outer outer_ms inside) ≡ length inside + 2272 * length outer = wrapping_adds outer outer_ms inside
+    as_many in
     (first, omega arith)
 
 -- ---- where an entry stands
@@ -86,14 +105,18 @@ not_true : (b : Bool) → (b ≡ true → ⊥) → b ≡ false
 not_true true h = absurd (h refl)
 not_true false h = refl
 
-holds_at : (entries : List (List ℕ)) (entry : List ℕ) (place : ℕ) → slice_get entries place ≡ Some entry → bytes_eq (get_or entries place []) entry ≡ true
+holds_at : (entries : List (List ℕ)) (entry : List ℕ) (place : ℕ) → slice_get entries place ≡ Some entry
+    → bytes_eq (get_or entries place []) entry ≡ true
 holds_at entries entry place e = (bytes_eq-Decides (get_or entries place []) entry).1 (get_or_from_slice_get entries place entry [] e)
 
-at_place : (entries : List (List ℕ)) (entry : List ℕ) (place : ℕ) → place < length entries → bytes_eq (get_or entries place []) entry ≡ true → slice_get entries place ≡ Some entry
-at_place entries entry place within test = slice_get-get_or entries place [] within ∙ ap Some ((bytes_eq-Decides (get_or entries place []) entry).0 test)
+at_place : (entries : List (List ℕ)) (entry : List ℕ) (place : ℕ) → place < length entries → bytes_eq (get_or entries place []) entry ≡ true
+    → slice_get entries place ≡ Some entry
+at_place entries entry place within test = slice_get-get_or entries place [] within
+    ∙ ap Some ((bytes_eq-Decides (get_or entries place []) entry).0 test)
 
 abbrev IsLeastPlace : List (List ℕ) → List ℕ → ℕ → Type 0
-IsLeastPlace entries entry place = (slice_get entries place ≡ Some entry) × ((earlier : ℕ) → earlier < place → slice_get entries earlier ≡ Some entry → ⊥)
+IsLeastPlace entries entry place = (slice_get entries place ≡ Some entry)
+    × ((earlier : ℕ) → earlier < place → slice_get entries earlier ≡ Some entry → ⊥)
 
 least : (entries : List (List ℕ)) (entry : List ℕ) (place : ℕ) → place_of entries entry ≡ Some place → IsLeastPlace entries entry place
 least entries entry place e =
@@ -129,7 +152,8 @@ missing entries entry e has =
     let first = position_or_len (λ other. bytes_eq other entry) entries in
     let test : nat_lt first (length entries) ≡ false = past (nat_lt first (length entries)) first e in
     let all : length entries ≤ first = grind (arith, nat_tests) in
-    let fails : bytes_eq (get_or entries has.0 entry) entry ≡ false = fails_before_first (λ other. bytes_eq other entry) entries has.0 entry (omega (arith, has.1)) in
+    let fails : bytes_eq (get_or entries has.0 entry) entry ≡ false = fails_before_first (λ other. bytes_eq other entry) entries has.0 entry
+    (omega (arith, has.1)) in
     let passes : bytes_eq (get_or entries has.0 entry) entry ≡ true = (bytes_eq-Decides (get_or entries has.0 entry) entry).1 has.2 in
     cc
 

@@ -33,7 +33,8 @@ same_tests false true there back = back refl
 same_tests false false there back = refl
 
 eq-flips : (x y : List ℕ) → bytes_eq x y ≡ bytes_eq y x
-eq-flips x y = same_tests (bytes_eq x y) (bytes_eq y x) (λ test. eq-true y x (sym (eq-same x y test))) (λ test. eq-true x y (sym (eq-same y x test)))
+eq-flips x y = same_tests (bytes_eq x y) (bytes_eq y x) (λ test. eq-true y x (sym (eq-same x y test)))
+    (λ test. eq-true x y (sym (eq-same y x test)))
 
 neither : (a b : Bool) → (a || b) ≡ false → (a ≡ false) × (b ≡ false)
 neither true b e = cc
@@ -71,7 +72,12 @@ differ (x ∷ xs) e =
 differing : (xs : List (List ℕ)) → IsDistinct bytes_eq xs → has_equal xs ≡ false
 differing [] distinct = has_equal-nil
 differing (x ∷ xs) distinct =
-    rw (has_equal-cons x xs, pass_none (bytes_eq x) xs (IsDistinct-head bytes_eq x xs distinct), differing xs (IsDistinct-tail bytes_eq x xs distinct)) refl
+    rw (
+      has_equal-cons x xs,
+      pass_none (bytes_eq x) xs (IsDistinct-head bytes_eq x xs distinct),
+      differing xs
+          (IsDistinct-tail bytes_eq x xs distinct),
+    ) refl
 
 apart : (xs : List (List ℕ)) → has_equal xs ≡ false → AreDistinct xs
 apart xs e i j d before within same =
@@ -81,7 +87,8 @@ apart xs e i j d before within same =
 
 from_apart : (xs : List (List ℕ)) → AreDistinct xs → has_equal xs ≡ false
 from_apart xs distinct =
-    differing xs (IsDistinct-from_apart bytes_eq xs (λ i j d before within. eq-false (get_or xs i d) (get_or xs j d) (distinct i j d before within)))
+    differing xs (IsDistinct-from_apart bytes_eq xs (λ i j d before within. eq-false (get_or xs i d) (get_or xs j d)
+    (distinct i j d before within)))
 
 pub distinct_are_found : DistinctAreFound
 distinct_are_found xs = (apart xs, from_apart xs)
@@ -124,8 +131,13 @@ permutation_keeps xs ys moved = (
 
 -- ---- a turn
 
-said : (seed order_seed : List ℕ) (entries : List (List ℕ)) (equal : Bool) (bodies : Option (List (List ℕ))) → has_equal entries ≡ equal → stripped seed entries ≡ bodies
-    → turn_of seed order_seed entries ≡ (elim equal [ true ↦ Abort | false ↦ elim bodies [ None ↦ Abort | Some list ↦ Shuffled (in_drawn_order order_seed list) ] ])
+said : (seed order_seed : List ℕ) (entries : List (List ℕ)) (equal : Bool) (bodies : Option (List (List ℕ))) → has_equal entries ≡ equal
+    → stripped seed entries ≡ bodies
+    → turn_of seed order_seed entries ≡ (elim equal [
+      | true ↦ Abort
+      | false ↦ elim bodies
+          [ None ↦ Abort | Some list ↦ Shuffled (in_drawn_order order_seed list) ]
+    ])
 unfolding turn_of
 said seed order_seed entries true bodies equal is = rw equal refl
 said seed order_seed entries false None equal is = rw (equal, is) refl
@@ -133,24 +145,38 @@ said seed order_seed entries false (Some list) equal is = rw (equal, is) refl
 
 pub turn_permutes : TurnPermutes
 turn_permutes seed order_seed entries bodies few distinct is =
-    let long = strips_all seed entries bodies is in
-    (in_drawn_order order_seed bodies, said seed order_seed entries false (Some bodies) (from_apart entries distinct) is, entries_are_permuted order_seed bodies (omega arith))
+    let long = strips_all seed entries bodies is in (
+      in_drawn_order order_seed bodies,
+      said seed order_seed entries false (Some bodies) (from_apart entries distinct) is,
+      entries_are_permuted order_seed bodies (omega arith),
+    )
 
 same_list : (x y : List (List ℕ)) → Shuffled x ≡ Shuffled y → x ≡ y
 same_list x y e = cc
 
-says : (seed order_seed : List ℕ) (entries list : List (List ℕ)) (equal : Bool) (bodies : Option (List (List ℕ))) → has_equal entries ≡ equal → stripped seed entries ≡ bodies
+says : (seed order_seed : List ℕ) (entries list : List (List ℕ)) (equal : Bool) (bodies : Option (List (List ℕ)))
+    → has_equal entries ≡ equal → stripped seed entries ≡ bodies
     → turn_of seed order_seed entries ≡ Shuffled list
     → AreDistinct entries × ((bodies : List (List ℕ)) × (stripped seed entries ≡ Some bodies) × (list ≡ in_drawn_order order_seed bodies))
-says seed order_seed entries list true bodies equal is e = let abort : Abort ≡ Shuffled list = sym (said seed order_seed entries true bodies equal is) ∙ e in cc
-says seed order_seed entries list false None equal is e = let abort : Abort ≡ Shuffled list = sym (said seed order_seed entries false None equal is) ∙ e in cc
-says seed order_seed entries list false (Some bodies) equal is e =
-    (apart entries equal, (bodies, is, same_list list (in_drawn_order order_seed bodies) (sym e ∙ said seed order_seed entries false (Some bodies) equal is)))
+says seed order_seed entries list true bodies equal is e = let abort : Abort ≡ Shuffled list = sym
+    (said seed order_seed entries true bodies equal is) ∙ e in cc
+says seed order_seed entries list false None equal is e = let abort : Abort ≡ Shuffled list = sym
+    (said seed order_seed entries false None equal is) ∙ e in cc
+says seed order_seed entries list false (Some bodies) equal is e = (
+  apart entries equal,
+  (
+    bodies,
+    is,
+    same_list list (in_drawn_order order_seed bodies)
+        (sym e ∙ said seed order_seed entries false (Some bodies) equal is),
+  ),
+)
 
 pub turn_says_bodies : TurnSaysBodies
 turn_says_bodies seed order_seed entries list e = says seed order_seed entries list (has_equal entries) (stripped seed entries) refl refl e
 
-aborts : (seed order_seed : List ℕ) (entries : List (List ℕ)) (equal : Bool) (bodies : Option (List (List ℕ))) → has_equal entries ≡ equal → stripped seed entries ≡ bodies
+aborts : (seed order_seed : List ℕ) (entries : List (List ℕ)) (equal : Bool) (bodies : Option (List (List ℕ))) → has_equal entries ≡ equal
+    → stripped seed entries ≡ bodies
     → turn_of seed order_seed entries ≡ Abort → (has_equal entries ≡ true) ⊎ (stripped seed entries ≡ None)
 aborts seed order_seed entries true bodies equal is e = inl equal
 aborts seed order_seed entries false None equal is e = inr is

@@ -15,7 +15,8 @@ use Rattle.shuffle_core.specs.Shuffle.{layer_seeds_of, submission_of, has_equal,
 -- a seed for each layer, each of 32 bytes
 abbrev pub SeedsAreMessages : Type 0
 SeedsAreMessages = (opening : List ℕ) (round shuffle side member n : ℕ) →
-    (length (layer_seeds_of opening round shuffle side member n) ≡ n) × AllByRecursion IsMessage (layer_seeds_of opening round shuffle side member n)
+    (length (layer_seeds_of opening round shuffle side member n) ≡ n)
+    × AllByRecursion IsMessage (layer_seeds_of opening round shuffle side member n)
 
 -- the first is that of layer 1
 abbrev pub SeedsAreByLayer : Type 0
@@ -78,7 +79,8 @@ TurnAborts = (seed order_seed : List ℕ) (entries : List (List ℕ)) →
 
 -- what is opened to an item is the item in layers under the keys of the seeds
 abbrev pub IsWrapped : List (List ℕ) → List ℕ → List ℕ → Type 0
-IsWrapped seeds entry item = (ms : List (List ℕ)) × (length ms ≡ length seeds) × AllByRecursion IsMessage ms × (entry ≡ wrapping_of (map key_of_seed seeds) ms item)
+IsWrapped seeds entry item = (ms : List (List ℕ)) × (length ms ≡ length seeds) × AllByRecursion IsMessage ms
+    × (entry ≡ wrapping_of (map key_of_seed seeds) ms item)
 
 -- a list of seeds opens an entry exactly to the item that is in it
 abbrev pub OpensToWhatIsWrapped : Type 0

@@ -100,17 +100,22 @@ framed-again post fits =
     let front : take 4 bytes ≡ head = ap (take 4) grouped ∙ take_at head (c ++ s) 4 refl in
     let back : drop 4 bytes ≡ c ++ s = ap (drop 4) grouped ∙ drop_at head (c ++ s) 4 refl in
     let word : word_at bytes 0 ≡ n = ap (from_be_bytes w32) front ∙ from_be_bytes-to_be_bytes_4 n small in
-    let content : take (word_at bytes 0) (drop 4 bytes) ≡ c = ap (λ (m : ℕ). take m (drop 4 bytes)) word ∙ ap (take n) back ∙ take_at c s n refl in
-    let signature : drop (4 + word_at bytes 0) bytes ≡ s = ap (λ (m : ℕ). drop (4 + m) bytes) word ∙ sym (drop-drop n 4 bytes) ∙ ap (drop n) back ∙ drop_at c s n refl in
+    let content : take (word_at bytes 0) (drop 4 bytes) ≡ c = ap (λ (m : ℕ). take m (drop 4 bytes)) word ∙ ap (take n) back
+    ∙ take_at c s n refl in
+    let signature : drop (4 + word_at bytes 0) bytes ≡ s = ap (λ (m : ℕ). drop (4 + m) bytes) word ∙ sym (drop-drop n 4 bytes)
+    ∙ ap (drop n) back ∙ drop_at c s n refl in
     let o1 = fault_unless (nat_le (length bytes) POST_LIMIT) 0 in
     let o2 = fault_unless (nat_le 4 (length bytes)) (length bytes) in
     let o3 = fault_unless (nat_le LEAST_CONTENT (word_at bytes 0)) 0 in
     let o4 = fault_unless (nat_le (4 + word_at bytes 0) (length bytes)) (length bytes) in
     let none : frame_fault bytes ≡ None =
-    first_some-none o1 (o2 ∷ o3 ∷ o4 ∷ []) (fault_unless-true (nat_le (length bytes) POST_LIMIT) 0 (le-leb _ _ (omega (arith, fits.most, long))))
+    first_some-none o1 (o2 ∷ o3 ∷ o4 ∷ []) (fault_unless-true (nat_le (length bytes) POST_LIMIT) 0
+    (le-leb _ _ (omega (arith, fits.most, long))))
     ∙ first_some-none o2 (o3 ∷ o4 ∷ []) (fault_unless-true (nat_le 4 (length bytes)) (length bytes) (le-leb _ _ (omega (arith, long))))
-    ∙ first_some-none o3 (o4 ∷ []) (fault_unless-true (nat_le LEAST_CONTENT (word_at bytes 0)) 0 (le-leb _ _ (omega (arith, fits.least, word))))
-    ∙ first_some-none o4 [] (fault_unless-true (nat_le (4 + word_at bytes 0) (length bytes)) (length bytes) (le-leb _ _ (omega (arith, long, word)))) in
+    ∙ first_some-none o3 (o4 ∷ []) (fault_unless-true (nat_le LEAST_CONTENT (word_at bytes 0)) 0
+    (le-leb _ _ (omega (arith, fits.least, word))))
+    ∙ first_some-none o4 [] (fault_unless-true (nat_le (4 + word_at bytes 0) (length bytes)) (length bytes)
+    (le-leb _ _ (omega (arith, long, word)))) in
     ap (λ (o : Option ℕ). value_unless o (spelled_post bytes)) none
     ∙ ap (λ (x : List ℕ). ok x (drop (4 + word_at bytes 0) bytes)) content
     ∙ ap (λ (x : List ℕ). ok c x) signature
@@ -119,16 +124,20 @@ framed-again post fits =
     ok content signature = Ok (record { content = content; signature = signature })
 
 -- what a reader returned fits a frame and is spelled so
-pub read-found : (bytes : List ℕ) (result : Result Post ReadRefusal) → IsBytes bytes → Gives fault_of_refusal (λ post. post) result (frame_of bytes) → IfOk result (λ post. FitsFrame post × (bytes ≡ post_spelling post))
+pub read-found : (bytes : List ℕ) (result : Result Post ReadRefusal) → IsBytes bytes
+    → Gives fault_of_refusal (λ post. post) result (frame_of bytes) → IfOk result (λ post. FitsFrame post × (bytes ≡ post_spelling post))
 read-found bytes (Ok post) fits given = framed-found bytes post fits given
 read-found bytes (Err e) fits given = tt
 
 -- and what fits a frame and is spelled so is what it returned
-pub read-only : (bytes : List ℕ) (result : Result Post ReadRefusal) (post : Post) → Gives fault_of_refusal (λ post. post) result (frame_of bytes) → FitsFrame post → bytes ≡ post_spelling post → Gives fault_of_refusal (λ post. post) result (Ok post)
+pub read-only : (bytes : List ℕ) (result : Result Post ReadRefusal) (post : Post)
+    → Gives fault_of_refusal (λ post. post) result (frame_of bytes) → FitsFrame post → bytes ≡ post_spelling post
+    → Gives fault_of_refusal (λ post. post) result (Ok post)
 read-only bytes result post given fits e =
     subst (λ (read : Result Post ℕ). Gives fault_of_refusal (λ post. post) result read) (ap frame_of e ∙ framed-again post fits) given
 
 -- what a writer returned is read back
-pub written-back : {E : Type 0} (post : Post) (result : Result (Vec ℕ Global) E) → IfOk result (λ bytes. bytes.items ≡ post_spelling post) → IfOk result (λ bytes. FitsFrame post → frame_of bytes.items ≡ Ok post)
+pub written-back : {E : Type 0} (post : Post) (result : Result (Vec ℕ Global) E) → IfOk result (λ bytes. bytes.items ≡ post_spelling post)
+    → IfOk result (λ bytes. FitsFrame post → frame_of bytes.items ≡ Ok post)
 written-back post (Ok bytes) is = λ fits. ap frame_of is ∙ framed-again post fits
 written-back post (Err e) is = tt

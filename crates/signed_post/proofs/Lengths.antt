@@ -53,7 +53,17 @@ pub valid-short : (key : LmsPublic) (message sig : List ℕ) → LmsValid key me
 valid-short key message sig v =
     let whole : length sig ≡ length (u32str v.q) + length v.ots + length (u32str (tree_number key.lms_type)) + length v.path =
     ap length v.parts ∙ four_parts (u32str v.q) v.ots (u32str (tree_number key.lms_type)) v.path in
-    omega (arith, whole, length-u32str v.q, length-u32str (tree_number key.lms_type), v.ots_length, v.path_length, one_time_short key.ots_type, low key.lms_type)
+    omega (
+      arith,
+      whole,
+      length-u32str v.q,
+      length-u32str (tree_number key.lms_type),
+      v.ots_length,
+      v.path_length,
+      one_time_short
+          key.ots_type,
+      low key.lms_type,
+    )
 
 spelled-long : (post : Post) → length (post_spelling post) ≡ 4 + length post.content + length post.signature
 spelled-long post =

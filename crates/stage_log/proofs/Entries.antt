@@ -15,7 +15,8 @@ use Rattle.phase_message.proofs.SlotLists.{slot_number-most, slots_before-most, 
 use Rattle.stage_log.specs.Table.{Log, IsKept, IsLog, kept_in, filled}
 
 -- a slot has a place
-pub number-within : (log : Log) (slot : Slot) → IsLog log → is_slot log.shape slot.stage slot.sender ≡ true → slot_number log.shape slot.stage slot.sender < length log.posts
+pub number-within : (log : Log) (slot : Slot) → IsLog log → is_slot log.shape slot.stage slot.sender ≡ true
+    → slot_number log.shape slot.stage slot.sender < length log.posts
 number-within log slot is speaks = omega (arith, is.places, slot_number-most log.shape slot.stage slot.sender speaks)
 
 -- what stands there is what the log keeps
@@ -23,17 +24,21 @@ pub kept_in-at : (log : Log) (slot : Slot) (number : ℕ) (entry : Option Post) 
     → number ≡ slot_number log.shape slot.stage slot.sender → entry ≡ get_or log.posts number entry → kept_in log slot ≡ entry
 kept_in-at log slot number entry is speaks number_is entry_is =
     let within = number-within log slot is speaks in
-    cond-true (is_slot log.shape slot.stage slot.sender) (option_flatten (slice_get log.posts (slot_number log.shape slot.stage slot.sender))) None speaks
+    cond-true (is_slot log.shape slot.stage slot.sender) (option_flatten
+    (slice_get log.posts (slot_number log.shape slot.stage slot.sender))) None speaks
     ∙ ap (λ (k : ℕ). option_flatten (slice_get log.posts k)) (sym number_is)
-    ∙ ap (λ (o : Option (Option Post)). option_flatten o) (slice_get_read log.posts (length log.posts) number entry refl (omega arith) entry_is)
+    ∙ ap (λ (o : Option (Option Post)). option_flatten o) (slice_get_read log.posts (length log.posts) number entry refl (omega arith)
+    entry_is)
 
 -- and can be kept
-pub entry-kept : (log : Log) (number : ℕ) (entry : Option Post) → IsLog log → number < length log.posts → entry ≡ get_or log.posts number entry
+pub entry-kept : (log : Log) (number : ℕ) (entry : Option Post) → IsLog log → number < length log.posts
+    → entry ≡ get_or log.posts number entry
     → IfSome entry (λ (post : Post). IsKept post.content)
 entry-kept log number entry is within entry_is =
     subst (λ (o : Option Post). IfSome o (λ (post : Post). IsKept post.content)) (sym entry_is) (is.contents number entry within)
 
-pub copied-kept : (o : Option (Bor Post)) (entry : Option Post) → option_copied o ≡ entry → IfSome entry (λ (post : Post). IsKept post.content) → IfSome o (λ post. IsKept post.now.content)
+pub copied-kept : (o : Option (Bor Post)) (entry : Option Post) → option_copied o ≡ entry
+    → IfSome entry (λ (post : Post). IsKept post.content) → IfSome o (λ post. IsKept post.now.content)
 copied-kept None entry e kept = tt
 copied-kept (Some post) entry e kept = subst (λ (o : Option Post). IfSome o (λ (post : Post). IsKept post.content)) (sym e) kept
 
@@ -42,7 +47,8 @@ pub filled-is_log : (log : Log) (slot : Slot) (post : Post) → IsLog log → Is
 filled-is_log log slot post is kept = record {
   shape = is.shape;
   places = length-set log.posts (slot_number log.shape slot.stage slot.sender) (Some post) ∙ is.places;
-  contents = All-set (λ (kept : Option Post). IfSome kept (λ (post : Post). IsKept post.content)) log.posts (slot_number log.shape slot.stage slot.sender) (Some post) kept is.contents;
+  contents = All-set (λ (kept : Option Post). IfSome kept (λ (post : Post). IsKept post.content)) log.posts
+      (slot_number log.shape slot.stage slot.sender) (Some post) kept is.contents;
 }
 
 -- the slots before a stage have places
@@ -50,7 +56,8 @@ pub before-within : (log : Log) (stage : ℕ) → IsLog log → slots_before log
 before-within log stage is = omega (arith, is.places, slots_before-most log.shape stage)
 
 -- behind the last number of 8 bits there are no more slots
-pub before-next : (log : Log) (stage next : ℕ) → IsLog log → stage < 256 → next ≡ min (stage + 1) 255 → slots_before log.shape next ≡ slots_before log.shape (stage + 1)
+pub before-next : (log : Log) (stage next : ℕ) → IsLog log → stage < 256 → next ≡ min (stage + 1) 255
+    → slots_before log.shape next ≡ slots_before log.shape (stage + 1)
 before-next log stage next is small e =
     elim (cases_lt stage 255) [
       | inl lt ↦ (let same : next ≡ stage + 1 = omega (arith, e) in ap (λ (t : ℕ). slots_before log.shape t) same)

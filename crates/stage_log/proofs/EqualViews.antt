@@ -44,18 +44,22 @@ contains-tail s t strings there = (suc there.0, omega (arith, there.1), there.2)
 
 -- ---- equal views
 
-next-front : (shape : Shape) (past : List (List ℕ)) (stage : ℕ) → take (slots_before shape (suc stage)) past ≡ take (slots_before shape stage) past ++ contents_at shape past stage
+next-front : (shape : Shape) (past : List (List ℕ)) (stage : ℕ)
+    → take (slots_before shape (suc stage)) past ≡ take (slots_before shape stage) past ++ contents_at shape past stage
 next-front shape past stage =
     ap (λ (t : ℕ). take (slots_before shape t) past) (sym (add-one stage))
     ∙ front-next past (slots_before shape stage) (slots_before shape (stage + 1)) (slots_before-rises shape stage (stage + 1) (omega arith))
 
-pub views-equal : (shape : Shape) (past other : List (List ℕ)) (stage : ℕ) → ArePieces past → ArePieces other → view_of shape past stage ≡ view_of shape other stage
-    → (take (slots_before shape stage) past ≡ take (slots_before shape stage) other) ⊎ SomeCollide (view_strings shape past stage) (view_strings shape other stage)
+pub views-equal : (shape : Shape) (past other : List (List ℕ)) (stage : ℕ) → ArePieces past → ArePieces other
+    → view_of shape past stage ≡ view_of shape other stage
+    → (take (slots_before shape stage) past ≡ take (slots_before shape stage) other)
+    ⊎ SomeCollide (view_strings shape past stage) (view_strings shape other stage)
 views-equal shape past other zero all all' e = inl refl
 views-equal shape past other (suc stage) all all' e =
     let pieces : List (List ℕ) = view_of shape past stage ∷ contents_at shape past stage in
     let pieces' : List (List ℕ) = view_of shape other stage ∷ contents_at shape other stage in
-    elim (collide_or_same View View pieces pieces' (view-short shape past stage, contents_at-pieces shape past stage all) (view-short shape other stage, contents_at-pieces shape other stage all') e) [
+    elim (collide_or_same View View pieces pieces' (view-short shape past stage, contents_at-pieces shape past stage all)
+    (view-short shape other stage, contents_at-pieces shape other stage all') e) [
       | inl same ↦
           let both : pieces ≡ pieces' = same.1 in
           let views : view_of shape past stage ≡ view_of shape other stage = cc in
@@ -91,5 +95,6 @@ pub views-determine : (shape : Shape) (past other strings : List (List ℕ)) (st
 views-determine shape past other strings stage all all' within within' none e =
     elim (views-equal shape past other stage all all' e) [
       | inl same ↦ same
-      | inr some ↦ absurd (some.collide.0 (none some.string some.other (within some.string some.first) (within' some.other some.second) some.collide.1))
+      | inr some ↦ absurd (some.collide.0 (none some.string some.other (within some.string some.first) (within' some.other some.second)
+          some.collide.1))
     ]

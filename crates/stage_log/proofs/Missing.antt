@@ -14,12 +14,14 @@ range-more a (suc n) =
     ap (λ (t : List ℕ). a ∷ t) (range-more (a + 1) n ∙ ap (λ (k : ℕ). range_with_len (a + 1) n ++ k ∷ []) e)
 
 -- the bits of one member more
-pub bits-next : (f : ℕ → ℕ) (member bits : ℕ) → 1 ≤ member → bits ≡ sum_by f (range_with_len 1 (member - 1)) → bits + f member ≡ sum_by f (range_with_len 1 (member + 1 - 1))
+pub bits-next : (f : ℕ → ℕ) (member bits : ℕ) → 1 ≤ member → bits ≡ sum_by f (range_with_len 1 (member - 1))
+    → bits + f member ≡ sum_by f (range_with_len 1 (member + 1 - 1))
 bits-next f member bits least e =
     let next : member + 1 - 1 ≡ suc (member - 1) = omega arith in
     let same : 1 + (member - 1) ≡ member = omega arith in
     let more : sum_by f (range_with_len 1 (member + 1 - 1)) ≡ sum_by f (range_with_len 1 (member - 1)) + f (1 + (member - 1)) =
-    ap (λ (k : ℕ). sum_by f (range_with_len 1 k)) next ∙ ap (sum_by f) (range-more 1 (member - 1)) ∙ sum_by_push f (range_with_len 1 (member - 1)) (1 + (member - 1)) in
+    ap (λ (k : ℕ). sum_by f (range_with_len 1 k)) next ∙ ap (sum_by f) (range-more 1 (member - 1))
+    ∙ sum_by_push f (range_with_len 1 (member - 1)) (1 + (member - 1)) in
     omega (arith, more, ap f same)
 
 pub bits-below : (member bits bit : ℕ) → 1 ≤ member → bits < 2 ^ (member - 1) → bit ≤ 2 ^ (member - 1) → bits + bit < 2 ^ (member + 1 - 1)

@@ -82,11 +82,14 @@ AreKept-slice_range places a b kept =
     All-take P (b - a) (drop a places) (All-drop P a places kept)
 
 -- where all stages before are complete, the posts of the first places are those of the past
-pub before-kept : (log : Log) (stage : ℕ) → IsSome (before log stage) → before log stage ≡ Some (posts_kept (take (slots_before log.shape stage) log.posts))
+pub before-kept : (log : Log) (stage : ℕ) → IsSome (before log stage)
+    → before log stage ≡ Some (posts_kept (take (slots_before log.shape stage) log.posts))
 before-kept log stage is =
     let past = some_of (before log stage) is in
-    past.1 ∙ ap (λ (posts : List Post). Some posts) (sym (ap posts_kept (all_some-is (take (slots_before log.shape stage) log.posts) past.0 past.1) ∙ posts_kept-map past.0))
+    past.1 ∙ ap (λ (posts : List Post). Some posts) (sym (ap posts_kept
+    (all_some-is (take (slots_before log.shape stage) log.posts) past.0 past.1) ∙ posts_kept-map past.0))
 
-pub kept-ok : {A E : Type 0} (items : A → List Post) (o : Option (List Post)) (kept : List Post) (r : Result A E) → o ≡ Some kept → IfOk r (λ x. items x ≡ kept) → IfOk r (λ x. o ≡ Some (items x))
+pub kept-ok : {A E : Type 0} (items : A → List Post) (o : Option (List Post)) (kept : List Post) (r : Result A E) → o ≡ Some kept
+    → IfOk r (λ x. items x ≡ kept) → IfOk r (λ x. o ≡ Some (items x))
 kept-ok items o kept (Ok x) e is = e ∙ ap (λ (posts : List Post). Some posts) (sym is)
 kept-ok items o kept (Err d) e is = tt

@@ -23,19 +23,22 @@ use Rattle.stage_log.proofs.SlotPlaces.{slot_at-sender}
 
 -- ---- from a stage to the next
 
-pub view_of-next : (shape : Shape) (past : List (List ℕ)) (stage : ℕ) → view_of shape past (stage + 1) ≡ hash_of View (view_of shape past stage ∷ contents_at shape past stage)
+pub view_of-next : (shape : Shape) (past : List (List ℕ)) (stage : ℕ)
+    → view_of shape past (stage + 1) ≡ hash_of View (view_of shape past stage ∷ contents_at shape past stage)
 view_of-next shape past stage = ap (view_of shape past) (add-one stage)
 
 -- the view is carried on over the places of a stage
 pub next_view : (log : Log) (stage later : ℕ) (posts : List Post) → stage < later → before log later ≡ Some posts
-    → hash_of View (view_of log.shape (contents_of posts) stage ∷ contents_in (posts_in log stage)) ≡ view_of log.shape (contents_of posts) (stage + 1)
+    → hash_of View (view_of log.shape (contents_of posts) stage ∷ contents_in (posts_in log stage)) ≡ view_of log.shape (contents_of posts)
+    (stage + 1)
 next_view log stage later posts lt e =
     ap (λ (t : List (List ℕ)). hash_of View (view_of log.shape (contents_of posts) stage ∷ t)) (contents_in-past log stage later posts lt e)
     ∙ sym (view_of-next log.shape (contents_of posts) stage)
 
 -- ---- the places of a stage
 
-pub length-posts_in : (log : Log) (stage : ℕ) → IsLog log → length (posts_in log stage) ≡ slots_before log.shape (stage + 1) - slots_before log.shape stage
+pub length-posts_in : (log : Log) (stage : ℕ) → IsLog log → length (posts_in log stage) ≡ slots_before log.shape (stage + 1) - slots_before
+    log.shape stage
 length-posts_in log stage is =
     let a : ℕ = slots_before log.shape stage in
     let b : ℕ = slots_before log.shape (stage + 1) in
@@ -62,7 +65,8 @@ some_content (Some post) = refl
 -- the content at a place of a stage is that of the past at its number
 place-content : (log : Log) (stage later : ℕ) (posts : List Post) (place : ℕ) → stage < later → before log later ≡ Some posts
     → slots_before log.shape stage + place < slots_before log.shape (stage + 1)
-    → option_and_then content_in (slice_get (posts_in log stage) place) ≡ slice_get (contents_of posts) (slots_before log.shape stage + place)
+    → option_and_then content_in (slice_get (posts_in log stage) place) ≡ slice_get (contents_of posts)
+    (slots_before log.shape stage + place)
 place-content log stage later posts place lt e within =
     let a : ℕ = slots_before log.shape stage in
     let b : ℕ = slots_before log.shape (stage + 1) in
@@ -76,8 +80,10 @@ place-content log stage later posts place lt e within =
 
 -- whether the slot of a place is right: its content carries the view of the stage
 place-right : (log : Log) (stage later : ℕ) (posts : List Post) (place : ℕ) (slot : Slot) → stage < later → before log later ≡ Some posts
-    → slots_before log.shape stage + place < slots_before log.shape (stage + 1) → slot_at log.shape (slots_before log.shape stage + place) ≡ Some slot
-    → is_right log.shape (contents_of posts) slot ≡ is_carried (view_of log.shape (contents_of posts) stage) (option_and_then content_in (slice_get (posts_in log stage) place))
+    → slots_before log.shape stage + place < slots_before log.shape (stage + 1)
+    → slot_at log.shape (slots_before log.shape stage + place) ≡ Some slot
+    → is_right log.shape (contents_of posts) slot ≡ is_carried (view_of log.shape (contents_of posts) stage)
+    (option_and_then content_in (slice_get (posts_in log stage) place))
 place-right log stage later posts place slot lt e within at =
     let past : List (List ℕ) = contents_of posts in
     let found = slot_at-sender log.shape stage place within in
@@ -87,43 +93,59 @@ place-right log stage later posts place slot lt e within at =
     ∙ ap (λ (k : ℕ). is_carried (view_of log.shape past stage) (slice_get past k)) number_is
     ∙ ap (is_carried (view_of log.shape past stage)) (sym (place-content log stage later posts place lt e within))
   where
-    stage-same : (slot : Slot) (o : Option Slot) (sender stage : ℕ) → o ≡ Some slot → o ≡ Some (record { stage = stage; sender = sender }) → slot.stage ≡ stage
-    stage-same slot o sender stage e e' = let same : slot ≡ record { stage = stage; sender = sender } = cc in ap (λ (s : Slot). s.stage) same
+    stage-same : (slot : Slot) (o : Option Slot) (sender stage : ℕ) → o ≡ Some slot → o ≡ Some (record { stage = stage; sender = sender })
+        → slot.stage ≡ stage
+    stage-same slot o sender stage e e' = let same : slot ≡ record { stage = stage; sender = sender } = cc in ap (λ (s : Slot). s.stage)
+        same
 
-unlike-none : (view : List ℕ) (places : List (Option Post)) (place : ℕ) → unlike_at view places place ≡ None → is_carried view (option_and_then content_in (slice_get places place)) ≡ true
+unlike-none : (view : List ℕ) (places : List (Option Post)) (place : ℕ) → unlike_at view places place ≡ None
+    → is_carried view (option_and_then content_in (slice_get places place)) ≡ true
 unlike-none view places place e =
     elim (cases_Bool (is_carried view (option_and_then content_in (slice_get places place)))) [
       | inl passes ↦ passes
-      | inr fails ↦ absurd (let some = cond-false (is_carried view (option_and_then content_in (slice_get places place))) None (Some place) fails in cc)
+      | inr fails ↦ absurd (let some = cond-false (is_carried view (option_and_then content_in (slice_get places place))) None (Some place)
+          fails in cc)
     ]
 
 unlike-some : (view : List ℕ) (places : List (Option Post)) (place x : ℕ) → unlike_at view places place ≡ Some x
     → (is_carried view (option_and_then content_in (slice_get places place)) ≡ false) × (place ≡ x)
 unlike-some view places place x e =
     elim (cases_Bool (is_carried view (option_and_then content_in (slice_get places place)))) [
-      | inl passes ↦ absurd (let none = cond-true (is_carried view (option_and_then content_in (slice_get places place))) None (Some place) passes in cc)
-      | inr fails ↦ (fails, let some = cond-false (is_carried view (option_and_then content_in (slice_get places place))) None (Some place) fails in cc)
+      | inl passes ↦ absurd (let none = cond-true (is_carried view (option_and_then content_in (slice_get places place))) None (Some place)
+          passes in cc)
+      | inr fails ↦ (
+        fails,
+        let some = cond-false (is_carried view (option_and_then content_in (slice_get places place))) None (Some place)
+            fails in cc,
+      )
     ]
 
 place-not_wrong : (log : Log) (stage later : ℕ) (posts : List Post) (place : ℕ) → stage < later → before log later ≡ Some posts
     → slots_before log.shape stage + place < slots_before log.shape (stage + 1)
-    → unlike_at (view_of log.shape (contents_of posts) stage) (posts_in log stage) place ≡ None → wrong_at log.shape (contents_of posts) (slots_before log.shape stage + place) ≡ None
+    → unlike_at (view_of log.shape (contents_of posts) stage) (posts_in log stage) place ≡ None
+    → wrong_at log.shape (contents_of posts) (slots_before log.shape stage + place) ≡ None
 place-not_wrong log stage later posts place lt e within none =
     let past : List (List ℕ) = contents_of posts in
     let at = slot_at-sender log.shape stage place within in
     ap (option_and_then (wrong_slot log.shape past)) at
-    ∙ cond-true (is_right log.shape past _) None (Some _) (place-right log stage later posts place _ lt e within at ∙ unlike-none (view_of log.shape past stage) (posts_in log stage) place none)
+    ∙ cond-true (is_right log.shape past _) None (Some _) (place-right log stage later posts place _ lt e within at
+    ∙ unlike-none (view_of log.shape past stage) (posts_in log stage) place none)
 
 place-wrong : (log : Log) (stage later : ℕ) (posts : List Post) (place x : ℕ) (slot : Slot) → stage < later → before log later ≡ Some posts
-    → slots_before log.shape stage + place < slots_before log.shape (stage + 1) → slot_at log.shape (slots_before log.shape stage + place) ≡ Some slot
-    → unlike_at (view_of log.shape (contents_of posts) stage) (posts_in log stage) place ≡ Some x → wrong_at log.shape (contents_of posts) (slots_before log.shape stage + place) ≡ Some slot
+    → slots_before log.shape stage + place < slots_before log.shape (stage + 1)
+    → slot_at log.shape (slots_before log.shape stage + place) ≡ Some slot
+    → unlike_at (view_of log.shape (contents_of posts) stage) (posts_in log stage) place ≡ Some x
+    → wrong_at log.shape (contents_of posts) (slots_before log.shape stage + place) ≡ Some slot
 place-wrong log stage later posts place x slot lt e within at some =
     let past : List (List ℕ) = contents_of posts in
     ap (option_and_then (wrong_slot log.shape past)) at
-    ∙ cond-false (is_right log.shape past slot) None (Some slot) (place-right log stage later posts place slot lt e within at ∙ (unlike-some (view_of log.shape past stage) (posts_in log stage) place x some).0)
+    ∙ cond-false (is_right log.shape past slot) None (Some slot)
+    (place-right log stage later posts place slot lt e within at
+    ∙ (unlike-some (view_of log.shape past stage) (posts_in log stage) place x some).0)
 
 -- where all slots before a stage are right, and the places of the stage before a place, all numbers before it are
-pub numbers-right : (log : Log) (stage later : ℕ) (posts : List Post) (places : ℕ) → IsLog log → stage < later → before log later ≡ Some posts
+pub numbers-right : (log : Log) (stage later : ℕ) (posts : List Post) (places : ℕ) → IsLog log → stage < later
+    → before log later ≡ Some posts
     → places ≤ length (posts_in log stage)
     → ((number : ℕ) → number < slots_before log.shape stage → wrong_at log.shape (contents_of posts) number ≡ None)
     → ((place : ℕ) → place < places → unlike_at (view_of log.shape (contents_of posts) stage) (posts_in log stage) place ≡ None)
@@ -147,10 +169,12 @@ stage-right log stage later posts is lt e earlier none number below =
     let view : List ℕ = view_of log.shape (contents_of posts) stage in
     let rises = slots_before-rises log.shape stage (stage + 1) (omega arith) in
     numbers-right log stage later posts (length (posts_in log stage)) is lt e (omega arith) earlier
-    (first_below-each (unlike_at view (posts_in log stage)) (length (posts_in log stage)) none) number (omega (arith, length-posts_in log stage is))
+    (first_below-each (unlike_at view (posts_in log stage)) (length (posts_in log stage)) none) number
+    (omega (arith, length-posts_in log stage is))
 
 -- the first place of a stage that does not carry the view is the first slot that is not right
-pub stage-wrong : (log : Log) (stage later : ℕ) (posts : List Post) (place : ℕ) (slot : Slot) → IsLog log → stage < later → before log later ≡ Some posts
+pub stage-wrong : (log : Log) (stage later : ℕ) (posts : List Post) (place : ℕ) (slot : Slot) → IsLog log → stage < later
+    → before log later ≡ Some posts
     → ((number : ℕ) → number < slots_before log.shape stage → wrong_at log.shape (contents_of posts) number ≡ None)
     → first_below (length (posts_in log stage)) (unlike_at (view_of log.shape (contents_of posts) stage) (posts_in log stage)) ≡ Some place
     → slot_at log.shape (slots_before log.shape stage + place) ≡ Some slot
@@ -162,14 +186,17 @@ stage-wrong log stage later posts place slot is lt e earlier some at =
     let same = (unlike-some view row found.0 place found.2).1 in
     let rises = slots_before-rises log.shape (stage + 1) later (omega arith) in
     let rises_here = slots_before-rises log.shape stage (stage + 1) (omega arith) in
-    let within : slots_before log.shape stage + place < slots_before log.shape (stage + 1) = omega (arith, length-posts_in log stage is, found.1) in
+    let within : slots_before log.shape stage + place < slots_before log.shape (stage + 1) = omega
+    (arith, length-posts_in log stage is, found.1) in
     let gives : unlike_at view row place ≡ Some place = subst (λ (k : ℕ). unlike_at view row k ≡ Some place) same found.2 in
-    first_below-some (wrong_at log.shape (contents_of posts)) (slots_before log.shape later) (slots_before log.shape stage + place) slot (omega arith)
+    first_below-some (wrong_at log.shape (contents_of posts)) (slots_before log.shape later) (slots_before log.shape stage + place) slot
+    (omega arith)
     (numbers-right log stage later posts place is lt e (omega (arith, found.1)) earlier (λ k lt. found.3 k (omega arith)))
     (place-wrong log stage later posts place place slot lt e within at gives)
 
 -- a place that was found is one of the stage
-pub place-within : (log : Log) (stage place : ℕ) (view : List ℕ) → IsLog log → first_below (length (posts_in log stage)) (unlike_at view (posts_in log stage)) ≡ Some place
+pub place-within : (log : Log) (stage place : ℕ) (view : List ℕ) → IsLog log
+    → first_below (length (posts_in log stage)) (unlike_at view (posts_in log stage)) ≡ Some place
     → slots_before log.shape stage + place < slots_before log.shape (stage + 1)
 place-within log stage place view is some =
     let found = first_below-found (unlike_at view (posts_in log stage)) (length (posts_in log stage)) place some in

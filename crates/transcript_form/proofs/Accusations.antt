@@ -9,7 +9,8 @@ abbrev some : Accusation → Option Accusation
 some accusation = Some accusation
 
 -- 34 bytes are the spelling of what they spell
-pub spelling-accusation_at : (bytes : List ℕ) → length bytes ≡ 34 → IsAccusation (accusation_at bytes) × (bytes ≡ accusation_spelling (accusation_at bytes))
+pub spelling-accusation_at : (bytes : List ℕ) → length bytes ≡ 34 → IsAccusation (accusation_at bytes)
+    × (bytes ≡ accusation_spelling (accusation_at bytes))
 spelling-accusation_at [] long = absurd (omega arith)
 spelling-accusation_at (a ∷ []) long = absurd (omega arith)
 spelling-accusation_at (a ∷ b ∷ rest) long = (omega arith, refl)
@@ -21,13 +22,15 @@ chosen : (b : Bool) (a accusation : Accusation) → cond b (some a) None ≡ som
 chosen true a accusation e = (refl, cc)
 chosen false a accusation e = absurd cc
 
-accusation_of-found : (bytes : List ℕ) (accusation : Accusation) → accusation_of bytes ≡ Some accusation → IsAccusation accusation × (bytes ≡ accusation_spelling accusation)
+accusation_of-found : (bytes : List ℕ) (accusation : Accusation) → accusation_of bytes ≡ Some accusation → IsAccusation accusation
+    × (bytes ≡ accusation_spelling accusation)
 accusation_of-found bytes accusation e =
     let c = chosen (length bytes == 34) (accusation_at bytes) accusation e in
     rw (← c.1) (spelling-accusation_at bytes (eqb-true (length bytes) 34 c.0))
 
 -- a spelled accusation is read
-pub accusation_of-spelling : (accusation : Accusation) → IsAccusation accusation → accusation_of (accusation_spelling accusation) ≡ Some accusation
+pub accusation_of-spelling : (accusation : Accusation) → IsAccusation accusation
+    → accusation_of (accusation_spelling accusation) ≡ Some accusation
 accusation_of-spelling accusation is =
     accusation_of-long (accusation_spelling accusation) (omega (arith, is))
 

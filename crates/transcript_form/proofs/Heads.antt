@@ -37,7 +37,8 @@ ok_or-ok None e x h = absurd cc
 
 -- ---- the claim
 
-claim_at-takes : (size : ℕ) (r : Reading) (x : Claim × Reading) → IsBytes r.rest → claim_at size r ≡ Ok x → Takes (claim_number x.0 ∷ []) r x.1
+claim_at-takes : (size : ℕ) (r : Reading) (x : Claim × Reading) → IsBytes r.rest → claim_at size r ≡ Ok x
+    → Takes (claim_number x.0 ∷ []) r x.1
 unfolding claim_at
 claim_at-takes size r x fits e =
     let a = bind_ok (or_cut size (number_at w8 r)) _ x e in
@@ -47,13 +48,15 @@ claim_at-takes size r x fits e =
     let same : (b.0, a.0.1) ≡ x = (let e : read_ok (b.0, a.0.1) ≡ read_ok x = b.2 in cc) in
     subst (λ (x : Claim × Reading). Takes (claim_number x.0 ∷ []) r x.1) same (subst (λ (n : ℕ). Takes (n ∷ []) r a.0.1) is number.0)
 
-claim_at-again : (size : ℕ) (claim : Claim) (place : ℕ) (rest : List ℕ) → claim_at size (reading_at place (claim_number claim ∷ rest)) ≡ Ok (claim, reading_at (place + 1) rest)
+claim_at-again : (size : ℕ) (claim : Claim) (place : ℕ) (rest : List ℕ)
+    → claim_at size (reading_at place (claim_number claim ∷ rest)) ≡ Ok (claim, reading_at (place + 1) rest)
 unfolding claim_at
 claim_at-again size claim place rest = rw (number_at-again_1 (claim_number claim) place rest, claim_of-number claim) refl
 
 -- ---- the accused
 
-accused_at-takes : (shape : Shape) (size : ℕ) (r : Reading) (x : ℕ × Reading) → IsBytes r.rest → accused_at shape size r ≡ Ok x → Takes (x.0 ∷ []) r x.1 × (is_member shape.members x.0 ≡ true)
+accused_at-takes : (shape : Shape) (size : ℕ) (r : Reading) (x : ℕ × Reading) → IsBytes r.rest → accused_at shape size r ≡ Ok x
+    → Takes (x.0 ∷ []) r x.1 × (is_member shape.members x.0 ≡ true)
 unfolding accused_at
 accused_at-takes shape size r x fits e =
     let a = bind_ok (or_cut size (number_at w8 r)) _ x e in
@@ -62,7 +65,8 @@ accused_at-takes shape size r x fits e =
     subst (λ (x : ℕ × Reading). Takes (x.0 ∷ []) r x.1 × (is_member shape.members x.0 ≡ true)) member.1
     (number.0, not-false (is_member shape.members a.0.0) member.0)
 
-accused_at-again : (shape : Shape) (size accused place : ℕ) (rest : List ℕ) → is_member shape.members accused ≡ true → accused_at shape size (reading_at place (accused ∷ rest)) ≡ Ok (accused, reading_at (place + 1) rest)
+accused_at-again : (shape : Shape) (size accused place : ℕ) (rest : List ℕ) → is_member shape.members accused ≡ true
+    → accused_at shape size (reading_at place (accused ∷ rest)) ≡ Ok (accused, reading_at (place + 1) rest)
 unfolding accused_at
 accused_at-again shape size accused place rest member = rw (number_at-again_1 accused place rest, member) refl
 
@@ -87,13 +91,15 @@ accusation_at-takes size r x e =
     pair o r = (o, r)
 
 -- where the claim has no accusation, nothing was read
-nothing-takes : (claim : Claim) (r : Reading) (x : Option Accusation × Reading) → HasDetail claim None → read_ok {A = Option Accusation} (None, r) ≡ read_ok x → IsDetailAt claim r x
+nothing-takes : (claim : Claim) (r : Reading) (x : Option Accusation × Reading) → HasDetail claim None
+    → read_ok {A = Option Accusation} (None, r) ≡ read_ok x → IsDetailAt claim r x
 nothing-takes claim r x none e =
     let nothing : Option Accusation × Reading = (None, r) in
     let same : nothing ≡ x = cc in
     subst (λ (x : Option Accusation × Reading). IsDetailAt claim r x) same (Takes-none r, none)
 
-detail_at-takes : (claim : Claim) (size : ℕ) (r : Reading) (x : Option Accusation × Reading) → detail_at claim size r ≡ Ok x → IsDetailAt claim r x
+detail_at-takes : (claim : Claim) (size : ℕ) (r : Reading) (x : Option Accusation × Reading) → detail_at claim size r ≡ Ok x
+    → IsDetailAt claim r x
 unfolding detail_at
 detail_at-takes Equivocation size r x e = nothing-takes Equivocation r x tt e
 detail_at-takes Malformed size r x e = nothing-takes Malformed r x tt e
@@ -102,20 +108,26 @@ detail_at-takes BadLog size r x e = nothing-takes BadLog r x tt e
 detail_at-takes Replay size r x e = nothing-takes Replay r x tt e
 detail_at-takes Pad size r x e = accusation_at-takes size r x e
 
-nothing-again : (claim : Claim) (size place : ℕ) (rest : List ℕ) → detail_at claim size (reading_at place rest) ≡ Ok (None, reading_at place rest) → detail_at claim size (reading_at place rest) ≡ Ok (None, reading_at (place + 0) rest)
+nothing-again : (claim : Claim) (size place : ℕ) (rest : List ℕ)
+    → detail_at claim size (reading_at place rest) ≡ Ok (None, reading_at place rest)
+    → detail_at claim size (reading_at place rest) ≡ Ok (None, reading_at (place + 0) rest)
 nothing-again claim size place rest e =
     let told : ℕ → Result (Option Accusation × Reading) FailedForm = λ k. Ok (None, reading_at k rest) in
     let stays : place ≡ place + 0 = omega arith in
     e ∙ ap told stays
 
-accusation_at-again : (accusation : Accusation) (size place : ℕ) (rest : List ℕ) → IsAccusation accusation → detail_at Pad size (reading_at place (accusation_spelling accusation ++ rest)) ≡ Ok (Some accusation, reading_at (place + length (accusation_spelling accusation)) rest)
+accusation_at-again : (accusation : Accusation) (size place : ℕ) (rest : List ℕ) → IsAccusation accusation
+    → detail_at Pad size (reading_at place (accusation_spelling accusation ++ rest)) ≡ Ok
+    (Some accusation, reading_at (place + length (accusation_spelling accusation)) rest)
 unfolding detail_at
 accusation_at-again accusation size place rest is =
     let long : length (accusation_spelling accusation) ≡ 34 = omega (arith, is) in
     let told : ℕ → Result (Option Accusation × Reading) FailedForm = λ k. Ok (Some accusation, reading_at (place + k) rest) in
     rw (bytes_at-again 34 (accusation_spelling accusation) rest place long, accusation_of-spelling accusation is) (ap told (sym long))
 
-detail_at-again : (claim : Claim) (detail : Option Accusation) (size place : ℕ) (rest : List ℕ) → HasDetail claim detail → detail_at claim size (reading_at place (detail_spelling detail ++ rest)) ≡ Ok (detail, reading_at (place + length (detail_spelling detail)) rest)
+detail_at-again : (claim : Claim) (detail : Option Accusation) (size place : ℕ) (rest : List ℕ) → HasDetail claim detail
+    → detail_at claim size (reading_at place (detail_spelling detail ++ rest)) ≡ Ok
+    (detail, reading_at (place + length (detail_spelling detail)) rest)
 unfolding detail_at
 detail_at-again Pad (Some accusation) size place rest is = accusation_at-again accusation size place rest is
 detail_at-again Pad None size place rest is = absurd is
@@ -132,16 +144,19 @@ detail_at-again Replay (Some accusation) size place rest is = absurd is
 
 -- ---- the number of posts
 
-count_at-takes : (wanted size : ℕ) (r : Reading) (x : ℕ × Reading) → IsBytes r.rest → count_at wanted size r ≡ Ok x → Takes (to_be_bytes w32 wanted) r x.1
+count_at-takes : (wanted size : ℕ) (r : Reading) (x : ℕ × Reading) → IsBytes r.rest → count_at wanted size r ≡ Ok x
+    → Takes (to_be_bytes w32 wanted) r x.1
 unfolding count_at
 count_at-takes wanted size r x fits e =
     let a = bind_ok (or_cut size (number_at w32 r)) _ x e in
     let wants = guard_ok (not (a.0.0 == wanted)) (Count r.place) a.0 x a.2 in
     let number = number_at-takes_4 r a.0 fits (fault_as_ok (cut size) (number_at w32 r) a.0 a.1) in
     let is : a.0.0 ≡ wanted = eqb-true a.0.0 wanted (not-false (a.0.0 == wanted) wants.0) in
-    subst (λ (x : ℕ × Reading). Takes (to_be_bytes w32 wanted) r x.1) wants.1 (subst (λ (n : ℕ). Takes (to_be_bytes w32 n) r a.0.1) is number.0)
+    subst (λ (x : ℕ × Reading). Takes (to_be_bytes w32 wanted) r x.1) wants.1
+    (subst (λ (n : ℕ). Takes (to_be_bytes w32 n) r a.0.1) is number.0)
 
-count_at-again : (wanted size place : ℕ) (rest : List ℕ) → wanted < 2 ^ 32 → count_at wanted size (reading_at place (to_be_bytes w32 wanted ++ rest)) ≡ Ok (wanted, reading_at (place + 4) rest)
+count_at-again : (wanted size place : ℕ) (rest : List ℕ) → wanted < 2 ^ 32
+    → count_at wanted size (reading_at place (to_be_bytes w32 wanted ++ rest)) ≡ Ok (wanted, reading_at (place + 4) rest)
 unfolding count_at
 count_at-again wanted size place rest small =
     let is : (wanted == wanted) ≡ true = eq-eqb wanted wanted refl in
@@ -152,7 +167,8 @@ count_at-again wanted size place rest small =
 -- a head as it is spelled
 abbrev pub head_text : Shape → Head → List ℕ
 head_text shape h =
-    (claim_number h.claim ∷ []) ++ ((h.accused ∷ []) ++ (to_be_bytes w64 h.round ++ (detail_spelling h.detail ++ to_be_bytes w32 (claim_posts shape h.claim))))
+    (claim_number h.claim ∷ []) ++ ((h.accused ∷ []) ++ (to_be_bytes w64 h.round
+    ++ (detail_spelling h.detail ++ to_be_bytes w32 (claim_posts shape h.claim))))
 
 -- a head that has a spelling
 pub record IsHead (shape : Shape) (h : Head) : Type 0 where
@@ -160,7 +176,8 @@ pub record IsHead (shape : Shape) (h : Head) : Type 0 where
   pub round : h.round < 2 ^ 64
   pub detail : HasDetail h.claim h.detail
 
-pub head_at-takes : (shape : Shape) (size : ℕ) (r : Reading) (x : Head × Reading) → IsBytes r.rest → head_at shape size r ≡ Ok x → Takes (head_text shape x.0) r x.1 × IsHead shape x.0
+pub head_at-takes : (shape : Shape) (size : ℕ) (r : Reading) (x : Head × Reading) → IsBytes r.rest → head_at shape size r ≡ Ok x
+    → Takes (head_text shape x.0) r x.1 × IsHead shape x.0
 unfolding head_at
 head_at-takes shape size r x fits e =
     let a = bind_ok (claim_at size r) _ x e in
@@ -187,7 +204,8 @@ head_at-takes shape size r x fits e =
     (t1, record { accused = accused.1; round = round.1; detail = detail.1 })
 
 -- a head begins with its claim
-pub head_at-claim : (shape : Shape) (size : ℕ) (r : Reading) (x : Head × Reading) → head_at shape size r ≡ Ok x → (claim : Claim × Reading) × (claim_at size r ≡ Ok claim) × (claim.0 ≡ x.0.claim)
+pub head_at-claim : (shape : Shape) (size : ℕ) (r : Reading) (x : Head × Reading) → head_at shape size r ≡ Ok x → (claim : Claim × Reading)
+    × (claim_at size r ≡ Ok claim) × (claim.0 ≡ x.0.claim)
 unfolding head_at
 head_at-claim shape size r x e =
     let a = bind_ok (claim_at size r) _ x e in
@@ -199,8 +217,10 @@ head_at-claim shape size r x e =
     (a.0, a.1, ap (λ (x : Head × Reading). x.0.claim) (ok_is (head, f.0.1) x f.2))
 
 -- how a head is read, field by field
-head_reads : (shape : Shape) (size : ℕ) (r : Reading) (claim : Claim × Reading) (accused round : ℕ × Reading) (detail : Option Accusation × Reading) (count : ℕ × Reading)
-    → claim_at size r ≡ Ok claim → accused_at shape size claim.1 ≡ Ok accused → number_at w64 accused.1 ≡ Ok round → detail_at claim.0 size round.1 ≡ Ok detail → count_at (claim_posts shape claim.0) size detail.1 ≡ Ok count
+head_reads : (shape : Shape) (size : ℕ) (r : Reading) (claim : Claim × Reading) (accused round : ℕ × Reading)
+    (detail : Option Accusation × Reading) (count : ℕ × Reading)
+    → claim_at size r ≡ Ok claim → accused_at shape size claim.1 ≡ Ok accused → number_at w64 accused.1 ≡ Ok round
+    → detail_at claim.0 size round.1 ≡ Ok detail → count_at (claim_posts shape claim.0) size detail.1 ≡ Ok count
     → head_at shape size r ≡ Ok (record { claim = claim.0; accused = accused.0; round = round.0; detail = detail.0 }, count.1)
 unfolding head_at
 head_reads shape size r claim accused round detail count e1 e2 e3 e4 e5 = rw (e1, e2, e3, e4, e5) refl
@@ -214,11 +234,19 @@ head_at-again shape size h place rest small is =
     let r4 = count ++ rest in
     let r3 = detail ++ r4 in
     let r2 = round ++ r3 in
-    let grouped : (round ++ (detail ++ count)) ++ rest ≡ r2 = append_assoc round (detail ++ count) rest ∙ ap (λ (x : List ℕ). round ++ x) (append_assoc detail count rest) in
-    let whole : head_text shape h ++ rest ≡ claim_number h.claim ∷ h.accused ∷ r2 = ap (λ (x : List ℕ). claim_number h.claim ∷ h.accused ∷ x) grouped in
-    let ends : place + 1 + 1 + 8 + length detail + 4 ≡ place + length (head_text shape h) = omega (arith, length-append round (detail ++ count), length-append detail count) in
+    let grouped : (round ++ (detail ++ count)) ++ rest ≡ r2 = append_assoc round (detail ++ count) rest
+    ∙ ap (λ (x : List ℕ). round ++ x) (append_assoc detail count rest) in
+    let whole : head_text shape h ++ rest ≡ claim_number h.claim ∷ h.accused ∷ r2 = ap
+    (λ (x : List ℕ). claim_number h.claim ∷ h.accused ∷ x) grouped in
+    let ends : place + 1 + 1 + 8 + length detail + 4 ≡ place + length (head_text shape h) = omega
+    (arith, length-append round (detail ++ count), length-append detail count) in
     let told : ℕ → Result (Head × Reading) FailedForm = λ k. Ok (h, reading_at k rest) in
     ap (λ (x : List ℕ). head_at shape size (reading_at place x)) whole
-    ∙ head_reads shape size (reading_at place (claim_number h.claim ∷ h.accused ∷ r2)) (h.claim, reading_at (place + 1) (h.accused ∷ r2)) (h.accused, reading_at (place + 1 + 1) r2) (h.round, reading_at (place + 1 + 1 + 8) r3) (h.detail, reading_at (place + 1 + 1 + 8 + length detail) r4) (claim_posts shape h.claim, reading_at (place + 1 + 1 + 8 + length detail + 4) rest)
-    (claim_at-again size h.claim place (h.accused ∷ r2)) (accused_at-again shape size h.accused (place + 1) r2 is.accused) (number_at-again_8 h.round (place + 1 + 1) r3 is.round) (detail_at-again h.claim h.detail size (place + 1 + 1 + 8) r4 is.detail) (count_at-again (claim_posts shape h.claim) size (place + 1 + 1 + 8 + length detail) rest small)
+    ∙ head_reads shape size (reading_at place (claim_number h.claim ∷ h.accused ∷ r2)) (h.claim, reading_at (place + 1) (h.accused ∷ r2))
+    (h.accused, reading_at (place + 1 + 1) r2) (h.round, reading_at (place + 1 + 1 + 8) r3)
+    (h.detail, reading_at (place + 1 + 1 + 8 + length detail) r4)
+    (claim_posts shape h.claim, reading_at (place + 1 + 1 + 8 + length detail + 4) rest)
+    (claim_at-again size h.claim place (h.accused ∷ r2)) (accused_at-again shape size h.accused (place + 1) r2 is.accused)
+    (number_at-again_8 h.round (place + 1 + 1) r3 is.round) (detail_at-again h.claim h.detail size (place + 1 + 1 + 8) r4 is.detail)
+    (count_at-again (claim_posts shape h.claim) size (place + 1 + 1 + 8 + length detail) rest small)
     ∙ ap told ends

@@ -38,7 +38,8 @@ walked n k bytes front rest post last some lie front_is rest_is number post_is l
     let first = first_of n bytes some lie in
     let long : k ≡ first_length bytes = first_length-is front bytes k front_is first.enough number in
     let behind : last ≡ behind_first bytes = last_is ∙ ap (λ (j : ℕ). drop j rest) long ∙ ap (drop (first_length bytes)) rest_is in
-    let one : post ≡ take (first_length bytes) (drop 4 bytes) = post_is ∙ ap (λ (j : ℕ). take j rest) long ∙ ap (take (first_length bytes)) rest_is in
+    let one : post ≡ take (first_length bytes) (drop 4 bytes) = post_is ∙ ap (λ (j : ℕ). take j rest) long
+    ∙ ap (take (first_length bytes)) rest_is in
     (subst (λ (x : List ℕ). PostsLie (n - 1) x) (sym behind) first.others_lie, rw (one, behind) first.posts_are)
 
 -- ---- what is read
@@ -47,7 +48,8 @@ abbrev read_ok : List (List ℕ) × Reading → Result (List (List ℕ) × Readi
 read_ok x = Ok x
 
 -- bytes that were read are the next, of those that there are
-bytes_at-parts : (n : ℕ) (r : Reading) (x : List ℕ × Reading) → bytes_at n r ≡ Ok x → (n ≤ length r.rest) × (take n r.rest ≡ x.0) × (drop n r.rest ≡ x.1.rest)
+bytes_at-parts : (n : ℕ) (r : Reading) (x : List ℕ × Reading) → bytes_at n r ≡ Ok x → (n ≤ length r.rest) × (take n r.rest ≡ x.0)
+    × (drop n r.rest ≡ x.1.rest)
 bytes_at-parts n r x e =
     let takes = bytes_at-takes n r x e in
     let enough : n ≤ length r.rest = omega (arith, ap length takes.0.text_is, length-append x.0 x.1.rest, takes.1) in
@@ -55,7 +57,8 @@ bytes_at-parts n r x e =
     let y : (take n r.rest, advanced n r) ≡ x = cc in
     (enough, ap (λ (z : List ℕ × Reading). z.0) y, ap (λ (z : List ℕ × Reading). z.1.rest) y)
 
-lies_by : (k : ℕ) (rest body post last : List ℕ) → k ≡ first_length rest → body ≡ drop 4 rest → k ≤ length body → take k body ≡ post → drop k body ≡ last
+lies_by : (k : ℕ) (rest body post last : List ℕ) → k ≡ first_length rest → body ≡ drop 4 rest → k ≤ length body → take k body ≡ post
+    → drop k body ≡ last
     → (first_length rest ≤ length (drop 4 rest)) × (take (first_length rest) (drop 4 rest) ≡ post) × (behind_first rest ≡ last)
 lies_by k rest body post last long behind enough post_is last_is =
     let P : ℕ → List ℕ → Type 0 = λ j y. (j ≤ length y) × (take j y ≡ post) × (drop j y ≡ last) in
@@ -63,7 +66,8 @@ lies_by k rest body post last long behind enough post_is last_is =
 
 -- how a reading was made of a post
 listed_at-lies : (size : ℕ) (r : Reading) (x : List ℕ × Reading) → listed_at size r ≡ Ok x
-    → (4 ≤ length r.rest) × (first_length r.rest ≤ length (drop 4 r.rest)) × (take (first_length r.rest) (drop 4 r.rest) ≡ x.0) × (behind_first r.rest ≡ x.1.rest)
+    → (4 ≤ length r.rest) × (first_length r.rest ≤ length (drop 4 r.rest)) × (take (first_length r.rest) (drop 4 r.rest) ≡ x.0)
+    × (behind_first r.rest ≡ x.1.rest)
 unfolding listed_at
 listed_at-lies size r x e =
     let n = bind_ok (or_cut size (number_at w32 r)) _ x e in
@@ -82,7 +86,8 @@ listed_at-lies size r x e =
     number_ok y = Ok y
 
 -- posts that were read lay there
-pub repeated-lies : (size n : ℕ) (r : Reading) (x : List (List ℕ) × Reading) → repeated n (listed_at size) r ≡ Ok x → PostsLie n r.rest × (posts_of n r.rest ≡ x.0)
+pub repeated-lies : (size n : ℕ) (r : Reading) (x : List (List ℕ) × Reading) → repeated n (listed_at size) r ≡ Ok x → PostsLie n r.rest
+    × (posts_of n r.rest ≡ x.0)
 unfolding repeated
 repeated-lies size zero r x e =
     let none : List (List ℕ) × Reading = ([], r) in

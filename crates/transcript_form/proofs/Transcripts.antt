@@ -32,7 +32,8 @@ use Rattle.transcript_form.proofs.Heads.{cut, head_text, IsHead, head_at-claim, 
 
 -- ---- a listed post
 
-listed_at-takes : (size : ℕ) (r : Reading) (x : List ℕ × Reading) → IsBytes r.rest → listed_at size r ≡ Ok x → Takes (prefixed x.0) r x.1 × (length x.0 < 2 ^ 32)
+listed_at-takes : (size : ℕ) (r : Reading) (x : List ℕ × Reading) → IsBytes r.rest → listed_at size r ≡ Ok x → Takes (prefixed x.0) r x.1
+    × (length x.0 < 2 ^ 32)
 unfolding listed_at
 listed_at-takes size r x fits e =
     let a = bind_ok (or_cut size (number_at w32 r)) _ x e in
@@ -41,20 +42,23 @@ listed_at-takes size r x fits e =
     let whole = Takes-append (to_be_bytes w32 a.0.0) x.0 r a.0.1 x.1 n.0 p.0 in
     (subst (λ (m : ℕ). Takes (to_be_bytes w32 m ++ x.0) r x.1) (sym p.1) whole, omega (arith, n.1, p.1))
 
-listed_at-again : (size : ℕ) (post : List ℕ) (place : ℕ) (rest : List ℕ) → length post < 2 ^ 32 → listed_at size (reading_at place (prefixed post ++ rest)) ≡ Ok (post, reading_at (place + length (prefixed post)) rest)
+listed_at-again : (size : ℕ) (post : List ℕ) (place : ℕ) (rest : List ℕ) → length post < 2 ^ 32
+    → listed_at size (reading_at place (prefixed post ++ rest)) ≡ Ok (post, reading_at (place + length (prefixed post)) rest)
 unfolding listed_at
 listed_at-again size post place rest small =
     let head = to_be_bytes w32 (length post) in
     let long : place + 4 + length post ≡ place + length (prefixed post) = omega (arith, length-append head post) in
     let told : ℕ → Result (List ℕ × Reading) FailedForm = λ k. Ok (post, reading_at k rest) in
     ap (listed_at size) (ap (reading_at place) (append_assoc head post rest))
-    ∙ ap (λ (r : Result (ℕ × Reading) Short). or_cut size r >>= λ n. or_cut size (bytes_at n.0 n.1)) (number_at-again_4 (length post) place (post ++ rest) small)
+    ∙ ap (λ (r : Result (ℕ × Reading) Short). or_cut size r >>= λ n. or_cut size (bytes_at n.0 n.1))
+    (number_at-again_4 (length post) place (post ++ rest) small)
     ∙ ap (λ (r : Result (List ℕ × Reading) Short). or_cut size r) (bytes_at-again (length post) post rest (place + 4) refl)
     ∙ ap told long
 
 -- ---- the magic
 
-behind_magic-takes : (bytes : List ℕ) (r : Reading) → IsBytes bytes → behind_magic bytes ≡ Ok r → Takes transcript_magic (reading_of bytes) r
+behind_magic-takes : (bytes : List ℕ) (r : Reading) → IsBytes bytes → behind_magic bytes ≡ Ok r
+    → Takes transcript_magic (reading_of bytes) r
 unfolding behind_magic
 behind_magic-takes bytes r fits e =
     let size = length bytes in
@@ -68,7 +72,8 @@ behind_magic-takes bytes r fits e =
     let parts = split_once b.0.0 transcript_magic b.0.1.rest (drop 5 bytes) five.1 (sym from.text_is ∙ begun) in
     let magic : b.0.0 ≡ transcript_magic = parts.0 in
     let same : b.0.1 ≡ r = (let e : done b.0.1 ≡ done r = b.2 in cc) in
-    subst (λ (s : Reading). Takes transcript_magic (reading_of bytes) s) same (subst (λ (x : List ℕ). Takes x (reading_of bytes) b.0.1) magic from)
+    subst (λ (s : Reading). Takes transcript_magic (reading_of bytes) s) same
+    (subst (λ (x : List ℕ). Takes x (reading_of bytes) b.0.1) magic from)
   where
     done : Reading → Result Reading FailedForm
     done s = Ok s
@@ -81,10 +86,12 @@ behind_magic-again rest =
 -- ---- the whole
 
 -- the text of a head and of its posts is that of the transcript behind the magic
-joined : (shape : Shape) (h : Head) (posts : List (List ℕ)) → length posts ≡ claim_posts shape h.claim → head_text shape h ≡ head_spelling (transcript_of h posts)
+joined : (shape : Shape) (h : Head) (posts : List (List ℕ)) → length posts ≡ claim_posts shape h.claim
+    → head_text shape h ≡ head_spelling (transcript_of h posts)
 joined shape h posts count = rw count refl
 
-pub transcript_read-found : (shape : Shape) (bytes : List ℕ) (t : Transcript) → IsBytes bytes → transcript_read shape bytes ≡ Ok t → IsTranscript shape t × (bytes ≡ transcript_spelling t)
+pub transcript_read-found : (shape : Shape) (bytes : List ℕ) (t : Transcript) → IsBytes bytes → transcript_read shape bytes ≡ Ok t
+    → IsTranscript shape t × (bytes ≡ transcript_spelling t)
 unfolding transcript_read
 transcript_read-found shape bytes t fits e =
     let size = length bytes in
@@ -97,22 +104,35 @@ transcript_read-found shape bytes t fits e =
     let r1 = (Takes-bytes transcript_magic (reading_of bytes) a.0 magic fits).1 in
     let head = head_at-takes shape size a.0 c.0 r1 c.1 in
     let r2 = (Takes-bytes (head_text shape c.0.0) a.0 c.0.1 head.0 r1).1 in
-    let posts = repeated-takes prefixed (λ post. length post < 2 ^ 32) (listed_at size) (λ r x fits e. listed_at-takes size r x fits e) (claim_posts shape c.0.0.claim) c.0.1 d.0 r2 d.1 in
-    let nothing : d.0.1.rest ≡ [] = nil_from_length d.0.1.rest (eqb-true (length d.0.1.rest) 0 (not-false (length d.0.1.rest == 0) ended.0)) in
-    let listed : c.0.1.rest ≡ flat_map prefixed d.0.0 = posts.0.text_is ∙ ap (λ (x : List ℕ). flat_map prefixed d.0.0 ++ x) nothing ∙ append-nil (flat_map prefixed d.0.0) in
+    let posts = repeated-takes prefixed (λ post. length post < 2 ^ 32) (listed_at size) (λ r x fits e. listed_at-takes size r x fits e)
+    (claim_posts shape c.0.0.claim) c.0.1 d.0 r2 d.1 in
+    let nothing : d.0.1.rest ≡ [] = nil_from_length d.0.1.rest (eqb-true (length d.0.1.rest) 0 (not-false (length d.0.1.rest == 0) ended.0))
+    in
+    let listed : c.0.1.rest ≡ flat_map prefixed d.0.0 = posts.0.text_is ∙ ap (λ (x : List ℕ). flat_map prefixed d.0.0 ++ x) nothing
+    ∙ append-nil (flat_map prefixed d.0.0) in
     let behind : a.0.rest ≡ head_spelling made ++ flat_map prefixed d.0.0 =
-    head.0.text_is ∙ ap (λ (x : List ℕ). head_text shape c.0.0 ++ x) listed ∙ ap (λ (x : List ℕ). x ++ flat_map prefixed d.0.0) (joined shape c.0.0 d.0.0 posts.2) in
+    head.0.text_is ∙ ap (λ (x : List ℕ). head_text shape c.0.0 ++ x) listed
+    ∙ ap (λ (x : List ℕ). x ++ flat_map prefixed d.0.0) (joined shape c.0.0 d.0.0 posts.2) in
     let text : bytes ≡ transcript_spelling made = magic.text_is ∙ ap (λ (x : List ℕ). transcript_magic ++ x) behind in
-    let is : IsTranscript shape made = record { accused = head.1.accused; round = head.1.round; detail = head.1.detail; count = posts.2; posts = posts.1 } in
+    let is : IsTranscript shape made = record {
+      accused = head.1.accused;
+      round = head.1.round;
+      detail = head.1.detail;
+      count = posts.2;
+      posts = posts.1;
+    } in
     subst (λ (t : Transcript). IsTranscript shape t × (bytes ≡ transcript_spelling t)) ended.1 (is, text)
 
 -- how bytes are read, part by part
-pub transcript_reads : (shape : Shape) (bytes : List ℕ) (begins : Reading) (head : Head × Reading) (posts : List (List ℕ) × Reading) → behind_magic bytes ≡ Ok begins → head_at shape (length bytes) begins ≡ Ok head → repeated (claim_posts shape head.0.claim) (listed_at (length bytes)) head.1 ≡ Ok posts
+pub transcript_reads : (shape : Shape) (bytes : List ℕ) (begins : Reading) (head : Head × Reading) (posts : List (List ℕ) × Reading)
+    → behind_magic bytes ≡ Ok begins → head_at shape (length bytes) begins ≡ Ok head
+    → repeated (claim_posts shape head.0.claim) (listed_at (length bytes)) head.1 ≡ Ok posts
     → transcript_read shape bytes ≡ unless (not (length posts.1.rest == 0)) (Form posts.1.place) (transcript_of head.0 posts.0)
 unfolding transcript_read
 transcript_reads shape bytes begins head posts e1 e2 e3 = rw (e1, e2, e3) refl
 
-pub transcript_read-again : (shape : Shape) (t : Transcript) → IsShape shape.version shape.members → IsTranscript shape t → transcript_read shape (transcript_spelling t) ≡ Ok t
+pub transcript_read-again : (shape : Shape) (t : Transcript) → IsShape shape.version shape.members → IsTranscript shape t
+    → transcript_read shape (transcript_spelling t) ≡ Ok t
 transcript_read-again shape t is_shape is =
     let h : Head = record { claim = t.claim; accused = t.accused; round = t.round; detail = t.detail } in
     let text = flat_map prefixed t.posts in
@@ -123,33 +143,46 @@ transcript_read-again shape t is_shape is =
     let most = claim_posts-most shape t.claim is_shape in
     let fits : IsHead shape h = record { accused = is.accused; round = is.round; detail = is.detail } in
     let head : head_at shape size (reading_at 5 rest) ≡ Ok (h, reading_at place text) =
-    ap (λ (x : List ℕ). head_at shape size (reading_at 5 (x ++ text))) (sym (joined shape h t.posts is.count)) ∙ head_at-again shape size h 5 text (omega arith) fits in
-    let posts : repeated (claim_posts shape t.claim) (listed_at size) (reading_at place text) ≡ Ok (t.posts, reading_at (place + length text) []) =
+    ap (λ (x : List ℕ). head_at shape size (reading_at 5 (x ++ text))) (sym (joined shape h t.posts is.count))
+    ∙ head_at-again shape size h 5 text (omega arith) fits in
+    let posts : repeated (claim_posts shape t.claim) (listed_at size) (reading_at place text) ≡ Ok
+    (t.posts, reading_at (place + length text) []) =
     ap (λ (m : ℕ). repeated m (listed_at size) (reading_at place text)) (sym is.count)
     ∙ ap (λ (x : List ℕ). repeated (length t.posts) (listed_at size) (reading_at place x)) (sym (append-nil text))
-    ∙ repeated-again prefixed (λ post. length post < 2 ^ 32) (listed_at size) (λ post place rest small. listed_at-again size post place rest small) t.posts place [] is.posts in
-    transcript_reads shape bytes (reading_at 5 rest) (h, reading_at place text) (t.posts, reading_at (place + length text) []) (behind_magic-again rest) head posts
+    ∙ repeated-again prefixed (λ post. length post < 2 ^ 32) (listed_at size)
+    (λ post place rest small. listed_at-again size post place rest small) t.posts place [] is.posts in
+    transcript_reads shape bytes (reading_at 5 rest) (h, reading_at place text) (t.posts, reading_at (place + length text) [])
+    (behind_magic-again rest) head posts
 
 pub listed_exactly : ListedExactly
-listed_exactly shape bytes t is_shape fits =
-    (transcript_read-found shape bytes t fits, λ spelled. ap (transcript_read shape) spelled.1 ∙ transcript_read-again shape t is_shape spelled.0)
+listed_exactly shape bytes t is_shape fits = (
+  transcript_read-found shape bytes t fits,
+  λ spelled. ap (transcript_read shape) spelled.1
+      ∙ transcript_read-again shape t is_shape spelled.0,
+)
 
 -- ---- what the reader answers
 
 -- a value that it answers is spelled so
 pub answered-found : (shape : Shape) (bytes : List ℕ) (result : Result Transcript Refused) → IsBytes bytes
-    → Gives failure_of_refusal (λ t. t) result (fault_as failure_of_form (transcript_read shape bytes)) → IfOk result (λ t. IsTranscript shape t × (bytes ≡ transcript_spelling t))
-answered-found shape bytes (Ok t) fits gives = transcript_read-found shape bytes t fits (fault_as_ok failure_of_form (transcript_read shape bytes) t gives)
+    → Gives failure_of_refusal (λ t. t) result (fault_as failure_of_form (transcript_read shape bytes))
+    → IfOk result (λ t. IsTranscript shape t × (bytes ≡ transcript_spelling t))
+answered-found shape bytes (Ok t) fits gives = transcript_read-found shape bytes t fits
+    (fault_as_ok failure_of_form (transcript_read shape bytes) t gives)
 answered-found shape bytes (Err e) fits gives = tt
 
 -- what is spelled so is answered, but for memory
-pub answered-only : (shape : Shape) (bytes : List ℕ) (result : Result Transcript Refused) (t : Transcript) → IsShape shape.version shape.members
-    → Gives failure_of_refusal (λ t. t) result (fault_as failure_of_form (transcript_read shape bytes)) → IsTranscript shape t → bytes ≡ transcript_spelling t → Gives failure_of_refusal (λ t. t) result (Ok t)
+pub answered-only : (shape : Shape) (bytes : List ℕ) (result : Result Transcript Refused) (t : Transcript)
+    → IsShape shape.version shape.members
+    → Gives failure_of_refusal (λ t. t) result (fault_as failure_of_form (transcript_read shape bytes)) → IsTranscript shape t
+    → bytes ≡ transcript_spelling t → Gives failure_of_refusal (λ t. t) result (Ok t)
 answered-only shape bytes result t is_shape gives is spelled =
-    subst (λ (r : Result Transcript FailedForm). Gives failure_of_refusal (λ t. t) result (fault_as failure_of_form r)) (ap (transcript_read shape) spelled ∙ transcript_read-again shape t is_shape is) gives
+    subst (λ (r : Result Transcript FailedForm). Gives failure_of_refusal (λ t. t) result (fault_as failure_of_form r))
+    (ap (transcript_read shape) spelled ∙ transcript_read-again shape t is_shape is) gives
 
 -- the claim of a transcript that was read is the one that its bytes have
-pub claim_read-transcript : (shape : Shape) (bytes : List ℕ) (t : Transcript) → transcript_read shape bytes ≡ Ok t → claim_read bytes ≡ Ok t.claim
+pub claim_read-transcript : (shape : Shape) (bytes : List ℕ) (t : Transcript) → transcript_read shape bytes ≡ Ok t
+    → claim_read bytes ≡ Ok t.claim
 unfolding transcript_read claim_read head_at
 claim_read-transcript shape bytes t e =
     let size = length bytes in
@@ -164,9 +197,13 @@ claim_read-transcript shape bytes t e =
 -- the listed posts of bytes are bytes
 posts-bytes : (posts : List (List ℕ)) → IsBytes (flat_map prefixed posts) → AllByRecursion IsBytes posts
 posts-bytes [] fits = tt
-posts-bytes (post ∷ posts) fits =
-    (IsBytes-back (to_be_bytes w32 (length post)) post (IsBytes-front (prefixed post) (flat_map prefixed posts) fits), posts-bytes posts (IsBytes-back (prefixed post) (flat_map prefixed posts) fits))
+posts-bytes (post ∷ posts) fits = (
+  IsBytes-back (to_be_bytes w32 (length post)) post (IsBytes-front (prefixed post) (flat_map prefixed posts) fits),
+  posts-bytes posts
+      (IsBytes-back (prefixed post) (flat_map prefixed posts) fits),
+)
 
 pub transcript-bytes : (t : Transcript) → IsBytes (transcript_spelling t) → AllByRecursion IsBytes t.posts
 transcript-bytes t fits =
-    posts-bytes t.posts (IsBytes-back (head_spelling t) (flat_map prefixed t.posts) (IsBytes-back transcript_magic (head_spelling t ++ flat_map prefixed t.posts) fits))
+    posts-bytes t.posts (IsBytes-back (head_spelling t) (flat_map prefixed t.posts)
+    (IsBytes-back transcript_magic (head_spelling t ++ flat_map prefixed t.posts) fits))

@@ -18,24 +18,29 @@ first_some-none None others e = refl
 first_some-none (Some y) others e = absurd cc
 
 -- where there is no answer, the first is none, and the others give none
-pub first_some-none_parts : {A : Type 0} (o : Option A) (others : List (Option A)) → first_some (o ∷ others) ≡ None → (o ≡ None) × (first_some others ≡ None)
+pub first_some-none_parts : {A : Type 0} (o : Option A) (others : List (Option A)) → first_some (o ∷ others) ≡ None → (o ≡ None)
+    × (first_some others ≡ None)
 first_some-none_parts None others e = (refl, e)
 first_some-none_parts (Some y) others e = absurd cc
 
 -- an answer is that of the first, or the first gives none and it is that of the others
-pub first_some-some_parts : {A : Type 0} (o : Option A) (others : List (Option A)) (x : A) → first_some (o ∷ others) ≡ Some x → (o ≡ Some x) ⊎ ((o ≡ None) × (first_some others ≡ Some x))
+pub first_some-some_parts : {A : Type 0} (o : Option A) (others : List (Option A)) (x : A) → first_some (o ∷ others) ≡ Some x → (o ≡ Some x)
+    ⊎ ((o ≡ None) × (first_some others ≡ Some x))
 first_some-some_parts None others x e = inr (refl, e)
 first_some-some_parts (Some y) others x e = inl e
 
 -- ---- the first answer to the numbers from a on
 
-first_from-none : {A : Type 0} (f : ℕ → Option A) (a n : ℕ) → ((k : ℕ) → a ≤ k → k < a + n → f k ≡ None) → first_some (map f (range_with_len a n)) ≡ None
+first_from-none : {A : Type 0} (f : ℕ → Option A) (a n : ℕ) → ((k : ℕ) → a ≤ k → k < a + n → f k ≡ None)
+    → first_some (map f (range_with_len a n)) ≡ None
 first_from-none f a zero h = refl
 first_from-none f a (suc n) h =
     let here : f a ≡ None = h a (omega arith) (omega arith) in
-    rw (first_some-none (f a) (map f (range_with_len (a + 1) n)) here) (first_from-none f (a + 1) n (λ k le lt. h k (omega arith) (omega arith)))
+    rw (first_some-none (f a) (map f (range_with_len (a + 1) n)) here)
+    (first_from-none f (a + 1) n (λ k le lt. h k (omega arith) (omega arith)))
 
-first_from-some : {A : Type 0} (f : ℕ → Option A) (a n k : ℕ) (x : A) → a ≤ k → k < a + n → ((j : ℕ) → a ≤ j → j < k → f j ≡ None) → f k ≡ Some x → first_some (map f (range_with_len a n)) ≡ Some x
+first_from-some : {A : Type 0} (f : ℕ → Option A) (a n k : ℕ) (x : A) → a ≤ k → k < a + n → ((j : ℕ) → a ≤ j → j < k → f j ≡ None)
+    → f k ≡ Some x → first_some (map f (range_with_len a n)) ≡ Some x
 first_from-some f a zero k x le lt before here = absurd (omega arith)
 first_from-some f a (suc n) k x le lt before here =
     elim (cases_lt a k) [
@@ -45,7 +50,8 @@ first_from-some f a (suc n) k x le lt before here =
       | inr now ↦ first_some-some x (f a) (map f (range_with_len (a + 1) n)) (let same : a ≡ k = omega arith in rw same here)
     ]
 
-first_from-each : {A : Type 0} (f : ℕ → Option A) (a n : ℕ) → first_some (map f (range_with_len a n)) ≡ None → (k : ℕ) → a ≤ k → k < a + n → f k ≡ None
+first_from-each : {A : Type 0} (f : ℕ → Option A) (a n : ℕ) → first_some (map f (range_with_len a n)) ≡ None → (k : ℕ) → a ≤ k → k < a + n
+    → f k ≡ None
 first_from-each f a zero e k le lt = absurd (omega arith)
 first_from-each f a (suc n) e k le lt =
     let parts = first_some-none_parts (f a) (map f (range_with_len (a + 1) n)) e in
@@ -79,7 +85,11 @@ first_from-found f a (suc n) x e =
     ]
   where
     none_from : (j m : ℕ) → f a ≡ None → ((i : ℕ) → a + 1 ≤ i → i < m → f i ≡ None) → a ≤ j → j < m → f j ≡ None
-    none_from j m first others le lt = elim (cases_lt a j) [ inl later ↦ others j (omega arith) lt | inr now ↦ let same : j ≡ a = omega arith in rw same first ]
+    none_from j m first others le lt = elim (cases_lt a j) [
+      | inl later ↦ others j (omega arith) lt
+      | inr now ↦ let same : j ≡ a = omega
+          arith in rw same first
+    ]
 
 -- ---- the first answer to the numbers below n
 
@@ -88,7 +98,8 @@ pub first_below-none : {A : Type 0} (f : ℕ → Option A) (n : ℕ) → ((k : �
 first_below-none f n h = first_from-none f 0 n (λ k le lt. h k (omega arith))
 
 -- the number k has an answer, and none before it
-pub first_below-some : {A : Type 0} (f : ℕ → Option A) (n k : ℕ) (x : A) → k < n → ((j : ℕ) → j < k → f j ≡ None) → f k ≡ Some x → first_below n f ≡ Some x
+pub first_below-some : {A : Type 0} (f : ℕ → Option A) (n k : ℕ) (x : A) → k < n → ((j : ℕ) → j < k → f j ≡ None) → f k ≡ Some x
+    → first_below n f ≡ Some x
 first_below-some f n k x lt before here = first_from-some f 0 n k x (omega arith) (omega arith) (λ j le lt2. before j lt2) here
 
 -- where there is no answer, no number below n has one
@@ -96,7 +107,8 @@ pub first_below-each : {A : Type 0} (f : ℕ → Option A) (n : ℕ) → first_b
 first_below-each f n e k lt = first_from-each f 0 n e k (omega arith) (omega arith)
 
 -- where there is an answer, some number below n gives it, and none before that number has one
-pub first_below-found : {A : Type 0} (f : ℕ → Option A) (n : ℕ) (x : A) → first_below n f ≡ Some x → (k : ℕ) × (k < n) × (f k ≡ Some x) × ((j : ℕ) → j < k → f j ≡ None)
+pub first_below-found : {A : Type 0} (f : ℕ → Option A) (n : ℕ) (x : A) → first_below n f ≡ Some x → (k : ℕ) × (k < n) × (f k ≡ Some x)
+    × ((j : ℕ) → j < k → f j ≡ None)
 first_below-found f n x e =
     let found = first_from-found f 0 n x e in
     (found.at, omega (arith, found.most), found.gives, λ j lt. found.before j (omega arith) lt)

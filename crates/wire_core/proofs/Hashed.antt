@@ -16,12 +16,14 @@ use Rattle.wire_core.specs.Hash.{magic, tag_number, hashed, hash_of, ArePieces, 
 pub hashed-push : (tag : Tag) (pieces : List (List ℕ)) (b : List ℕ) → hashed tag (pieces ++ b ∷ []) ≡ hashed tag pieces ++ prefixed b
 unfolding hashed
 hashed-push tag pieces b =
-    ap (λ (x : List ℕ). magic ++ tag_number tag ∷ x) (flat_map-append prefixed pieces (b ∷ []) ∙ ap (λ (x : List ℕ). flat_map prefixed pieces ++ x) (append-nil (prefixed b)))
+    ap (λ (x : List ℕ). magic ++ tag_number tag ∷ x) (flat_map-append prefixed pieces (b ∷ [])
+    ∙ ap (λ (x : List ℕ). flat_map prefixed pieces ++ x) (append-nil (prefixed b)))
 
 -- ---- what a hashed string determines
 
 tags : List Tag
-tags = View ∷ Roster ∷ RingPublic ∷ RingSecret ∷ RingCoins ∷ LayerStream ∷ LayerTag ∷ LayerSeed ∷ Message ∷ PadStream ∷ PadHash ∷ Derive ∷ LmsIdentifier ∷ LmsSeed ∷ ScriptKey ∷ ScriptFresh ∷ MakeSeed ∷ MakeMessage ∷ []
+tags = View ∷ Roster ∷ RingPublic ∷ RingSecret ∷ RingCoins ∷ LayerStream ∷ LayerTag ∷ LayerSeed ∷ Message ∷ PadStream ∷ PadHash ∷ Derive ∷
+    LmsIdentifier ∷ LmsSeed ∷ ScriptKey ∷ ScriptFresh ∷ MakeSeed ∷ MakeMessage ∷ []
 
 numbered : (t : Tag) → slice_index_or tags (tag_number t - 1) View ≡ t
 unfolding tags
@@ -74,7 +76,8 @@ pieces-determined (p ∷ ps) (q ∷ qs) s t e =
     cc
 
 -- a hashed string determines its tag and its list of pieces
-pub hashed_determines : (tag tag' : Tag) (pieces pieces' : List (List ℕ)) → ArePieces pieces → ArePieces pieces' → hashed tag pieces ≡ hashed tag' pieces' → (tag ≡ tag') × (pieces ≡ pieces')
+pub hashed_determines : (tag tag' : Tag) (pieces pieces' : List (List ℕ)) → ArePieces pieces → ArePieces pieces'
+    → hashed tag pieces ≡ hashed tag' pieces' → (tag ≡ tag') × (pieces ≡ pieces')
 unfolding hashed
 hashed_determines tag tag' pieces pieces' s t e =
     let rest : tag_number tag ∷ flat_map prefixed pieces ≡ tag_number tag' ∷ flat_map prefixed pieces' = cc in
@@ -83,7 +86,9 @@ hashed_determines tag tag' pieces pieces' s t e =
     (tag_number-determines tag tag' numbers, pieces-determined pieces pieces' s t bytes)
 
 -- equal hashes of two strings of a list without collisions have equal tags and pieces
-pub same_hash : (strings : List (List ℕ)) (tag tag' : Tag) (pieces pieces' : List (List ℕ)) → NoCollision strings → Contains strings (hashed tag pieces) → Contains strings (hashed tag' pieces') → ArePieces pieces → ArePieces pieces' → hash_of tag pieces ≡ hash_of tag' pieces' → (tag ≡ tag') × (pieces ≡ pieces')
+pub same_hash : (strings : List (List ℕ)) (tag tag' : Tag) (pieces pieces' : List (List ℕ)) → NoCollision strings
+    → Contains strings (hashed tag pieces) → Contains strings (hashed tag' pieces') → ArePieces pieces → ArePieces pieces'
+    → hash_of tag pieces ≡ hash_of tag' pieces' → (tag ≡ tag') × (pieces ≡ pieces')
 unfolding hash_of
 same_hash strings tag tag' pieces pieces' none there there' s t e =
     hashed_determines tag tag' pieces pieces' s t (none (hashed tag pieces) (hashed tag' pieces') there there' e)
@@ -100,7 +105,8 @@ same_or_not (a ∷ s) (b ∷ t) =
     ]
 
 -- equal hashes have equal tags and pieces, or are those of two strings that collide
-pub collide_or_same : (tag tag' : Tag) (pieces pieces' : List (List ℕ)) → ArePieces pieces → ArePieces pieces' → hash_of tag pieces ≡ hash_of tag' pieces' → ((tag ≡ tag') × (pieces ≡ pieces')) ⊎ Collides (hashed tag pieces) (hashed tag' pieces')
+pub collide_or_same : (tag tag' : Tag) (pieces pieces' : List (List ℕ)) → ArePieces pieces → ArePieces pieces'
+    → hash_of tag pieces ≡ hash_of tag' pieces' → ((tag ≡ tag') × (pieces ≡ pieces')) ⊎ Collides (hashed tag pieces) (hashed tag' pieces')
 unfolding hash_of
 collide_or_same tag tag' pieces pieces' s t e =
     elim (same_or_not (hashed tag pieces) (hashed tag' pieces')) [
@@ -109,7 +115,8 @@ collide_or_same tag tag' pieces pieces' s t e =
     ]
 
 -- no two strings of a part collide where none of the whole do
-pub no_collision_part : (part strings : List (List ℕ)) → ((s : List ℕ) → Contains part s → Contains strings s) → NoCollision strings → NoCollision part
+pub no_collision_part : (part strings : List (List ℕ)) → ((s : List ℕ) → Contains part s → Contains strings s) → NoCollision strings
+    → NoCollision part
 no_collision_part part strings inside none s t there there' e = none s t (inside s there) (inside t there') e
 
 -- ---- the seed of a layer
@@ -119,16 +126,30 @@ be64-determines m n small small' e =
     sym (from_be_bytes-to_be_bytes_8 m small) ∙ ap (from_be_bytes w64) e ∙ from_be_bytes-to_be_bytes_8 n small'
 
 -- the pieces of two lists of six are equal where the lists are
-six_pieces : (a a' b b' : List ℕ) (c c' d d' e e' f f' : ℕ) → a ∷ b ∷ (c ∷ []) ∷ (d ∷ []) ∷ (e ∷ []) ∷ (f ∷ []) ∷ [] ≡ a' ∷ b' ∷ (c' ∷ []) ∷ (d' ∷ []) ∷ (e' ∷ []) ∷ (f' ∷ []) ∷ [] → (a ≡ a') × (b ≡ b') × (c ≡ c') × (d ≡ d') × (e ≡ e') × (f ≡ f')
+six_pieces : (a a' b b' : List ℕ) (c c' d d' e e' f f' : ℕ) → a ∷ b ∷ (c ∷ []) ∷ (d ∷ []) ∷ (e ∷ []) ∷ (f ∷ []) ∷ [] ≡ a' ∷ b' ∷ (c' ∷ []) ∷
+    (d' ∷ []) ∷ (e' ∷ []) ∷ (f' ∷ []) ∷ [] → (a ≡ a') × (b ≡ b') × (c ≡ c') × (d ≡ d') × (e ≡ e') × (f ≡ f')
 six_pieces a a' b b' c c' d d' e e' f f' same = (cc, cc, cc, cc, cc, cc)
 
-pub layer_seed_determines : (strings : List (List ℕ)) (opening opening' : List ℕ) (round round' shuffle shuffle' side side' member member' layer layer' : ℕ) → NoCollision strings → Contains strings (layer_seed_string opening round shuffle side member layer) → Contains strings (layer_seed_string opening' round' shuffle' side' member' layer') → length opening ≡ 32 → length opening' ≡ 32 → round < 2 ^ 64 → round' < 2 ^ 64 → layer_seed opening round shuffle side member layer ≡ layer_seed opening' round' shuffle' side' member' layer' → (opening ≡ opening') × (round ≡ round') × (shuffle ≡ shuffle') × (side ≡ side') × (member ≡ member') × (layer ≡ layer')
-layer_seed_determines strings opening opening' round round' shuffle shuffle' side side' member member' layer layer' none there there' long long' small small' e =
+pub layer_seed_determines : (strings : List (List ℕ)) (opening opening' : List ℕ)
+    (round round' shuffle shuffle' side side' member member' layer layer' : ℕ) → NoCollision strings
+    → Contains strings (layer_seed_string opening round shuffle side member layer)
+    → Contains strings (layer_seed_string opening' round' shuffle' side' member' layer') → length opening ≡ 32 → length opening' ≡ 32
+    → round < 2 ^ 64 → round' < 2 ^ 64 → layer_seed opening round shuffle side member layer ≡ layer_seed opening' round' shuffle' side'
+    member' layer' → (opening ≡ opening') × (round ≡ round') × (shuffle ≡ shuffle') × (side ≡ side') × (member ≡ member') × (layer ≡ layer')
+layer_seed_determines strings opening opening' round round' shuffle shuffle' side side' member member' layer layer' none there there' long
+    long' small small' e =
     let pieces : ArePieces (layer_seed_pieces opening round shuffle side member layer) = fit opening round shuffle side member layer long in
-    let pieces' : ArePieces (layer_seed_pieces opening' round' shuffle' side' member' layer') = fit opening' round' shuffle' side' member' layer' long' in
-    let same = same_hash strings LayerSeed LayerSeed (layer_seed_pieces opening round shuffle side member layer) (layer_seed_pieces opening' round' shuffle' side' member' layer') none there there' pieces pieces' e in
-    let parts = six_pieces opening opening' (to_be_bytes w64 round) (to_be_bytes w64 round') shuffle shuffle' side side' member member' layer layer' same.1 in
+    let pieces' : ArePieces (layer_seed_pieces opening' round' shuffle' side' member' layer') = fit opening' round' shuffle' side' member'
+    layer' long' in
+    let same = same_hash strings LayerSeed LayerSeed (layer_seed_pieces opening round shuffle side member layer)
+    (layer_seed_pieces opening' round' shuffle' side' member' layer') none there there' pieces pieces' e in
+    let parts = six_pieces opening opening' (to_be_bytes w64 round) (to_be_bytes w64 round') shuffle shuffle' side side' member member'
+    layer layer' same.1 in
     (parts.0, be64-determines round round' small small' parts.1, parts.2, parts.3, parts.4, parts.5)
   where
-    fit : (opening : List ℕ) (round shuffle side member layer : ℕ) → length opening ≡ 32 → ArePieces (layer_seed_pieces opening round shuffle side member layer)
-    fit opening round shuffle side member layer long = (omega arith, (omega arith, (omega arith, (omega arith, (omega arith, (omega arith, tt))))))
+    fit : (opening : List ℕ) (round shuffle side member layer : ℕ) → length opening ≡ 32
+        → ArePieces (layer_seed_pieces opening round shuffle side member layer)
+    fit opening round shuffle side member layer long = (
+      omega arith,
+      (omega arith, (omega arith, (omega arith, (omega arith, (omega arith, tt))))),
+    )

@@ -38,26 +38,35 @@ not_then_inverse true p e = refl
 not_then_inverse false p e = absurd cc
 
 -- every byte is there
-pub first_unlike-none : (front bytes : List ℕ) → ((p : ℕ) → p < length front → has_byte bytes p (get_or front p 0) ≡ true) → first_unlike front bytes ≡ None
+pub first_unlike-none : (front bytes : List ℕ) → ((p : ℕ) → p < length front → has_byte bytes p (get_or front p 0) ≡ true)
+    → first_unlike front bytes ≡ None
 first_unlike-none front bytes each =
-    first_below-none (λ p. then_some (not (has_byte bytes p (slice_index front p))) p) (length front) (λ p lt. not_then (has_byte bytes p (slice_index front p)) p (each p lt))
+    first_below-none (λ p. then_some (not (has_byte bytes p (slice_index front p))) p) (length front)
+    (λ p lt. not_then (has_byte bytes p (slice_index front p)) p (each p lt))
 
 -- a byte is another, and all before it are there
-pub first_unlike-some : (front bytes : List ℕ) (p : ℕ) → p < length front → ((j : ℕ) → j < p → has_byte bytes j (get_or front j 0) ≡ true) → has_byte bytes p (get_or front p 0) ≡ false → first_unlike front bytes ≡ Some p
+pub first_unlike-some : (front bytes : List ℕ) (p : ℕ) → p < length front → ((j : ℕ) → j < p → has_byte bytes j (get_or front j 0) ≡ true)
+    → has_byte bytes p (get_or front p 0) ≡ false → first_unlike front bytes ≡ Some p
 first_unlike-some front bytes p lt before here =
-    first_below-some (λ p. then_some (not (has_byte bytes p (slice_index front p))) p) (length front) p p lt (λ j lt2. not_then (has_byte bytes j (slice_index front j)) j (before j lt2)) (then_not (has_byte bytes p (slice_index front p)) p here)
+    first_below-some (λ p. then_some (not (has_byte bytes p (slice_index front p))) p) (length front) p p lt
+    (λ j lt2. not_then (has_byte bytes j (slice_index front j)) j (before j lt2))
+    (then_not (has_byte bytes p (slice_index front p)) p here)
 
-pub first_unlike-each : (front bytes : List ℕ) → first_unlike front bytes ≡ None → (p : ℕ) → p < length front → has_byte bytes p (get_or front p 0) ≡ true
+pub first_unlike-each : (front bytes : List ℕ) → first_unlike front bytes ≡ None → (p : ℕ) → p < length front
+    → has_byte bytes p (get_or front p 0) ≡ true
 first_unlike-each front bytes e p lt =
-    not_then_inverse (has_byte bytes p (slice_index front p)) p (first_below-each (λ p. then_some (not (has_byte bytes p (slice_index front p))) p) (length front) e p lt)
+    not_then_inverse (has_byte bytes p (slice_index front p)) p
+    (first_below-each (λ p. then_some (not (has_byte bytes p (slice_index front p))) p) (length front) e p lt)
 
 -- bytes of which each is there begin so,
-begins_so : (front bytes : List ℕ) → ((p : ℕ) → p < length front → (p < length bytes) × (get_or bytes p 0 ≡ get_or front p 0)) → bytes ≡ front ++ drop (length front) bytes
+begins_so : (front bytes : List ℕ) → ((p : ℕ) → p < length front → (p < length bytes) × (get_or bytes p 0 ≡ get_or front p 0))
+    → bytes ≡ front ++ drop (length front) bytes
 begins_so [] bytes each = refl
 begins_so (a ∷ front) [] each = absurd (omega (arith, (each 0 (omega arith)).0))
 begins_so (a ∷ front) (b ∷ bytes) each =
     let first : b ≡ a = (each 0 (omega arith)).1 in
-    let rest : bytes ≡ front ++ drop (length front) bytes = begins_so front bytes (λ p lt. let there = each (suc p) (omega arith) in (omega (arith, there.0), there.1)) in
+    let rest : bytes ≡ front ++ drop (length front) bytes = begins_so front bytes
+    (λ p lt. let there = each (suc p) (omega arith) in (omega (arith, there.0), there.1)) in
     cc
 
 pub first_unlike-begins : (front bytes : List ℕ) → first_unlike front bytes ≡ None → bytes ≡ front ++ drop (length front) bytes
@@ -72,4 +81,5 @@ in_front (a ∷ front) rest (suc p) lt = let there = in_front front rest p (omeg
 -- and bytes that begin so have no unlike byte
 pub first_unlike-again : (front rest : List ℕ) → first_unlike front (front ++ rest) ≡ None
 first_unlike-again front rest =
-    first_unlike-none front (front ++ rest) (λ p lt. let there = in_front front rest p lt in there_byte (front ++ rest) p (get_or front p 0) there.0 there.1)
+    first_unlike-none front (front ++ rest) (λ p lt. let there = in_front front rest p lt in there_byte (front ++ rest) p (get_or front p 0)
+    there.0 there.1)

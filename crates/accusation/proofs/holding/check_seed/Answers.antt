@@ -8,32 +8,45 @@ pub returns-then-not-is_same : goal.returns-then-not-is_same
 returns-then-not-is_same c =
     let d = c.args.descriptor.now in
     let a = c.args.accusation.now in
-    let capsule = item_read d.capsules c.items.result.now.items (a.member - 1) c.index.result.now c.items.ensures (omega (arith, c.requires.first, c.requires.last, d.form.as_many)) c.index.ensures in
-    capsule_refused (description_of d) a.member a.seed c.args.key.now c.args.sent.now c.index.result.now c.seal_seed.result c.is_same.result capsule c.seal_seed.ensures c.is_same.ensures c.if-not-is_same.true
+    let capsule = item_read d.capsules c.items.result.now.items (a.member - 1) c.index.result.now c.items.ensures
+    (omega (arith, c.requires.first, c.requires.last, d.form.as_many)) c.index.ensures in
+    capsule_refused (description_of d) a.member a.seed c.args.key.now c.args.sent.now c.index.result.now c.seal_seed.result c.is_same.result
+    capsule c.seal_seed.ensures c.is_same.ensures c.if-not-is_same.true
 
 pub returns-then-not-is_hash : goal.returns-then-not-is_hash
 returns-then-not-is_hash c =
     let d = c.args.descriptor.now in
     let a = c.args.accusation.now in
-    let capsule = item_read d.capsules c.items.result.now.items (a.member - 1) c.index.result.now c.items.ensures (omega (arith, c.requires.first, c.requires.last, d.form.as_many)) c.index.ensures in
-    let given = item_read d.pad_hashes c.items-2.result.now.items (a.member - 1) c.index-2.result.now c.items-2.ensures (omega (arith, c.requires.first, c.requires.last)) c.index-2.ensures in
-    hash_refused (description_of d) a.member a.seed c.args.key.now c.args.sent.now c.index.result.now c.seal_seed.result c.index-2.result.now c.pad_hash.result c.is_same.result c.is_hash.result
+    let capsule = item_read d.capsules c.items.result.now.items (a.member - 1) c.index.result.now c.items.ensures
+    (omega (arith, c.requires.first, c.requires.last, d.form.as_many)) c.index.ensures in
+    let given = item_read d.pad_hashes c.items-2.result.now.items (a.member - 1) c.index-2.result.now c.items-2.ensures
+    (omega (arith, c.requires.first, c.requires.last)) c.index-2.ensures in
+    hash_refused (description_of d) a.member a.seed c.args.key.now c.args.sent.now c.index.result.now c.seal_seed.result
+    c.index-2.result.now c.pad_hash.result c.is_same.result c.is_hash.result
     capsule c.seal_seed.ensures c.is_same.ensures c.if-not-is_same.false given c.pad_hash.ensures c.is_hash.ensures c.if-not-is_hash.true
 
 pub returns-then-is_pad : goal.returns-then-is_pad
 returns-then-is_pad c =
     let d = c.args.descriptor.now in
     let a = c.args.accusation.now in
-    let capsule = item_read d.capsules c.items.result.now.items (a.member - 1) c.index.result.now c.items.ensures (omega (arith, c.requires.first, c.requires.last, d.form.as_many)) c.index.ensures in
-    let given = item_read d.pad_hashes c.items-2.result.now.items (a.member - 1) c.index-2.result.now c.items-2.ensures (omega (arith, c.requires.first, c.requires.last)) c.index-2.ensures in
-    pad_refused (description_of d) a.member a.seed c.args.key.now c.args.sent.now c.index.result.now c.seal_seed.result c.index-2.result.now c.pad_hash.result c.is_same.result c.is_hash.result
-    capsule c.seal_seed.ensures c.is_same.ensures c.if-not-is_same.false given c.pad_hash.ensures c.is_hash.ensures c.if-not-is_hash.false (c.is_pad.ensures.0 c.if-is_pad.true)
+    let capsule = item_read d.capsules c.items.result.now.items (a.member - 1) c.index.result.now c.items.ensures
+    (omega (arith, c.requires.first, c.requires.last, d.form.as_many)) c.index.ensures in
+    let given = item_read d.pad_hashes c.items-2.result.now.items (a.member - 1) c.index-2.result.now c.items-2.ensures
+    (omega (arith, c.requires.first, c.requires.last)) c.index-2.ensures in
+    pad_refused (description_of d) a.member a.seed c.args.key.now c.args.sent.now c.index.result.now c.seal_seed.result c.index-2.result.now
+    c.pad_hash.result c.is_same.result c.is_hash.result
+    capsule c.seal_seed.ensures c.is_same.ensures c.if-not-is_same.false given c.pad_hash.ensures c.is_hash.ensures c.if-not-is_hash.false
+    (c.is_pad.ensures.0 c.if-is_pad.true)
 
 pub returns : goal.returns
 returns c =
     let d = c.args.descriptor.now in
     let a = c.args.accusation.now in
-    let capsule = item_read d.capsules c.items.result.now.items (a.member - 1) c.index.result.now c.items.ensures (omega (arith, c.requires.first, c.requires.last, d.form.as_many)) c.index.ensures in
-    let given = item_read d.pad_hashes c.items-2.result.now.items (a.member - 1) c.index-2.result.now c.items-2.ensures (omega (arith, c.requires.first, c.requires.last)) c.index-2.ensures in
-    seed_taken (description_of d) a.member a.seed c.args.key.now c.args.sent.now c.index.result.now c.seal_seed.result c.index-2.result.now c.pad_hash.result c.is_same.result c.is_hash.result
-    capsule c.seal_seed.ensures c.is_same.ensures c.if-not-is_same.false given c.pad_hash.ensures c.is_hash.ensures c.if-not-is_hash.false (λ same. both_ways c.is_pad.result c.if-is_pad.false (c.is_pad.ensures.1 same))
+    let capsule = item_read d.capsules c.items.result.now.items (a.member - 1) c.index.result.now c.items.ensures
+    (omega (arith, c.requires.first, c.requires.last, d.form.as_many)) c.index.ensures in
+    let given = item_read d.pad_hashes c.items-2.result.now.items (a.member - 1) c.index-2.result.now c.items-2.ensures
+    (omega (arith, c.requires.first, c.requires.last)) c.index-2.ensures in
+    seed_taken (description_of d) a.member a.seed c.args.key.now c.args.sent.now c.index.result.now c.seal_seed.result c.index-2.result.now
+    c.pad_hash.result c.is_same.result c.is_hash.result
+    capsule c.seal_seed.ensures c.is_same.ensures c.if-not-is_same.false given c.pad_hash.ensures c.is_hash.ensures c.if-not-is_hash.false
+    (λ same. both_ways c.is_pad.result c.if-is_pad.false (c.is_pad.ensures.1 same))

@@ -23,16 +23,21 @@ pub returns-in_default : goal.returns-in_default
 returns-in_default c =
     let items = c.args.descriptors.now.items in
     let within = c.is_within.ensures.0 c.if-not-is_within.false in
-    let at = entry_at items c.args.accusation.now.slot c.index.result.now within.0 (omega (arith, within.1, c.len.ensures, c.requires.keys, c.args.descriptors.now.ok.0)) c.index.ensures in
-    refused_without c.args.accusation.now (map (option_map description_of) items) c.args.pads.now.members c.args.keys.now.items (at ∙ ap (option_map description_of) c.in_default.is)
+    let at = entry_at items c.args.accusation.now.slot c.index.result.now within.0
+    (omega (arith, within.1, c.len.ensures, c.requires.keys, c.args.descriptors.now.ok.0)) c.index.ensures in
+    refused_without c.args.accusation.now (map (option_map description_of) items) c.args.pads.now.members c.args.keys.now.items
+    (at ∙ ap (option_map description_of) c.in_default.is)
 
 pub returns-then-not-is_within-2 : goal.returns-then-not-is_within-2
 returns-then-not-is_within-2 c =
     let items = c.args.descriptors.now.items in
     let within = c.is_within.ensures.0 c.if-not-is_within.false in
-    let at = entry_at items c.args.accusation.now.slot c.index.result.now within.0 (omega (arith, within.1, c.len.ensures, c.requires.keys, c.args.descriptors.now.ok.0)) c.index.ensures in
-    refused_member c.args.accusation.now (map (option_map description_of) items) c.args.pads.now.members c.args.keys.now.items (description_of c.in-Some.descriptor) (at ∙ ap (option_map description_of) c.in-Some.is)
-    (λ w. both_ways c.is_within-2.result c.if-not-is_within-2.true (c.is_within-2.ensures.1 (w.0, omega (arith, w.1, c.len-2.ensures, c.args.keys.now.ok.0))))
+    let at = entry_at items c.args.accusation.now.slot c.index.result.now within.0
+    (omega (arith, within.1, c.len.ensures, c.requires.keys, c.args.descriptors.now.ok.0)) c.index.ensures in
+    refused_member c.args.accusation.now (map (option_map description_of) items) c.args.pads.now.members c.args.keys.now.items
+    (description_of c.in-Some.descriptor) (at ∙ ap (option_map description_of) c.in-Some.is)
+    (λ w. both_ways c.is_within-2.result c.if-not-is_within-2.true
+    (c.is_within-2.ensures.1 (w.0, omega (arith, w.1, c.len-2.ensures, c.args.keys.now.ok.0))))
 
 pub check_seed-requires-clause-last : goal.check_seed-requires-clause-last
 check_seed-requires-clause-last c =
@@ -41,9 +46,12 @@ check_seed-requires-clause-last c =
     let long : length descriptors ≡ length items = length-map items (option_map description_of) in
     let within = c.is_within.ensures.0 c.if-not-is_within.false in
     let within' = c.is_within-2.ensures.0 c.if-not-is_within-2.false in
-    let at = entry_at items c.args.accusation.now.slot c.index.result.now within.0 (omega (arith, within.1, c.len.ensures, c.requires.keys, c.args.descriptors.now.ok.0)) c.index.ensures in
-    let members = members_of descriptors c.args.pads.now.members c.args.accusation.now.slot (description_of c.in-Some.descriptor) c.requires.slots within.0
-    (omega (arith, within.1, long, c.len.ensures, c.requires.keys, c.args.descriptors.now.ok.0)) (at ∙ ap (option_map description_of) c.in-Some.is) in
+    let at = entry_at items c.args.accusation.now.slot c.index.result.now within.0
+    (omega (arith, within.1, c.len.ensures, c.requires.keys, c.args.descriptors.now.ok.0)) c.index.ensures in
+    let members = members_of descriptors c.args.pads.now.members c.args.accusation.now.slot (description_of c.in-Some.descriptor)
+    c.requires.slots within.0
+    (omega (arith, within.1, long, c.len.ensures, c.requires.keys, c.args.descriptors.now.ok.0))
+    (at ∙ ap (option_map description_of) c.in-Some.is) in
     omega (arith, members, long, within'.1, c.len-2.ensures, c.requires.keys, c.args.descriptors.now.ok.0)
 
 pub returns : goal.returns
@@ -56,13 +64,27 @@ returns c =
     let long : length descriptors ≡ length items = length-map items (option_map description_of) in
     let within = c.is_within.ensures.0 c.if-not-is_within.false in
     let within' = c.is_within-2.ensures.0 c.if-not-is_within-2.false in
-    let at = entry_at items a.slot c.index.result.now within.0 (omega (arith, within.1, c.len.ensures, c.requires.keys, c.args.descriptors.now.ok.0)) c.index.ensures in
+    let at = entry_at items a.slot c.index.result.now within.0 (omega
+    (arith, within.1, c.len.ensures, c.requires.keys, c.args.descriptors.now.ok.0)) c.index.ensures in
     let last : a.member ≤ length keys = omega (arith, within'.1, c.len-2.ensures, c.args.keys.now.ok.0) in
-    let row : a.member - 1 < length table = omega (arith, within'.0, within'.1, c.len-2.ensures, c.requires.keys, c.args.descriptors.now.ok.0, c.requires.slots.members, long) in
-    let wide : length (get_or table (a.member - 1) []) ≡ length descriptors = All-get_or (λ row. length row ≡ length descriptors) table (a.member - 1) [] row c.requires.slots.pads in
-    let room : a.slot - 1 < length (get_or table (a.member - 1) []) = omega (arith, wide, long, within.0, within.1, c.len.ensures, c.requires.keys, c.args.descriptors.now.ok.0) in
-    answered_by_seed a descriptors table keys (description_of c.in-Some.descriptor) c.index-4.result.now c.deref.result.now c.check_seed.result (at ∙ ap (option_map description_of) c.in-Some.is) within'.0 last
+    let row : a.member - 1 < length table = omega (
+      arith,
+      within'.0,
+      within'.1,
+      c.len-2.ensures,
+      c.requires.keys,
+      c.args.descriptors.now.ok.0,
+      c.requires.slots.members,
+      long,
+    ) in
+    let wide : length (get_or table (a.member - 1) []) ≡ length descriptors = All-get_or (λ row. length row ≡ length descriptors) table
+    (a.member - 1) [] row c.requires.slots.pads in
+    let room : a.slot - 1 < length (get_or table (a.member - 1) []) = omega
+    (arith, wide, long, within.0, within.1, c.len.ensures, c.requires.keys, c.args.descriptors.now.ok.0) in
+    answered_by_seed a descriptors table keys (description_of c.in-Some.descriptor) c.index-4.result.now c.deref.result.now
+    c.check_seed.result (at ∙ ap (option_map description_of) c.in-Some.is) within'.0 last
     (get_or_read keys (a.member - 1) c.index-4.result.now (omega (arith, within'.0, last)) c.index-4.ensures [])
-    (sent_read table c.items.result.now.items a.member a.slot c.index-2.result.now c.items-2.result.now.items c.index-3.result.now c.deref.result.now row c.items.ensures c.index-2.ensures c.items-2.ensures
+    (sent_read table c.items.result.now.items a.member a.slot c.index-2.result.now c.items-2.result.now.items c.index-3.result.now
+    c.deref.result.now row c.items.ensures c.index-2.ensures c.items-2.ensures
     room c.index-3.ensures (c.deref.ensures.value ∙ c.items-sent.ensures))
     c.check_seed.ensures

@@ -11,12 +11,14 @@ loop-seed-init c = record { hidden = refl; hashed = sym (append-nil c.args.hashe
 
 pub xor_into-requires : goal.xor_into-requires
 xor_into-requires c =
-    let pad : c.deref.result.now ≡ pad_of (get_or c.args.seeds.now c.loop-seed.seed-index []) (length c.args.bytes.now) = c.deref.ensures.value ∙ c.in_ok-pad.ensures in
+    let pad : c.deref.result.now ≡ pad_of (get_or c.args.seeds.now c.loop-seed.seed-index []) (length c.args.bytes.now) =
+    c.deref.ensures.value ∙ c.in_ok-pad.ensures in
     rw pad (c.loop-seed.auto.bytes ∙ sym (length-pad_of (get_or c.args.seeds.now c.loop-seed.seed-index []) (length c.args.bytes.now)))
 
 pub hash_of_pad-requires : goal.hash_of_pad-requires
 hash_of_pad-requires c =
-    let pad : c.deref-in-loop-seed.result.now ≡ pad_of (get_or c.args.seeds.now c.loop-seed.seed-index []) (length c.args.bytes.now) = c.deref-in-loop-seed.ensures.value ∙ c.in_ok-pad.ensures in
+    let pad : c.deref-in-loop-seed.result.now ≡ pad_of (get_or c.args.seeds.now c.loop-seed.seed-index []) (length c.args.bytes.now) =
+    c.deref-in-loop-seed.ensures.value ∙ c.in_ok-pad.ensures in
     rw pad (omega (arith, length-pad_of (get_or c.args.seeds.now c.loop-seed.seed-index []) (length c.args.bytes.now), c.requires))
 
 pub loop-seed-preserved : goal.loop-seed-preserved
@@ -25,8 +27,11 @@ loop-seed-preserved c =
     let count = length c.args.bytes.now in
     let k = c.loop-seed.seed-index in
     let first : c.deref.result.now ≡ pad_of (get_or seeds k []) count = c.deref.ensures.value ∙ c.in_ok-pad.ensures in
-    let second : c.deref-in-loop-seed.result.now ≡ pad_of (get_or seeds k []) count = c.deref-in-loop-seed.ensures.value ∙ c.in_ok-pad.ensures in
+    let second : c.deref-in-loop-seed.result.now ≡ pad_of (get_or seeds k []) count = c.deref-in-loop-seed.ensures.value
+    ∙ c.in_ok-pad.ensures in
     record {
-      hidden = c.xor_into.ensures ∙ hidden_under-more c.args.bytes.now c.loop-seed.bytes c.deref.result.now seeds count k c.loop-seed-test.true c.loop-seed.invariant.hidden first;
-      hashed = c.in_ok-push.ensures.items ∙ hashes-more c.args.hashes.now.items c.loop-seed.hashes.items c.hash_of_pad.result c.deref-in-loop-seed.result.now seeds count k c.loop-seed-test.true c.loop-seed.invariant.hashed second c.hash_of_pad.ensures;
+      hidden = c.xor_into.ensures ∙ hidden_under-more c.args.bytes.now c.loop-seed.bytes c.deref.result.now seeds count k
+          c.loop-seed-test.true c.loop-seed.invariant.hidden first;
+      hashed = c.in_ok-push.ensures.items ∙ hashes-more c.args.hashes.now.items c.loop-seed.hashes.items c.hash_of_pad.result
+          c.deref-in-loop-seed.result.now seeds count k c.loop-seed-test.true c.loop-seed.invariant.hashed second c.hash_of_pad.ensures;
     }

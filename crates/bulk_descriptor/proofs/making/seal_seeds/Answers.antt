@@ -15,5 +15,6 @@ loop-k-preserved c =
     let below' : k < length seeds = omega (arith, c.args.seeds.now.ok.0, c.len-k-end.ensures, c.loop-k-test.true, c.requires) in
     c.in_ok-push.ensures.items
     ∙ sealed_seeds-more keys seeds c.index.result.now c.index-in-loop-k.result.now c.seal_seed.result c.loop-k.capsules.items k below below'
-    (get_or_read keys k c.index.result.now below c.index.ensures []) (get_or_read seeds k c.index-in-loop-k.result.now below' c.index-in-loop-k.ensures [])
+    (get_or_read keys k c.index.result.now below c.index.ensures [])
+    (get_or_read seeds k c.index-in-loop-k.result.now below' c.index-in-loop-k.ensures [])
     c.seal_seed.ensures c.loop-k.invariant

@@ -28,22 +28,40 @@ read_capsules-requires c =
 pub invariant_of-result : goal.invariant_of-result
 invariant_of-result c =
     let bytes = c.args.bytes.now in
-    let d : Description = record { length = c.length_of.result; message_hash = c.hash_in.result; pad_hashes = c.of.result; capsules = c.of-2.result } in
+    let d : Description = record {
+      length = c.length_of.result;
+      message_hash = c.hash_in.result;
+      pad_hashes = c.of.result;
+      capsules =
+          c.of-2.result;
+    } in
     record {
       form = form_of c.args.n bytes d (sym c.is_descriptor.ensures ∙ c.if-not-is_descriptor.false)
-          (description_is c.args.n bytes c.hash_in.result c.split_at-2.result.1.now c.split_at-3.result.1.now c.length_of.result c.of.result c.of-2.result c.length_of.ensures
-          (c.hash_in.ensures ∙ c.split_at-2.ensures.front ∙ ap (take 32) c.split_at.ensures.back) (c.of.ensures ∙ c.in_ok-read_hashes.ensures)
-          (c.split_at-2.ensures.back ∙ ap (drop 32) c.split_at.ensures.back ∙ drop-drop 32 4 bytes) (c.of-2.ensures ∙ c.in_ok-read_capsules.ensures) c.split_at-3.ensures.back);
+          (description_is c.args.n bytes c.hash_in.result c.split_at-2.result.1.now c.split_at-3.result.1.now c.length_of.result c.of.result
+          c.of-2.result c.length_of.ensures
+          (c.hash_in.ensures ∙ c.split_at-2.ensures.front ∙ ap (take 32) c.split_at.ensures.back)
+          (c.of.ensures ∙ c.in_ok-read_hashes.ensures)
+          (c.split_at-2.ensures.back ∙ ap (drop 32) c.split_at.ensures.back ∙ drop-drop 32 4 bytes)
+          (c.of-2.ensures ∙ c.in_ok-read_capsules.ensures) c.split_at-3.ensures.back);
     }
 
 pub returns-clause-value : goal.returns-clause-value
 returns-clause-value c =
     let bytes = c.args.bytes.now in
-    let d : Description = record { length = c.length_of.result; message_hash = c.hash_in.result; pad_hashes = c.of.result; capsules = c.of-2.result } in
+    let d : Description = record {
+      length = c.length_of.result;
+      message_hash = c.hash_in.result;
+      pad_hashes = c.of.result;
+      capsules =
+          c.of-2.result;
+    } in
     read_if_passed c.args.n bytes d (sym c.is_descriptor.ensures ∙ c.if-not-is_descriptor.false)
-    (description_is c.args.n bytes c.hash_in.result c.split_at-2.result.1.now c.split_at-3.result.1.now c.length_of.result c.of.result c.of-2.result c.length_of.ensures
+    (description_is c.args.n bytes c.hash_in.result c.split_at-2.result.1.now c.split_at-3.result.1.now c.length_of.result c.of.result
+    c.of-2.result c.length_of.ensures
     (c.hash_in.ensures ∙ c.split_at-2.ensures.front ∙ ap (take 32) c.split_at.ensures.back) (c.of.ensures ∙ c.in_ok-read_hashes.ensures)
-    (c.split_at-2.ensures.back ∙ ap (drop 32) c.split_at.ensures.back ∙ drop-drop 32 4 bytes) (c.of-2.ensures ∙ c.in_ok-read_capsules.ensures) c.split_at-3.ensures.back)
+    (c.split_at-2.ensures.back ∙ ap (drop 32) c.split_at.ensures.back ∙ drop-drop 32 4 bytes)
+    (c.of-2.ensures ∙ c.in_ok-read_capsules.ensures) c.split_at-3.ensures.back)
 
 pub returns-clause-members : goal.returns-clause-members
-returns-clause-members c = ap (λ (l : List (List ℕ)). length l) (c.of.ensures ∙ c.in_ok-read_hashes.ensures) ∙ length-parts_of 32 c.args.n c.split_at-2.result.1.now
+returns-clause-members c = ap (λ (l : List (List ℕ)). length l) (c.of.ensures ∙ c.in_ok-read_hashes.ensures)
+    ∙ length-parts_of 32 c.args.n c.split_at-2.result.1.now

@@ -12,16 +12,19 @@ returns-then-not-is_group c =
     not_passed c.args.n c.args.bytes.now
     (λ p.
     elim c.then-not-is_group.branch [
-      | then-not-is_group-via-then-not-is_group w ↦ both_ways c.is_group.result w.if-not-is_group.true (c.is_group.ensures.1 (p.least, p.most))
+      | then-not-is_group-via-then-not-is_group w ↦ both_ways c.is_group.result w.if-not-is_group.true
+          (c.is_group.ensures.1 (p.least, p.most))
       | then-not-is_group-via-else-not-is_group+then-bytes-count w ↦ w.if-bytes-count.true p.long
     ])
 
 pub returns-then-not-is_short : goal.returns-then-not-is_short
 returns-then-not-is_short c =
-    not_passed c.args.n c.args.bytes.now (λ p. both_ways c.is_short.result c.if-not-is_short.true (c.is_short.ensures.1 (omega (arith, c.length_of.ensures, p.short))))
+    not_passed c.args.n c.args.bytes.now (λ p. both_ways c.is_short.result c.if-not-is_short.true
+    (c.is_short.ensures.1 (omega (arith, c.length_of.ensures, p.short))))
 
 pub returns : goal.returns
 returns c =
     let group = c.is_group.ensures.0 c.if-not-is_group.false in
-    passed_if_reduced c.args.n c.args.bytes.now c.are_reduced.result group.0 group.1 c.if-bytes-count.false (omega (arith, c.length_of.ensures, c.is_short.ensures.0 c.if-not-is_short.false))
+    passed_if_reduced c.args.n c.args.bytes.now c.are_reduced.result group.0 group.1 c.if-bytes-count.false
+    (omega (arith, c.length_of.ensures, c.is_short.ensures.0 c.if-not-is_short.false))
     (c.are_reduced.ensures ∙ ap (λ (b : List ℕ). list_all is_reduced (parts_of 2240 c.args.n b)) c.split_at.ensures.back)

@@ -9,19 +9,24 @@ pub join_rows-requires-clause-sizes : goal.join_rows-requires-clause-sizes
 join_rows-requires-clause-sizes c =
     let table = c.args.pads.now.members in
     let slot = c.args.slot in
-    let rest : c.split_at.result.1.now ≡ drop 1 table = c.split_at.ensures.back ∙ ap (λ (l : List (List (List ℕ))). drop 1 l) (c.deref-2.ensures.value ∙ c.items-rows.ensures) in
-    let pad = pad_of_row table c.items-rows.result.now.items slot 0 c.index.result.now c.items.result.now.items c.index-2.result.now c.deref.result.now c.requires.members c.items-rows.ensures c.index.ensures c.items.ensures
+    let rest : c.split_at.result.1.now ≡ drop 1 table = c.split_at.ensures.back
+    ∙ ap (λ (l : List (List (List ℕ))). drop 1 l) (c.deref-2.ensures.value ∙ c.items-rows.ensures) in
+    let pad = pad_of_row table c.items-rows.result.now.items slot 0 c.index.result.now c.items.result.now.items c.index-2.result.now
+    c.deref.result.now c.requires.members c.items-rows.ensures c.index.ensures c.items.ensures
     c.requires.pads c.index-2.ensures (c.deref.ensures.value ∙ c.items-2.ensures) in
     let first : c.deref_mut.result.now ≡ c.deref.result.now = c.deref_mut.ensures.value ∙ c.in_ok-joined.ensures.items in
-    let long : length c.deref_mut.result.now ≡ c.args.count = ap (λ (x : List ℕ). length x) first ∙ size_of_row c.args.count table slot 0 c.deref.result.now c.requires.members c.requires.sizes pad in
+    let long : length c.deref_mut.result.now ≡ c.args.count = ap (λ (x : List ℕ). length x) first
+    ∙ size_of_row c.args.count table slot 0 c.deref.result.now c.requires.members c.requires.sizes pad in
     rw (long, rest) (sizes_of_tail c.args.count table slot c.requires.sizes)
 
 pub returns : goal.returns
 returns c =
     let table = c.args.pads.now.members in
     let slot = c.args.slot in
-    let rest : c.split_at.result.1.now ≡ drop 1 table = c.split_at.ensures.back ∙ ap (λ (l : List (List (List ℕ))). drop 1 l) (c.deref-2.ensures.value ∙ c.items-rows.ensures) in
-    let pad = pad_of_row table c.items-rows.result.now.items slot 0 c.index.result.now c.items.result.now.items c.index-2.result.now c.deref.result.now c.requires.members c.items-rows.ensures c.index.ensures c.items.ensures
+    let rest : c.split_at.result.1.now ≡ drop 1 table = c.split_at.ensures.back
+    ∙ ap (λ (l : List (List (List ℕ))). drop 1 l) (c.deref-2.ensures.value ∙ c.items-rows.ensures) in
+    let pad = pad_of_row table c.items-rows.result.now.items slot 0 c.index.result.now c.items.result.now.items c.index-2.result.now
+    c.deref.result.now c.requires.members c.items-rows.ensures c.index.ensures c.items.ensures
     c.requires.pads c.index-2.ensures (c.deref.ensures.value ∙ c.items-2.ensures) in
     let held = c.deref_mut.result.now in
     let first : held ≡ c.deref.result.now = c.deref_mut.ensures.value ∙ c.in_ok-joined.ensures.items in

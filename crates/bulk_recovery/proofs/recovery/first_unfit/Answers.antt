@@ -13,7 +13,12 @@ unfit_at-requires-clause-place c = omega (arith, c.loop-place-test.true, ap (λ 
 pub returns-in-Some : goal.returns-in-Some
 returns-in-Some c =
     let table = c.args.pads.now.members in
-    let below : c.loop-place.place < length table = omega (arith, c.loop-place-test.true, ap (λ (l : List (List (List ℕ))). length l) c.items.ensures) in
+    let below : c.loop-place.place < length table = omega (
+      arith,
+      c.loop-place-test.true,
+      ap (λ (l : List (List (List ℕ))). length l)
+          c.items.ensures,
+    ) in
     unfit_found (description_of c.args.descriptor.now) (pads_for table c.args.slot) c.loop-place.place c.in-Some.member c.unfit_at.result
     (omega (arith, below, length-pads_for table c.args.slot)) c.loop-place.invariant c.unfit_at.ensures c.in-Some.is
 
@@ -26,4 +31,10 @@ pub returns : goal.returns
 returns c =
     let table = c.args.pads.now.members in
     all_fit (description_of c.args.descriptor.now) (pads_for table c.args.slot) c.loop-place.place
-    (omega (arith, c.loop-place-test.false, c.loop-place.auto.place-end, ap (λ (l : List (List (List ℕ))). length l) c.items.ensures, length-pads_for table c.args.slot)) c.loop-place.invariant
+    (omega (
+      arith,
+      c.loop-place-test.false,
+      c.loop-place.auto.place-end,
+      ap (λ (l : List (List (List ℕ))). length l) c.items.ensures,
+      length-pads_for table c.args.slot,
+    )) c.loop-place.invariant

@@ -13,5 +13,6 @@ shown_by-requires c =
     let both : c.push-2.new.self.items ≡ first ∷ c.args.other.now ∷ []
     = c.in_ok-push-2.ensures.items ∙ ap (λ (front : List (List ℕ)). front ++ c.in_ok-copied.field-0 ∷ []) one
     ∙ ap (λ (post : List ℕ). first ∷ post ∷ []) c.in_ok-copied.ensures in
-    two-charge Equivocation c.args.accused c.args.round c.of-2.result c.push-2.new.self.items first c.args.other.now c.of-2.ensures both refl tt
+    two-charge Equivocation c.args.accused c.args.round c.of-2.result c.push-2.new.self.items first c.args.other.now c.of-2.ensures both
+    refl tt
     c.requires.least c.requires.most (omega (arith, c.ranges.round.fits)) c.requires.kept c.requires.short

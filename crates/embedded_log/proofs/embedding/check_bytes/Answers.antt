@@ -10,32 +10,38 @@ use Rattle.embedded_log.proofs.EmbeddedPosts.{admitted, checked-found, checked-o
 use Rattle.embedded_log.proofs.embedding.check_bytes.Goals as goal
 
 pub returns-in_default-clause-value : goal.returns-in_default-clause-value
-returns-in_default-clause-value c = checked-unframed (roster_of c.args.roster.now) c.args.round c.args.bytes.now c.in_default.field-0 c.in_default.ensures
+returns-in_default-clause-value c = checked-unframed (roster_of c.args.roster.now) c.args.round c.args.bytes.now c.in_default.field-0
+    c.in_default.ensures
 
 pub check_parts-requires-clause-least : goal.check_parts-requires-clause-least
 check_parts-requires-clause-least c =
-    (framed-fits c.args.bytes.now (record { content = c.in-Ok.parts.content.now; signature = c.in-Ok.parts.signature.now }) c.in-Ok.ensures).least
+    (framed-fits c.args.bytes.now (record { content = c.in-Ok.parts.content.now; signature = c.in-Ok.parts.signature.now })
+    c.in-Ok.ensures).least
 
 pub check_parts-requires-clause-most : goal.check_parts-requires-clause-most
 check_parts-requires-clause-most c =
-    let fits = framed-fits c.args.bytes.now (record { content = c.in-Ok.parts.content.now; signature = c.in-Ok.parts.signature.now }) c.in-Ok.ensures in
+    let fits = framed-fits c.args.bytes.now (record { content = c.in-Ok.parts.content.now; signature = c.in-Ok.parts.signature.now })
+    c.in-Ok.ensures in
     omega (arith, fits.most)
 
 pub check_parts-requires-clause-signature : goal.check_parts-requires-clause-signature
 check_parts-requires-clause-signature c =
-    let fits = framed-fits c.args.bytes.now (record { content = c.in-Ok.parts.content.now; signature = c.in-Ok.parts.signature.now }) c.in-Ok.ensures in
+    let fits = framed-fits c.args.bytes.now (record { content = c.in-Ok.parts.content.now; signature = c.in-Ok.parts.signature.now })
+    c.in-Ok.ensures in
     omega (arith, fits.most)
 
 pub first_offence-requires : goal.first_offence-requires
 first_offence-requires c =
-    let fits = framed-fits c.args.bytes.now (record { content = c.in-Ok.parts.content.now; signature = c.in-Ok.parts.signature.now }) c.in-Ok.ensures in
+    let fits = framed-fits c.args.bytes.now (record { content = c.in-Ok.parts.content.now; signature = c.in-Ok.parts.signature.now })
+    c.in-Ok.ensures in
     omega (arith, fits.most)
 
 pub returns-in_default-check_parts-clause-value : goal.returns-in_default-check_parts-clause-value
 returns-in_default-check_parts-clause-value c =
     let post : Post = record { content = c.in-Ok.parts.content.now; signature = c.in-Ok.parts.signature.now } in
     let fits : IsBytes c.args.bytes.now = λ i. omega (arith, c.type_inv.bytes i) in
-    checked-refused (roster_of c.args.roster.now) c.args.round c.args.bytes.now post c.in_default-check_parts.field-0 fits c.in-Ok.ensures (sym c.in_default-check_parts.ensures)
+    checked-refused (roster_of c.args.roster.now) c.args.round c.args.bytes.now post c.in_default-check_parts.field-0 fits c.in-Ok.ensures
+    (sym c.in_default-check_parts.ensures)
 
 pub returns-then-is_some-clause-value : goal.returns-then-is_some-clause-value
 returns-then-is_some-clause-value c =
@@ -43,8 +49,10 @@ returns-then-is_some-clause-value c =
     let post : Post = record { content = c.in-Ok.parts.content.now; signature = c.in-Ok.parts.signature.now } in
     let fits : IsBytes c.args.bytes.now = λ i. omega (arith, c.type_inv.bytes i) in
     let found = c.first_offence.ensures ∙ ap (λ (shape : Shape). first_offence shape c.in-Ok.parts.content.now) c.shape.ensures in
-    let offends = (read_by (content_read (shape_of_roster roster) post.content) c.first_offence.result found).0 (sym c.is_some.ensures ∙ c.if-is_some.true) in
-    checked-offends roster c.args.round c.args.bytes.now post c.in-Ok-check_parts.header offends.0 fits c.in-Ok.ensures (sym c.in-Ok-check_parts.ensures) offends.1
+    let offends = (read_by (content_read (shape_of_roster roster) post.content) c.first_offence.result found).0
+    (sym c.is_some.ensures ∙ c.if-is_some.true) in
+    checked-offends roster c.args.round c.args.bytes.now post c.in-Ok-check_parts.header offends.0 fits c.in-Ok.ensures
+    (sym c.in-Ok-check_parts.ensures) offends.1
 
 pub returns-clause-value : goal.returns-clause-value
 returns-clause-value c =
@@ -52,9 +60,15 @@ returns-clause-value c =
     let post : Post = record { content = c.in-Ok.parts.content.now; signature = c.in-Ok.parts.signature.now } in
     let fits : IsBytes c.args.bytes.now = λ i. omega (arith, c.type_inv.bytes i) in
     let found = c.first_offence.ensures ∙ ap (λ (shape : Shape). first_offence shape c.in-Ok.parts.content.now) c.shape.ensures in
-    let read = (read_by (content_read (shape_of_roster roster) post.content) c.first_offence.result found).1 (sym c.is_some.ensures ∙ c.if-is_some.false) in
-    let there = admitted roster c.args.round c.args.bytes.now post c.in-Ok-check_parts.header fits c.in-Ok.ensures (sym c.in-Ok-check_parts.ensures) in
-    (read.0, checked-found roster c.args.round c.args.bytes.now post c.in-Ok-check_parts.header read.0 fits c.in-Ok.ensures (sym c.in-Ok-check_parts.ensures) read.1, header-same roster c.args.round post c.in-Ok-check_parts.header read.0 there read.1)
+    let read = (read_by (content_read (shape_of_roster roster) post.content) c.first_offence.result found).1
+    (sym c.is_some.ensures ∙ c.if-is_some.false) in
+    let there = admitted roster c.args.round c.args.bytes.now post c.in-Ok-check_parts.header fits c.in-Ok.ensures
+    (sym c.in-Ok-check_parts.ensures) in (
+      read.0,
+      checked-found roster c.args.round c.args.bytes.now post c.in-Ok-check_parts.header read.0 fits c.in-Ok.ensures
+          (sym c.in-Ok-check_parts.ensures) read.1,
+      header-same roster c.args.round post c.in-Ok-check_parts.header read.0 there read.1,
+    )
 
 pub returns-clause-stands : goal.returns-clause-stands
 returns-clause-stands c =
@@ -62,6 +76,9 @@ returns-clause-stands c =
     let post : Post = record { content = c.in-Ok.parts.content.now; signature = c.in-Ok.parts.signature.now } in
     let fits : IsBytes c.args.bytes.now = λ i. omega (arith, c.type_inv.bytes i) in
     let found = c.first_offence.ensures ∙ ap (λ (shape : Shape). first_offence shape c.in-Ok.parts.content.now) c.shape.ensures in
-    let read = (read_by (content_read (shape_of_roster roster) post.content) c.first_offence.result found).1 (sym c.is_some.ensures ∙ c.if-is_some.false) in
-    let there = admitted roster c.args.round c.args.bytes.now post c.in-Ok-check_parts.header fits c.in-Ok.ensures (sym c.in-Ok-check_parts.ensures) in
-    stands-there roster c.args.round post c.in-Ok-check_parts.header read.0 (framed_content c.args.bytes.now post fits c.in-Ok.ensures) there read.1
+    let read = (read_by (content_read (shape_of_roster roster) post.content) c.first_offence.result found).1
+    (sym c.is_some.ensures ∙ c.if-is_some.false) in
+    let there = admitted roster c.args.round c.args.bytes.now post c.in-Ok-check_parts.header fits c.in-Ok.ensures
+    (sym c.in-Ok-check_parts.ensures) in
+    stands-there roster c.args.round post c.in-Ok-check_parts.header read.0 (framed_content c.args.bytes.now post fits c.in-Ok.ensures)
+    there read.1

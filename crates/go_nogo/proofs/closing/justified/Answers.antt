@@ -17,10 +17,13 @@ votes_of-requires-clause-complete c =
 
 pub returns-then-is_assent : goal.returns-then-is_assent
 returns-then-is_assent c =
-    assent-justified c.args.embedded.now c.args.content.now c.in_ok-votes.votes.items c.unanimous-agree.result (sym c.is_assent.ensures ∙ c.if-is_assent.true) c.in_ok-votes.ensures c.unanimous-agree.ensures.value
+    assent-justified c.args.embedded.now c.args.content.now c.in_ok-votes.votes.items c.unanimous-agree.result
+    (sym c.is_assent.ensures ∙ c.if-is_assent.true) c.in_ok-votes.ensures c.unanimous-agree.ensures.value
 
 pub returns : goal.returns
 returns c =
     let before = votes-before c.args.embedded.now.shape c.args.content.now c.requires.closing in
-    objection-justified c.args.embedded.now c.args.content.now c.in_ok-votes.votes.items c.unanimous-agree.result c.is_objection.result c.view-view.result
-    (sym c.is_assent.ensures ∙ c.if-is_assent.false) before.0 c.requires.holds c.in_ok-votes.ensures c.unanimous-agree.ensures.value c.view-view.ensures c.is_objection.ensures
+    objection-justified c.args.embedded.now c.args.content.now c.in_ok-votes.votes.items c.unanimous-agree.result c.is_objection.result
+    c.view-view.result
+    (sym c.is_assent.ensures ∙ c.if-is_assent.false) before.0 c.requires.holds c.in_ok-votes.ensures c.unanimous-agree.ensures.value
+    c.view-view.ensures c.is_objection.ensures

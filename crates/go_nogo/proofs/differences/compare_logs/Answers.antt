@@ -10,12 +10,14 @@ use Rattle.go_nogo.proofs.differences.compare_logs.Goals as goal
 pub returns-in-Some-clause-value : goal.returns-in-Some-clause-value
 returns-in-Some-clause-value c =
     let members = ap (λ (shape : Shape). shape.members) c.shape-shape.ensures.shape in
-    sym (first_below-some (difference_at c.args.a.now c.args.b.now) (stage_count c.args.a.now.shape) c.loop-stage.stage c.in-Some.slot (omega (arith, members)) c.loop-stage.invariant (sym c.compare_stage.ensures ∙ c.in-Some.is))
+    sym (first_below-some (difference_at c.args.a.now c.args.b.now) (stage_count c.args.a.now.shape) c.loop-stage.stage c.in-Some.slot
+    (omega (arith, members)) c.loop-stage.invariant (sym c.compare_stage.ensures ∙ c.in-Some.is))
 
 pub returns-clause-value : goal.returns-clause-value
 returns-clause-value c =
     let members = ap (λ (shape : Shape). shape.members) c.shape-shape.ensures.shape in
-    sym (first_below-none (difference_at c.args.a.now c.args.b.now) (stage_count c.args.a.now.shape) (λ k lt. c.loop-stage.invariant k (omega (arith, members))))
+    sym (first_below-none (difference_at c.args.a.now c.args.b.now) (stage_count c.args.a.now.shape)
+    (λ k lt. c.loop-stage.invariant k (omega (arith, members))))
 
 pub returns-in-Some-clause-first : goal.returns-in-Some-clause-first
 returns-in-Some-clause-first c = difference-is c.args.a.now c.args.b.now (Some c.in-Some.slot) (returns-in-Some-clause-value c)

@@ -13,12 +13,14 @@ use Rattle.go_nogo.proofs.votes.votes_of.Goals as goal
 pub vote_in-requires : goal.vote_in-requires
 vote_in-requires c =
     let members = ap (λ (shape : Shape). shape.members) c.shape-shape.ensures.shape in
-    place-vote c.args.log.now c.args.stage c.loop-place.place c.shape-shape.ensures.form c.requires.votes c.requires.complete c.requires.stand (omega (arith, members))
+    place-vote c.args.log.now c.args.stage c.loop-place.place c.shape-shape.ensures.form c.requires.votes c.requires.complete
+    c.requires.stand (omega (arith, members))
 
 pub loop-place-preserved : goal.loop-place-preserved
 loop-place-preserved c =
     let members = ap (λ (shape : Shape). shape.members) c.shape-shape.ensures.shape in
-    votes-next c.args.log.now c.args.stage c.loop-place.place c.loop-place.votes.items c.in_ok-vote.vote c.shape-shape.ensures.form c.requires.votes c.requires.complete (omega (arith, members))
+    votes-next c.args.log.now c.args.stage c.loop-place.place c.loop-place.votes.items c.in_ok-vote.vote c.shape-shape.ensures.form
+    c.requires.votes c.requires.complete (omega (arith, members))
     c.loop-place.invariant c.in_ok-vote.ensures
     ∙ ap (λ (votes : List Vote). Some votes) (sym c.in_ok-push.ensures.items)
 
@@ -26,5 +28,6 @@ pub returns : goal.returns
 returns c =
     let members = ap (λ (shape : Shape). shape.members) c.shape-shape.ensures.shape in
     let row = vote_row c.args.log.now c.args.stage c.shape-shape.ensures.form c.requires.votes in
-    ap (λ (places : List (Option Post)). votes_of c.args.log.now.shape (contents_in places)) (sym (take_all c.loop-place.place (posts_in c.args.log.now c.args.stage) (omega (arith, members))))
+    ap (λ (places : List (Option Post)). votes_of c.args.log.now.shape (contents_in places))
+    (sym (take_all c.loop-place.place (posts_in c.args.log.now c.args.stage) (omega (arith, members))))
     ∙ c.loop-place.invariant

@@ -6,7 +6,8 @@ use Rattle.group_roster.proofs.binary.check_keys.Goals as goal
 pub returns-in_err-check_key : goal.returns-in_err-check_key
 returns-in_err-check_key c =
     let p = err_from_is_err_and c.from_residual.result c.from_residual.ensures.1 in
-    rw (p.1, p.2) (keys-stop c.args.bytes.now c.loop-k.k c.args.size c.in_err-check_key.field-0.0 (omega arith) c.loop-k.invariant c.in_err-check_key.ensures)
+    rw (p.1, p.2) (keys-stop c.args.bytes.now c.loop-k.k c.args.size c.in_err-check_key.field-0.0 (omega arith) c.loop-k.invariant
+    c.in_err-check_key.ensures)
 
 pub loop-k-preserved : goal.loop-k-preserved
 loop-k-preserved c = keys-go_on c.args.bytes.now c.loop-k.k c.in_ok-check_key.field-0 c.loop-k.invariant c.in_ok-check_key.ensures

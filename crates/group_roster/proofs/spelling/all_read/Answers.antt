@@ -7,7 +7,11 @@ use Rattle.group_roster.proofs.spelling.all_read.Goals as goal
 pub loop-key-preserved : goal.loop-key-preserved
 loop-key-preserved c =
     let i = c.loop-key.key-index in
-    below_more _ i c.loop-key.invariant (record { size = c.told-keys i c.loop-key-test.true; reads = key_reads c.read.result c.read.ensures.value c.is_err.result c.is_err.ensures.value c.if-is_err.false })
+    below_more _ i c.loop-key.invariant (record {
+      size = c.told-keys i c.loop-key-test.true;
+      reads = key_reads c.read.result
+          c.read.ensures.value c.is_err.result c.is_err.ensures.value c.if-is_err.false;
+    })
 
 pub returns : goal.returns
 returns c = (

@@ -11,4 +11,5 @@ loop-k-preserved c =
     let a = 6 + 56 * k in
     let lt : k < length keys = grind arith in
     let part : c.copy_from_slice-in-loop-k.new.self ≡ get_or keys k [] = grind (arith, common_steps) in
-    spelled-more (roster_magic ++ (c.args.version ∷ length keys ∷ [])) keys k c.loop-k.bytes c.copy_from_slice-in-loop-k.new.self a ((a + 56) - a) (6 + 56 * (k + 1)) (omega arith) part (omega (arith, c.copy_from_slice-in-loop-k.ensures.len)) lt c.loop-k.invariant
+    spelled-more (roster_magic ++ (c.args.version ∷ length keys ∷ [])) keys k c.loop-k.bytes c.copy_from_slice-in-loop-k.new.self a
+    ((a + 56) - a) (6 + 56 * (k + 1)) (omega arith) part (omega (arith, c.copy_from_slice-in-loop-k.ensures.len)) lt c.loop-k.invariant

@@ -23,7 +23,8 @@ loop-k-preserved c =
     let v = c.entry-item.result in
     let next = entry-next vs c.deref-entry-items.result.now k v c.deref-entry-items.ensures.value c.loop-k-test.true c.entry-item.is in
     let keys = c.loop-k.keys.items in
-    let more = keys-some keys (k + 1) (view v) (map view (drop (k + 1) vs)) c.in-Some.key (keys_from 1 (map view vs)) (sym c.entry_key.ensures ∙ c.in-Some.is)
+    let more = keys-some keys (k + 1) (view v) (map view (drop (k + 1) vs)) c.in-Some.key (keys_from 1 (map view vs))
+    (sym c.entry_key.ensures ∙ c.in-Some.is)
     (ap (λ (xs : List Data). with_keys keys (keys_from (k + 1) xs)) (sym next) ∙ c.loop-k.invariant.0) in
     rw c.in_ok-push-in-Some.ensures.items (more, length-more keys c.in-Some.key k c.loop-k.invariant.1)
 
@@ -34,4 +35,6 @@ returns-clause-keys c =
     let keys = c.loop-k.keys.items in
     ap (keys_from 1) (list_of-items (map view vs))
     ∙ keys-done keys (k + 1) (keys_from 1 (map view vs))
-    (ap (λ (xs : List Data). with_keys keys (keys_from (k + 1) xs)) (sym (entries-end vs c.deref-entry-items.result.now k c.deref-entry-items.ensures.value c.loop-k-test.false)) ∙ c.loop-k.invariant.0)
+    (ap (λ (xs : List Data). with_keys keys (keys_from (k + 1) xs))
+    (sym (entries-end vs c.deref-entry-items.result.now k c.deref-entry-items.ensures.value c.loop-k-test.false))
+    ∙ c.loop-k.invariant.0)

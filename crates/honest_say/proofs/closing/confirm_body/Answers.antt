@@ -22,7 +22,8 @@ returns-in-Votes c =
     let log = c.args.log.now in
     let stage : ℕ = c.shape-stage.result.members + 6 in
     let members = ap (λ (s : Shape). s.members) c.shape-stage.ensures.shape in
-    let embedded : Votes c.in-Votes.votes ≡ embedded_in log.shape (posts_before log stage) stage = sym c.in-Votes.is ∙ c.in_ok-votes.ensures in
+    let embedded : Votes c.in-Votes.votes ≡ embedded_in log.shape (posts_before log stage) stage = sym c.in-Votes.is
+    ∙ c.in_ok-votes.ensures in
     subst (λ (n : ℕ). Confirm c.in-Votes.votes ≡ confirm_row log.shape (posts_before log (n + 6)) (n + 6)) members
     (confirm-votes log.shape (posts_before log stage) stage c.in-Votes.votes embedded)
 

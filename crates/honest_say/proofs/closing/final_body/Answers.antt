@@ -16,7 +16,8 @@ embedded_posts-requires-clause-closing c =
     let log = c.args.log.now in
     let stage : c.final_stage-stage.result ≡ final_stage log.shape c.args.shuffle
     = c.final_stage-stage.ensures ∙ ap (λ (s : Shape). final_stage s c.args.shuffle) c.shape.ensures.shape in
-    subst (λ (t : ℕ). IsSome (option_and_then vote_of (kind_of_stage log.shape t))) (sym stage) (final-closes log.shape c.args.shuffle c.requires.first c.requires.last)
+    subst (λ (t : ℕ). IsSome (option_and_then vote_of (kind_of_stage log.shape t))) (sym stage)
+    (final-closes log.shape c.args.shuffle c.requires.first c.requires.last)
 
 pub embedded_posts-requires-clause-complete : goal.embedded_posts-requires-clause-complete
 embedded_posts-requires-clause-complete c =
@@ -40,7 +41,8 @@ returns-in-Ok-Votes c =
     = c.final_stage-stage.ensures ∙ ap (λ (s : Shape). final_stage s c.args.shuffle) c.shape.ensures.shape in
     let embedded = rw c.in-Ok-Votes.field-0-is at c.in-Ok-Votes.ensures in
     subst (λ (t : ℕ). c.revealed.result ≡ final_row log.shape (posts_before log t) t own.inner own.outer own.outer_opening) stage
-    (c.revealed.ensures ∙ final-votes log.shape (posts_before log c.final_stage-stage.result) c.final_stage-stage.result c.in-Ok-Votes.votes own.inner own.outer own.outer_opening embedded)
+    (c.revealed.ensures ∙ final-votes log.shape (posts_before log c.final_stage-stage.result) c.final_stage-stage.result c.in-Ok-Votes.votes
+    own.inner own.outer own.outer_opening embedded)
 
 pub returns-in-Ok-All : goal.returns-in-Ok-All
 returns-in-Ok-All c =
@@ -50,4 +52,5 @@ returns-in-Ok-All c =
     = c.final_stage-stage.ensures ∙ ap (λ (s : Shape). final_stage s c.args.shuffle) c.shape.ensures.shape in
     let embedded = rw c.in-Ok-All.field-0-is at c.in-Ok-All.ensures in
     subst (λ (t : ℕ). c.disputed.result ≡ final_row log.shape (posts_before log t) t own.inner own.outer own.outer_opening) stage
-    (c.disputed.ensures ∙ final-all log.shape (posts_before log c.final_stage-stage.result) c.final_stage-stage.result c.in-Ok-All.posts own.inner own.outer own.outer_opening embedded)
+    (c.disputed.ensures ∙ final-all log.shape (posts_before log c.final_stage-stage.result) c.final_stage-stage.result c.in-Ok-All.posts
+    own.inner own.outer own.outer_opening embedded)

@@ -36,8 +36,10 @@ loop-place-preserved c =
     let posts : List Post = posts_at log.shape (posts_before log c.args.stage) (c.args.stage - 1) in
     let found = kept-post log c.args.stage slot c.shape-shape.ensures.form c.requires.complete
     (row-slot log.shape (c.args.stage - 1) (place + 1) row.1 (omega arith) (omega (arith, members))) (omega (arith, row.0)) in
-    let there = sym (vote-kept log c.args.stage place (posts_before log c.args.stage) row.0 (complete-posts log c.args.stage c.requires.complete) row.1 (omega (arith, members))) ∙ found.1 in
-    let spelled : Some (post_spelling found.0) ≡ Some c.in_ok-post.post = ap (option_map post_spelling) (sym found.1) ∙ c.in_ok-post.ensures in
+    let there = sym (vote-kept log c.args.stage place (posts_before log c.args.stage) row.0
+    (complete-posts log c.args.stage c.requires.complete) row.1 (omega (arith, members))) ∙ found.1 in
+    let spelled : Some (post_spelling found.0) ≡ Some c.in_ok-post.post = ap (option_map post_spelling) (sym found.1)
+    ∙ c.in_ok-post.ensures in
     let bytes : post_spelling found.0 ≡ c.in_ok-post.post = cc in
     c.in_ok-push.ensures.items
     ∙ ap (λ (front : List (List ℕ)). front ++ c.in_ok-post.post ∷ []) c.loop-place.invariant
@@ -51,5 +53,6 @@ returns c =
     let row = vote-row log.shape c.args.stage c.requires.closing in
     let posts : List Post = posts_at log.shape (posts_before log c.args.stage) (c.args.stage - 1) in
     let long = row-length log c.args.stage (posts_before log c.args.stage)
-    (past-length log c.args.stage (posts_before log c.args.stage) c.shape-shape.ensures.form (complete-posts log c.args.stage c.requires.complete)) row.0 row.1 in
+    (past-length log c.args.stage (posts_before log c.args.stage) c.shape-shape.ensures.form
+    (complete-posts log c.args.stage c.requires.complete)) row.0 row.1 in
     c.of.ensures ∙ c.loop-place.invariant ∙ ap written (take_all c.loop-place.place posts (omega (arith, members, long)))

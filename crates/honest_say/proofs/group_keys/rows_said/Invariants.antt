@@ -8,4 +8,5 @@ use Rattle.honest_say.proofs.group_keys.rows_said.Given as goal
 -- the keys of the members so far
 abbrev pub invariant-loop-sender : goal.invariant-loop-sender
 invariant-loop-sender l =
-    (l.rows.items ≡ map (keys_by l.fn.log.shape (past_of l.fn.log l.fn.stage)) (range_with_len 1 (l.sender - 1))) × All (All IsPublicKey) l.rows.items
+    (l.rows.items ≡ map (keys_by l.fn.log.shape (past_of l.fn.log l.fn.stage)) (range_with_len 1 (l.sender - 1)))
+    × All (All IsPublicKey) l.rows.items

@@ -8,5 +8,6 @@ use Rattle.honest_say.proofs.opening.descriptors_in.Given as goal
 -- the descriptors of the entries so far
 abbrev pub invariant-loop-entry : goal.invariant-loop-entry
 invariant-loop-entry l =
-    (map (option_map description_of) l.descriptors.items ≡ map (option_and_then (descriptor_read l.members)) (take l.entry-index l.opened.items))
+    (map (option_map description_of) l.descriptors.items ≡ map (option_and_then (descriptor_read l.members))
+    (take l.entry-index l.opened.items))
     × All (λ slot. IfSome slot (λ d. length d.pad_hashes ≡ l.members)) (map (option_map description_of) l.descriptors.items)

@@ -22,7 +22,8 @@ returns-in_ok-items-in-Some-clause-value c =
     let members = ap (λ (s : Shape). s.members) c.shape-members.ensures.shape in
     let said = c.in_ok-list_said.ensures.value ∙ ap (list_said log.shape past c.args.shuffle) members in
     let some = rw c.in-Some.is at said in
-    c.in_ok-items-in-Some.ensures ∙ opens-some log.shape past c.args.seeds.now.items c.in-Some.list.items c.args.shuffle (sym some) c.requires.seeds
+    c.in_ok-items-in-Some.ensures ∙ opens-some log.shape past c.args.seeds.now.items c.in-Some.list.items c.args.shuffle (sym some)
+    c.requires.seeds
 
 pub returns-in_ok-items-in-Some-clause-count : goal.returns-in_ok-items-in-Some-clause-count
 returns-in_ok-items-in-Some-clause-count c =
@@ -32,6 +33,8 @@ returns-in_ok-items-in-Some-clause-count c =
     let said = c.in_ok-list_said.ensures.value ∙ ap (list_said log.shape past c.args.shuffle) members in
     let some = rw c.in-Some.is at said in
     let items = c.in_ok-items-in-Some.items in
-    let opened = ap (λ (t : List (Option (List ℕ))). length t) c.in_ok-items-in-Some.ensures ∙ opened-count c.args.seeds.now.items c.in-Some.list.items in
-    let count = last-count log c.args.stage c.args.shuffle c.in-Some.list.items c.shape-members.ensures.form c.requires.complete c.requires.first c.requires.last c.requires.later c.requires.stand (sym some) in
+    let opened = ap (λ (t : List (Option (List ℕ))). length t) c.in_ok-items-in-Some.ensures
+    ∙ opened-count c.args.seeds.now.items c.in-Some.list.items in
+    let count = last-count log c.args.stage c.args.shuffle c.in-Some.list.items c.shape-members.ensures.form c.requires.complete
+    c.requires.first c.requires.last c.requires.later c.requires.stand (sym some) in
     omega (arith, items.ok.0, opened, count)

@@ -16,9 +16,11 @@ loop-sender-preserved c =
     let bytes : c.in_ok-bytes.bytes ≡ submission_by log.shape past (submit_stage log.shape c.args.shuffle) c.loop-sender.sender
     = c.in_ok-bytes.ensures.value ∙ ap (λ (t : ℕ). submission_by log.shape past t c.loop-sender.sender) stage in
     let pushed : c.push.new.self.items ≡ c.loop-sender.list.items ++ c.in_ok-bytes.bytes ∷ [] = c.in_ok-push.ensures.items in (
-      pushed ∙ member-next (submission_by log.shape past (submit_stage log.shape c.args.shuffle)) c.loop-sender.sender c.loop-sender.list.items c.in_ok-bytes.bytes (omega arith) c.loop-sender.invariant.0 bytes,
+      pushed ∙ member-next (submission_by log.shape past (submit_stage log.shape c.args.shuffle)) c.loop-sender.sender
+          c.loop-sender.list.items c.in_ok-bytes.bytes (omega arith) c.loop-sender.invariant.0 bytes,
       subst (λ (list : List (List ℕ)). All (λ entry. length entry < 2 ^ 32) list) (sym pushed)
-          (All-push (λ entry. length entry < 2 ^ 32) c.loop-sender.list.items c.in_ok-bytes.bytes c.loop-sender.invariant.1 c.in_ok-bytes.ensures.short),
+          (All-push (λ entry. length entry < 2 ^ 32) c.loop-sender.list.items c.in_ok-bytes.bytes c.loop-sender.invariant.1
+          c.in_ok-bytes.ensures.short),
     )
 
 pub submission_said-requires-clause-slot : goal.submission_said-requires-clause-slot
@@ -27,7 +29,8 @@ submission_said-requires-clause-slot c =
     let members = ap (λ (shape : Shape). shape.members) c.shape-shape.ensures.shape in
     let stage : submit_stage log.shape c.args.shuffle ≡ c.submit_stage-submit.result
     = ap (λ (s : Shape). submit_stage s c.args.shuffle) (sym c.shape-shape.ensures.shape) ∙ sym c.submit_stage-submit.ensures.value in
-    rw (← stage) (submit-slot log.shape c.args.shuffle c.loop-sender.sender c.requires.first c.requires.last (omega arith) (omega (arith, members)))
+    rw (← stage) (submit-slot log.shape c.args.shuffle c.loop-sender.sender c.requires.first c.requires.last (omega arith)
+    (omega (arith, members)))
 
 pub submission_said-requires-clause-earlier : goal.submission_said-requires-clause-earlier
 submission_said-requires-clause-earlier c =

@@ -8,5 +8,6 @@ use Rattle.honest_say.proofs.said.submissions_said.Given as goal
 -- the submissions of the earlier members
 abbrev pub invariant-loop-sender : goal.invariant-loop-sender
 invariant-loop-sender l =
-    (l.list.items ≡ map (submission_by l.fn.log.shape (past_of l.fn.log l.fn.stage) (submit_stage l.fn.log.shape l.fn.shuffle)) (range_with_len 1 (l.sender - 1)))
+    (l.list.items ≡ map (submission_by l.fn.log.shape (past_of l.fn.log l.fn.stage) (submit_stage l.fn.log.shape l.fn.shuffle))
+    (range_with_len 1 (l.sender - 1)))
     × All (λ entry. length entry < 2 ^ 32) l.list.items

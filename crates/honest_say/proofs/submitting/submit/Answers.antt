@@ -10,7 +10,8 @@ submission-requires-clause-inner_seeds c =
     let seeds = c.in_ok-inner_seeds.inner_seeds in
     let keys = c.items-inner_keys.result.now in
     let made = ap (λ (t : List (List ℕ)). length t) c.in_ok-inner_seeds.ensures in
-    let count = length-map-range_with_len (layer_seed c.args.secrets.now.inner_opening seat.round c.args.shuffle 1 seat.number) 1 seat.shape.members in
+    let count = length-map-range_with_len (layer_seed c.args.secrets.now.inner_opening seat.round c.args.shuffle 1 seat.number) 1
+    seat.shape.members in
     let said = ap (λ (t : List (List ℕ)). length t) c.items-inner_keys.ensures in
     omega (arith, seeds.ok.0, keys.ok.0, made, count, said, c.requires.inner)
 
@@ -20,7 +21,8 @@ submission-requires-clause-outer_seeds c =
     let seeds = c.in_ok-outer_seeds.outer_seeds in
     let keys = c.items-inner_keys.result.now in
     let made = ap (λ (t : List (List ℕ)). length t) c.in_ok-outer_seeds.ensures in
-    let count = length-map-range_with_len (layer_seed c.args.secrets.now.outer_opening seat.round c.args.shuffle 2 seat.number) 1 seat.shape.members in
+    let count = length-map-range_with_len (layer_seed c.args.secrets.now.outer_opening seat.round c.args.shuffle 2 seat.number) 1
+    seat.shape.members in
     let said = ap (λ (t : List (List ℕ)). length t) c.items-inner_keys.ensures in
     omega (arith, seeds.ok.0, keys.ok.0, made, count, said, c.requires.inner)
 

@@ -10,7 +10,8 @@ returns-in-None c = λ config is own.
     let log = c.args.log.now in
     let seat = c.args.seat.now in
     let past : List (List ℕ) = past_of log (submit_stage log.shape c.args.shuffle + seat.number) in
-    let stage : c.submit_stage.result ≡ submit_stage log.shape c.args.shuffle = c.submit_stage.ensures.value ∙ ap (λ (s : Shape). submit_stage s c.args.shuffle) (sym c.requires.shape) in
+    let stage : c.submit_stage.result ≡ submit_stage log.shape c.args.shuffle = c.submit_stage.ensures.value
+    ∙ ap (λ (s : Shape). submit_stage s c.args.shuffle) (sym c.requires.shape) in
     let said = c.in_ok-list_said.ensures.value
     ∙ ap (λ (t : ℕ). list_said log.shape (past_of log (t + seat.number)) c.args.shuffle (seat.number - 1)) stage
     ∙ ap (λ (s : Shape). list_said s past c.args.shuffle (seat.number - 1)) c.requires.shape in
@@ -22,7 +23,8 @@ returns-in_ok-body-in-Some c = λ config is own.
     let log = c.args.log.now in
     let seat = c.args.seat.now in
     let past : List (List ℕ) = past_of log (submit_stage log.shape c.args.shuffle + seat.number) in
-    let stage : c.submit_stage.result ≡ submit_stage log.shape c.args.shuffle = c.submit_stage.ensures.value ∙ ap (λ (s : Shape). submit_stage s c.args.shuffle) (sym c.requires.shape) in
+    let stage : c.submit_stage.result ≡ submit_stage log.shape c.args.shuffle = c.submit_stage.ensures.value
+    ∙ ap (λ (s : Shape). submit_stage s c.args.shuffle) (sym c.requires.shape) in
     let said = c.in_ok-list_said.ensures.value
     ∙ ap (λ (t : ℕ). list_said log.shape (past_of log (t + seat.number)) c.args.shuffle (seat.number - 1)) stage
     ∙ ap (λ (s : Shape). list_said s past c.args.shuffle (seat.number - 1)) c.requires.shape in

@@ -15,6 +15,7 @@ returns-in-Some c =
     let post = c.in-Some.post.now in
     let same : c.items.result.now.items ≡ post.content = c.items.ensures in
     let least = c.in-Some.ensures.content.least in
-    let read = get_or_read c.items.result.now.items 75 c.index.result.now (omega (arith, least, ap (λ (t : List ℕ). length t) same)) c.index.ensures 0 in
+    let read = get_or_read c.items.result.now.items 75 c.index.result.now (omega (arith, least, ap (λ (t : List ℕ). length t) same))
+    c.index.ensures 0 in
     ap (λ (b : ℕ). b == 4) (read ∙ ap (λ (t : List ℕ). get_or t 75 0) same)
     ∙ abort-kept c.args.log.now c.args.slot post (sym c.in-Some.ensures.post) c.requires.stand c.requires.turn

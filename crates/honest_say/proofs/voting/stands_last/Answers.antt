@@ -13,7 +13,8 @@ use Rattle.honest_say.proofs.voting.stands_last.Goals as goal
 pub returns-then-has_abort : goal.returns-then-has_abort
 returns-then-has_abort c =
     let log = c.args.log.now in
-    none-stands log.shape c.args.entry.now (lists_before log.shape (voted_on log c.args.shuffle) (final_stage log.shape c.args.shuffle - 1)) (sym c.has_abort.ensures ∙ c.if-has_abort.true)
+    none-stands log.shape c.args.entry.now (lists_before log.shape (voted_on log c.args.shuffle) (final_stage log.shape c.args.shuffle - 1))
+    (sym c.has_abort.ensures ∙ c.if-has_abort.true)
 
 pub list_said-requires-clause-turn : goal.list_said-requires-clause-turn
 list_said-requires-clause-turn c =
@@ -42,7 +43,12 @@ returns-in-None c =
     let members = ap (λ (s : Shape). s.members) c.shape-shape.ensures.shape in
     let stage : c.final_stage-stage.result ≡ final_stage log.shape c.args.shuffle
     = c.final_stage-stage.ensures ∙ ap (λ (s : Shape). final_stage s c.args.shuffle) c.shape-shape.ensures.shape in
-    let voted : IsVotedOn log c.args.shuffle = record { is = c.shape-shape.ensures.form; first = c.requires.first; last = c.requires.last; complete = c.requires.complete } in
+    let voted : IsVotedOn log c.args.shuffle = record {
+      is = c.shape-shape.ensures.form;
+      first = c.requires.first;
+      last = c.requires.last;
+      complete = c.requires.complete;
+    } in
     let full = sym c.has_abort.ensures ∙ c.if-has_abort.false in
     let said = c.in_ok-list_said.ensures.value
     ∙ ap (λ (t : ℕ). list_said log.shape (past_of log (t - 1)) c.args.shuffle c.shape-shape.result.members) stage
@@ -56,7 +62,12 @@ returns-in-Some c =
     let members = ap (λ (s : Shape). s.members) c.shape-shape.ensures.shape in
     let stage : c.final_stage-stage.result ≡ final_stage log.shape c.args.shuffle
     = c.final_stage-stage.ensures ∙ ap (λ (s : Shape). final_stage s c.args.shuffle) c.shape-shape.ensures.shape in
-    let voted : IsVotedOn log c.args.shuffle = record { is = c.shape-shape.ensures.form; first = c.requires.first; last = c.requires.last; complete = c.requires.complete } in
+    let voted : IsVotedOn log c.args.shuffle = record {
+      is = c.shape-shape.ensures.form;
+      first = c.requires.first;
+      last = c.requires.last;
+      complete = c.requires.complete;
+    } in
     let full = sym c.has_abort.ensures ∙ c.if-has_abort.false in
     let said = c.in_ok-list_said.ensures.value
     ∙ ap (λ (t : ℕ). list_said log.shape (past_of log (t - 1)) c.args.shuffle c.shape-shape.result.members) stage

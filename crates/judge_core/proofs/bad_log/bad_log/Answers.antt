@@ -13,19 +13,22 @@ pub returns-in_err-said-clause-exact : goal.returns-in_err-said-clause-exact
 returns-in_err-said-clause-exact c =
     let p = err_from_is_err_and c.from_residual.result c.from_residual.ensures.1 in
     let posts = one_post c.args.posts _ c.in-Some.post.now c.in-Some.ensures.steps c.requires.one in
-    rw (p.1, p.2) (ap (conviction_of (case_of c.args.case)) posts ∙ one-unheard (case_of c.args.case) _ c.in_err-said.field-0.0 c.in_err-said.ensures.exact)
+    rw (p.1, p.2) (ap (conviction_of (case_of c.args.case)) posts
+    ∙ one-unheard (case_of c.args.case) _ c.in_err-said.field-0.0 c.in_err-said.ensures.exact)
 
 pub is_justified-requires-clause-closing : goal.is_justified-requires-clause-closing
 is_justified-requires-clause-closing c =
     let case : Case = case_of c.args.case in
     let said : Said = said_of c.in_ok-said.said in
-    let asked = and_parts (said.header.sender == case.accused) (is_closing_stage (kind_of_stage (shape_in case) said.header.stage)) (asked-as case BadLog None 1 _ said c.requires.claim c.in_ok-said.ensures.exact) in
+    let asked = and_parts (said.header.sender == case.accused) (is_closing_stage (kind_of_stage (shape_in case) said.header.stage))
+    (asked-as case BadLog None 1 _ said c.requires.claim c.in_ok-said.ensures.exact) in
     closing-post case None 1 _ said (ap is_of_bodies c.requires.claim) c.in_ok-said.ensures.exact asked.1
 
 pub returns-in_err-is_justified-clause-memory : goal.returns-in_err-is_justified-clause-memory
 returns-in_err-is_justified-clause-memory c = λ e.
     let posts = one_post c.args.posts _ c.in-Some.post.now c.in-Some.ensures.steps c.requires.one in
-    subst (WantsMemory (case_of c.args.case)) (sym posts) (one-wants (case_of c.args.case) _ (said_of c.in_ok-said.said) (ap is_of_logs c.requires.claim) c.in_ok-said.ensures.exact)
+    subst (WantsMemory (case_of c.args.case)) (sym posts) (one-wants (case_of c.args.case) _ (said_of c.in_ok-said.said)
+    (ap is_of_logs c.requires.claim) c.in_ok-said.ensures.exact)
 
 pub returns-then-branch-clause-exact : goal.returns-then-branch-clause-exact
 returns-then-branch-clause-exact c =

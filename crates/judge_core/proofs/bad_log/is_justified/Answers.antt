@@ -19,4 +19,5 @@ justifying_log-requires-clause-closing c =
     let roster : Roster = roster_of c.args.case.roster.now in
     let header = content-header _ c.args.said.content.now c.in_ok-content.content c.in_ok-content.ensures.value in
     let same = same_header c.args.said.header c.in_ok-content.content.header (sym c.requires.closing.header ∙ header) in
-    subst (λ (h : Header). IsSome (option_and_then vote_of (kind_of_stage (shape_of_roster roster) h.stage))) same c.requires.closing.closing
+    subst (λ (h : Header). IsSome (option_and_then vote_of (kind_of_stage (shape_of_roster roster) h.stage))) same
+    c.requires.closing.closing

@@ -13,8 +13,10 @@ use Rattle.judge_core.proofs.BodyKinds.{kind-byte, look-kind, look-passes, no_of
 use Rattle.judge_core.proofs.hearing.look.Goals as goal
 
 -- bytes in which a look finds no offence are read
-passed : (shape given : Shape) (bytes : List ℕ) (found : Option Offence) → given ≡ shape → found ≡ first_offence given bytes → found ≡ None → (c : Content) × (content_read shape bytes ≡ Ok c)
-passed shape given bytes found same e none = no_offence (content_read shape bytes) (sym none ∙ e ∙ ap (λ (s : Shape). first_offence s bytes) same)
+passed : (shape given : Shape) (bytes : List ℕ) (found : Option Offence) → given ≡ shape → found ≡ first_offence given bytes → found ≡ None
+    → (c : Content) × (content_read shape bytes ≡ Ok c)
+passed shape given bytes found same e none = no_offence (content_read shape bytes)
+    (sym none ∙ e ∙ ap (λ (s : Shape). first_offence s bytes) same)
 
 pub bounds-bytes-75 : goal.bounds-bytes-75
 bounds-bytes-75 c =
@@ -43,4 +45,5 @@ returns c =
     let fits : IsBytes c.args.bytes.now = λ i. omega (arith, c.type_inv.bytes i) in
     let read = passed shape _ c.args.bytes.now c.first_offence.result c.shape.ensures c.first_offence.ensures c.in_default.is in
     let kind = (kind-byte shape c.args.bytes.now read.0 fits read.1).1 in
-    look-passes (case_of c.args.case) c.args.first c.args.number c.args.bytes.now read.0 read.1 (sym (c.is_kind_asked.ensures read.0.body kind) ∙ c.if-not-is_kind_asked.false)
+    look-passes (case_of c.args.case) c.args.first c.args.number c.args.bytes.now read.0 read.1
+    (sym (c.is_kind_asked.ensures read.0.body kind) ∙ c.if-not-is_kind_asked.false)

@@ -18,7 +18,8 @@ refusal e = Err e
 
 pub returns-in-Ok-clause-accepted : goal.returns-in-Ok-clause-accepted
 returns-in-Ok-clause-accepted c =
-    judgement-found (roster_of c.args.roster.now) c.args.bytes.now c.in-Ok.accepted (λ i. omega (arith, c.type_inv.bytes i)) c.in-Ok.ensures.exact
+    judgement-found (roster_of c.args.roster.now) c.args.bytes.now c.in-Ok.accepted (λ i. omega (arith, c.type_inv.bytes i))
+    c.in-Ok.ensures.exact
 
 pub returns-in-Ok-clause-honest : goal.returns-in-Ok-clause-honest
 returns-in-Ok-clause-honest c =
@@ -34,12 +35,16 @@ returns-in-Ok-clause-no_framing c =
 
 pub returns-in-Ok-clause-only : goal.returns-in-Ok-clause-only
 returns-in-Ok-clause-only c = λ accused claim accepts.
-    answered-only (roster_of c.args.roster.now) c.args.bytes.now (Ok c.in-Ok.accepted) accused claim c.args.roster.now.form (λ i. omega (arith, c.type_inv.bytes i)) (ap (fault_as failure_of_check) c.in-Ok.ensures.exact) accepts
+    answered-only (roster_of c.args.roster.now) c.args.bytes.now (Ok c.in-Ok.accepted) accused claim c.args.roster.now.form
+    (λ i. omega (arith, c.type_inv.bytes i)) (ap (fault_as failure_of_check) c.in-Ok.ensures.exact) accepts
 
 pub returns-in-Err-Failed-clause-only : goal.returns-in-Err-Failed-clause-only
 returns-in-Err-Failed-clause-only c = λ accused claim accepts.
     let failed : FailedCheck = c.in-Err-Failed.failed in
-    let ends : judgement_of (roster_of c.args.roster.now) c.args.bytes.now ≡ Err failed = rw c.in-Err-Failed.field-0-is at c.in-Err-Failed.ensures.exact in
+    let ends : judgement_of (roster_of c.args.roster.now) c.args.bytes.now ≡ Err failed = rw c.in-Err-Failed.field-0-is at
+    c.in-Err-Failed.ensures.exact in
     let told : Refused = Check (failed_number failed) (failed_post failed) (failed_at failed) in
-    let gives = answered-only (roster_of c.args.roster.now) c.args.bytes.now (Err told) accused claim c.args.roster.now.form (λ i. omega (arith, c.type_inv.bytes i)) (ap (fault_as failure_of_check) ends) accepts in
-    subst (λ (e : Refused). Gives failure_of_refusal (λ a. a) (refusal e) (Ok (record { accused = accused; claim = claim }))) (sym c.from.ensures) gives
+    let gives = answered-only (roster_of c.args.roster.now) c.args.bytes.now (Err told) accused claim c.args.roster.now.form
+    (λ i. omega (arith, c.type_inv.bytes i)) (ap (fault_as failure_of_check) ends) accepts in
+    subst (λ (e : Refused). Gives failure_of_refusal (λ a. a) (refusal e) (Ok (record { accused = accused; claim = claim })))
+    (sym c.from.ensures) gives

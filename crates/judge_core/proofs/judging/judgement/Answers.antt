@@ -19,5 +19,9 @@ memory_is e same = cc
 pub returns-in_err-convict-clause-memory : goal.returns-in_err-convict-clause-memory
 returns-in_err-convict-clause-memory c = λ e.
     let p = err_from_is_err_and c.from_residual-in_err-convict.result c.from_residual-in_err-convict.ensures.1 in
-    let memory = memory_is c.in_err-convict.field-0.0 (rw (p.1, p.2) at e) in
-    (_, ap (λ (shape : Shape). transcript_read shape c.args.bytes.now) (sym c.shape.ensures) ∙ c.in_ok-listed.ensures.exact, c.in_err-convict.ensures.memory memory)
+    let memory = memory_is c.in_err-convict.field-0.0 (rw (p.1, p.2) at e) in (
+      _,
+      ap (λ (shape : Shape). transcript_read shape c.args.bytes.now) (sym c.shape.ensures)
+          ∙ c.in_ok-listed.ensures.exact,
+      c.in_err-convict.ensures.memory memory,
+    )

@@ -15,7 +15,12 @@ read_slot-requires-clause-there c = keys-slot (shape_of c.args.shape) c.loop-sen
 pub read_slot-requires-clause-earlier : goal.read_slot-requires-clause-earlier
 read_slot-requires-clause-earlier c =
     let shape : Shape = shape_of c.args.shape in
-    omega (arith, c.requires.whole, slot-within shape 0 c.loop-sender.sender (keys-slot shape c.loop-sender.sender (omega arith) (omega arith)) (omega arith))
+    omega (
+      arith,
+      c.requires.whole,
+      slot-within shape 0 c.loop-sender.sender
+          (keys-slot shape c.loop-sender.sender (omega arith) (omega arith)) (omega arith),
+    )
 
 pub bulk_key-requires : goal.bulk_key-requires
 bulk_key-requires c = keys-said (shape_of c.args.shape) c.in_ok-body.body c.in_ok-body.ensures.grammar
@@ -24,5 +29,6 @@ pub loop-sender-preserved : goal.loop-sender-preserved
 loop-sender-preserved c =
     let shape : Shape = shape_of c.args.shape in
     let said = c.bulk_key.ensures ∙ ap (λ (body : Body). slice_index_or (keys_in body) bulk_place []) c.in_ok-body.ensures.value in
-    c.in_ok-push.ensures.items ∙ member-next (key_said shape (contents_said c.args.log.now) bulk_place) c.loop-sender.sender c.loop-sender.keys.items
+    c.in_ok-push.ensures.items ∙ member-next (key_said shape (contents_said c.args.log.now) bulk_place) c.loop-sender.sender
+    c.loop-sender.keys.items
     c.bulk_key.result (omega arith) c.loop-sender.invariant said

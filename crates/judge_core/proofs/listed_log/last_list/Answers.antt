@@ -12,12 +12,19 @@ read_slot-requires-clause-there c = last_turn-slot (shape_of c.args.shape) (omeg
 pub read_slot-requires-clause-earlier : goal.read_slot-requires-clause-earlier
 read_slot-requires-clause-earlier c =
     let shape : Shape = shape_of c.args.shape in
-    omega (arith, c.requires.whole, slot-within shape (shape.members + 1) shape.members (last_turn-slot shape (omega (arith, c.args.shape.form.least))) (omega arith))
+    omega (
+      arith,
+      c.requires.whole,
+      slot-within shape (shape.members + 1) shape.members
+          (last_turn-slot shape (omega (arith, c.args.shape.form.least))) (omega arith),
+    )
 
 pub returns-clause-value : goal.returns-clause-value
 returns-clause-value c =
-    last-list (shape_of c.args.shape) (contents_said c.args.log.now) c.in_ok-body.body c.list_in.result (omega (arith, c.args.shape.form.least))
+    last-list (shape_of c.args.shape) (contents_said c.args.log.now) c.in_ok-body.body c.list_in.result
+    (omega (arith, c.args.shape.form.least))
     c.in_ok-body.ensures.value c.list_in.ensures
 
 pub returns-clause-entries : goal.returns-clause-entries
-returns-clause-entries c = list-entries (shape_of c.args.shape) c.in_ok-body.body c.list_in.result c.args.shape.form c.in_ok-body.ensures.grammar c.list_in.ensures
+returns-clause-entries c = list-entries (shape_of c.args.shape) c.in_ok-body.body c.list_in.result c.args.shape.form
+    c.in_ok-body.ensures.grammar c.list_in.ensures

@@ -10,5 +10,6 @@ returns-clause-value c =
 pub returns-clause-grammar : goal.returns-clause-grammar
 returns-clause-grammar c =
     let read = rw c.slot_number.ensures at c.in_ok-content.ensures.value in
-    slot-body (shape_of c.args.shape) c.args.log.now c.args.slot.stage c.args.slot.sender _ c.in_ok-content.content c.requires.log c.requires.earlier
+    slot-body (shape_of c.args.shape) c.args.log.now c.args.slot.stage c.args.slot.sender _ c.in_ok-content.content c.requires.log
+    c.requires.earlier
     c.requires.there read c.in_ok-content.ensures.grammar

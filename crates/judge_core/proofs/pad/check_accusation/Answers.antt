@@ -18,7 +18,8 @@ holds-requires-clause-slots c =
     let case : Case = case_of c.args.case in
     (are-slots case (shape_of c.shape-shape.result) (pads_row case (said_of c.args.pads)) c.args.revealed.now.seeds c.args.revealed.now.list
     (map (option_map description_of) c.in_ok-descriptors.descriptors.items) c.in_ok-table.table.members
-    c.shape-shape.ensures c.in_ok-table.ensures.value c.in_ok-table.ensures.rows c.requires.revealed.entries.1 c.in_ok-descriptors.ensures.value
+    c.shape-shape.ensures c.in_ok-table.ensures.value c.in_ok-table.ensures.rows c.requires.revealed.entries.1
+    c.in_ok-descriptors.ensures.value
     c.in_ok-descriptors.ensures.hashes).0
 
 pub holds-requires-clause-keys : goal.holds-requires-clause-keys
@@ -27,10 +28,12 @@ holds-requires-clause-keys c =
     let shape : Shape = shape_of c.shape-shape.result in
     let slots = (are-slots case shape (pads_row case (said_of c.args.pads)) c.args.revealed.now.seeds c.args.revealed.now.list
     (map (option_map description_of) c.in_ok-descriptors.descriptors.items) c.in_ok-table.table.members
-    c.shape-shape.ensures c.in_ok-table.ensures.value c.in_ok-table.ensures.rows c.requires.revealed.entries.1 c.in_ok-descriptors.ensures.value
+    c.shape-shape.ensures c.in_ok-table.ensures.value c.in_ok-table.ensures.rows c.requires.revealed.entries.1
+    c.in_ok-descriptors.ensures.value
     c.in_ok-descriptors.ensures.hashes).1 in
     let keys =
-    ap (λ (l : List (List ℕ)). length l) c.in_ok-keys.ensures ∙ length-map-range_with_len (key_said shape (contents_said c.args.log.now) bulk_place) 1 shape.members in
+    ap (λ (l : List (List ℕ)). length l) c.in_ok-keys.ensures ∙ length-map-range_with_len
+    (key_said shape (contents_said c.args.log.now) bulk_place) 1 shape.members in
     omega (
       arith,
       c.in_ok-keys.keys.ok,
@@ -45,7 +48,8 @@ pub returns-in-Ok : goal.returns-in-Ok
 returns-in-Ok c =
     let case : Case = case_of c.args.case in
     let pads = pads_row case (said_of c.args.pads) in
-    let answers = holds-by-log case (shape_of c.shape-shape.result) (contents_said c.args.log.now) c.args.revealed.now.seeds c.args.revealed.now.list
+    let answers = holds-by-log case (shape_of c.shape-shape.result) (contents_said c.args.log.now) c.args.revealed.now.seeds
+    c.args.revealed.now.list
     pads c.in_ok-keys.keys.items c.in_ok-table.table.members (map (option_map description_of) c.in_ok-descriptors.descriptors.items)
     c.in-Some.accusation c.holds.result
     c.shape-shape.ensures c.requires.revealed.seeds c.requires.revealed.list c.in_ok-descriptors.ensures.value c.in_ok-table.ensures.value
@@ -57,10 +61,12 @@ pub returns : goal.returns
 returns c =
     let case : Case = case_of c.args.case in
     let pads = pads_row case (said_of c.args.pads) in
-    let answers = holds-by-log case (shape_of c.shape-shape.result) (contents_said c.args.log.now) c.args.revealed.now.seeds c.args.revealed.now.list
+    let answers = holds-by-log case (shape_of c.shape-shape.result) (contents_said c.args.log.now) c.args.revealed.now.seeds
+    c.args.revealed.now.list
     pads c.in_ok-keys.keys.items c.in_ok-table.table.members (map (option_map description_of) c.in_ok-descriptors.descriptors.items)
     c.in-Some.accusation c.holds.result
     c.shape-shape.ensures c.requires.revealed.seeds c.requires.revealed.list c.in_ok-descriptors.ensures.value c.in_ok-table.ensures.value
     c.in_ok-keys.ensures c.holds.ensures in
-    accusation-fails case (contents_said c.args.log.now) pads c.args.case.detail c.in-Some.accusation c.in-Err.refusal c.holds.result c.in-Some.is
+    accusation-fails case (contents_said c.args.log.now) pads c.args.case.detail c.in-Some.accusation c.in-Err.refusal c.holds.result
+    c.in-Some.is
     (eqb-true c.in-Some.accusation.member c.args.case.accused (sym c.is_of.ensures ∙ c.if-not-is_of.false)) c.in-Err.is answers

@@ -16,7 +16,8 @@ returns-in_err-check_view c =
     let come = checks-are case c.args.said.now c.in-Some.log.now c.in-Some.pads.now c.in-Some.ensures.cases.0 long in
     let p = err_from_is_err_and c.from_residual.result c.from_residual.ensures.1 in
     rw (p.1, p.2) (come ∙ view-fails _ (opening_failure (shape_in case) (contents_said c.in-Some.log.now))
-    (accusation_failure case (contents_said c.in-Some.log.now) (pads_row case (said_of c.in-Some.pads.now)) case.detail) _ c.in_err-check_view.ensures)
+    (accusation_failure case (contents_said c.in-Some.log.now) (pads_row case (said_of c.in-Some.pads.now)) case.detail) _
+    c.in_err-check_view.ensures)
 
 pub returns-in_err-revealed : goal.returns-in_err-revealed
 returns-in_err-revealed c =
@@ -37,6 +38,8 @@ returns c =
     let come = checks-are case c.args.said.now c.in-Some.log.now c.in-Some.pads.now c.in-Some.ensures.cases.0 long in
     let decides = accusation-decides (view_failure (shape_in case) (contents_said c.in-Some.log.now) (said_of c.in-Some.pads.now))
     (opening_failure (shape_in case) (contents_said c.in-Some.log.now))
-    (accusation_failure case (contents_said c.in-Some.log.now) (pads_row case (said_of c.in-Some.pads.now)) case.detail) c.in_ok-check_view.ensures
+    (accusation_failure case (contents_said c.in-Some.log.now) (pads_row case (said_of c.in-Some.pads.now)) case.detail)
+    c.in_ok-check_view.ensures
     c.in_ok-revealed.ensures.opens in
-    subst (λ (r : Result (Unit {0}) FailedCheck). Gives failed_of (λ x. x) c.check_accusation.result r) (sym (come ∙ decides)) c.check_accusation.ensures
+    subst (λ (r : Result (Unit {0}) FailedCheck). Gives failed_of (λ x. x) c.check_accusation.result r) (sym (come ∙ decides))
+    c.check_accusation.ensures

@@ -8,5 +8,6 @@ use Rattle.judge_core.proofs.pad.opened_descriptors.Given as goal
 -- the descriptors of the entries before this one
 abbrev pub invariant-loop-item : goal.invariant-loop-item
 invariant-loop-item l =
-    (map (option_map description_of) l.descriptors.items ≡ map (option_and_then (descriptor_read l.shape.members)) (take l.item-index l.item-items))
+    (map (option_map description_of) l.descriptors.items ≡ map (option_and_then (descriptor_read l.shape.members))
+    (take l.item-index l.item-items))
     × All (λ slot. IfSome slot (λ d. length d.pad_hashes ≡ l.shape.members)) (map (option_map description_of) l.descriptors.items)

@@ -21,11 +21,13 @@ returns-in_err-said-clause-exact c =
 pub check_pad-requires : goal.check_pad-requires
 check_pad-requires c =
     let count = c.requires.count ∙ ap (claim_posts (shape_of_roster (roster_of c.args.case.roster.now))) c.requires.claim in
-    let these = pad-posts (case_of c.args.case) c.args.posts c.in_ok-said.said.items c.requires.claim count c.in_ok-said.ensures.exact c.in_ok-said.ensures.short in
+    let these = pad-posts (case_of c.args.case) c.args.posts c.in_ok-said.said.items c.requires.claim count c.in_ok-said.ensures.exact
+    c.in_ok-said.ensures.short in
     subst (ArePadPosts (case_of c.args.case)) (sym c.as_slice.ensures.value) these
 
 pub returns-clause-exact : goal.returns-clause-exact
 returns-clause-exact c =
-    let come = heard-pad (case_of c.args.case) c.args.posts (map said_of c.in_ok-said.said.items) c.requires.claim c.in_ok-said.ensures.exact in
+    let come = heard-pad (case_of c.args.case) c.args.posts (map said_of c.in_ok-said.said.items) c.requires.claim
+    c.in_ok-said.ensures.exact in
     let same = ap (λ (said : List GivenSaid). pad_answer (case_of c.args.case) (map said_of said)) c.as_slice.ensures.value in
     subst (λ (r : Result (Unit {0}) FailedCheck). Gives failed_of (λ x. x) c.check_pad.result r) (same ∙ sym come) c.check_pad.ensures

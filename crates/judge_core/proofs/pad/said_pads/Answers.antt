@@ -8,7 +8,8 @@ use Rattle.judge_core.proofs.pad.said_pads.Goals as goal
 pub pads_in-requires : goal.pads_in-requires
 pads_in-requires c =
     let read = ap (λ (s : Shape). content_read s c.args.pads.content.now) (sym c.shape.ensures) ∙ c.in_ok-content.ensures.value in
-    let said = pads-body (case_of c.args.case) c.args.pads c.in_ok-content.content c.requires read (rw c.shape.ensures at c.in_ok-content.ensures.grammar) in
+    let said = pads-body (case_of c.args.case) c.args.pads c.in_ok-content.content c.requires read
+    (rw c.shape.ensures at c.in_ok-content.ensures.grammar) in
     (said.0, said.1)
 
 pub returns-clause-count : goal.returns-clause-count

@@ -12,5 +12,6 @@ loop-member-preserved c =
       pushed ∙ member-next (row_of case (pads_row case (said_of c.args.pads))) c.loop-member.member c.loop-member.rows.items c.in_ok-row.row
           (omega arith) c.loop-member.invariant.0 c.in_ok-row.ensures.value,
       subst (λ (rows : List (List (List ℕ))). All (λ row. length row ≡ (shape_in case).members) rows) (sym pushed)
-          (All-push (λ row. length row ≡ (shape_in case).members) c.loop-member.rows.items c.in_ok-row.row c.loop-member.invariant.1 c.in_ok-row.ensures.count),
+          (All-push (λ row. length row ≡ (shape_in case).members) c.loop-member.rows.items c.in_ok-row.row c.loop-member.invariant.1
+          c.in_ok-row.ensures.count),
     )

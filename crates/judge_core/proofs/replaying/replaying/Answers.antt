@@ -26,12 +26,14 @@ returns-in_err-said-clause-exact c =
 
 pub check_all-requires-clause-objections : goal.check_all-requires-clause-objections
 check_all-requires-clause-objections c =
-    let these = objections (case_of c.args.case) c.args.posts c.in_ok-said.said.items c.requires.claim c.in_ok-said.ensures.exact c.in_ok-said.ensures.short in
+    let these = objections (case_of c.args.case) c.args.posts c.in_ok-said.said.items c.requires.claim c.in_ok-said.ensures.exact
+    c.in_ok-said.ensures.short in
     subst (AreOfOneStage (case_of c.args.case)) (sym c.as_slice.ensures.value) these.1
 
 pub check_all-requires-clause-count : goal.check_all-requires-clause-count
 check_all-requires-clause-count c =
-    let these = objections (case_of c.args.case) c.args.posts c.in_ok-said.said.items c.requires.claim c.in_ok-said.ensures.exact c.in_ok-said.ensures.short in
+    let these = objections (case_of c.args.case) c.args.posts c.in_ok-said.said.items c.requires.claim c.in_ok-said.ensures.exact
+    c.in_ok-said.ensures.short in
     ap (λ (said : List GivenSaid). length said) c.as_slice.ensures.value ∙ these.0
     ∙ c.requires.count ∙ ap (claim_posts (shape_of_roster (roster_of c.args.case.roster.now))) c.requires.claim
 

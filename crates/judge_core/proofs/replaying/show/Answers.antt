@@ -13,5 +13,7 @@ justifying_log-requires-clause-closing c =
 pub returns : goal.returns
 returns c =
     let read = ap (λ (s : Shape). content_read s c.args.said.content.now) (sym c.shape.ensures) ∙ c.in_ok-content.ensures.value in
-    shown-is (case_of c.args.case) c.args.said.header.stage (said_of c.args.said) c.in_ok-content.content c.in-Some.log c.shown_by.result c.requires.objection read
-    (rw c.shape.ensures at c.in_ok-content.ensures.grammar) (rw c.in-Some.is at c.in_ok-log.ensures.keeps) (rw c.in-Some.is at c.in_ok-log.ensures.justified) c.shown_by.ensures
+    shown-is (case_of c.args.case) c.args.said.header.stage (said_of c.args.said) c.in_ok-content.content c.in-Some.log c.shown_by.result
+    c.requires.objection read
+    (rw c.shape.ensures at c.in_ok-content.ensures.grammar) (rw c.in-Some.is at c.in_ok-log.ensures.keeps)
+    (rw c.in-Some.is at c.in_ok-log.ensures.justified) c.shown_by.ensures

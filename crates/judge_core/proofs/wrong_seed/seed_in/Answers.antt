@@ -10,8 +10,10 @@ overflow_sub-content c =
     (seed-laid c.requires.0 c.args.content.now fits c.requires.1).most
 
 -- all of the last 32 bytes
-all-last : (bytes : List ℕ) → 32 ≤ length bytes → take (length bytes - (length bytes - 32)) (drop (length bytes - 32) bytes) ≡ drop (length bytes - 32) bytes
-all-last bytes le = take_all (length bytes - (length bytes - 32)) (drop (length bytes - 32) bytes) (omega (arith, length-drop (length bytes - 32) bytes, le))
+all-last : (bytes : List ℕ) → 32 ≤ length bytes → take (length bytes - (length bytes - 32)) (drop (length bytes - 32) bytes) ≡ drop
+    (length bytes - 32) bytes
+all-last bytes le = take_all (length bytes - (length bytes - 32)) (drop (length bytes - 32) bytes)
+    (omega (arith, length-drop (length bytes - 32) bytes, le))
 
 pub copy_from_slice-requires : goal.copy_from_slice-requires
 copy_from_slice-requires c =

@@ -8,7 +8,8 @@ use Rattle.key_store.proofs.front.read_front.Goals as goal
 pub returns-then-taken-eq0-clause-read : goal.returns-then-taken-eq0-clause-read
 returns-then-taken-eq0-clause-read g c =
     front_ended _ _ c.loop-size.size c.in-Read.taken c.loop-size.image c.read_more.new.image c.loop-size.invariant.kept
-    c.loop-size.invariant.read c.if-taken-eq0.true c.loop-size.invariant.within c.in-Read.ensures.read (c.in-Read.ensures.ended (ap Read c.if-taken-eq0.true))
+    c.loop-size.invariant.read c.if-taken-eq0.true c.loop-size.invariant.within c.in-Read.ensures.read
+    (c.in-Read.ensures.ended (ap Read c.if-taken-eq0.true))
 
 pub loop-size-preserved : goal.loop-size-preserved
 loop-size-preserved g c = record {
@@ -16,7 +17,8 @@ loop-size-preserved g c = record {
   read = front_more _ _ c.loop-size.size c.in-Read.taken c.loop-size.image c.read_more.new.image c.loop-size.invariant.kept
       c.loop-size.invariant.read c.in-Read.ensures.read c.in-Read.ensures.within;
   images = λ image left. c.loop-size.invariant.images image (c.read_more.ensures.images image left);
-  moments = goes_on g.D.Disk.may_leave g.D.Disk.moment g.D.Disk.left_since _ c.loop-size.disk c.read_more.new.disk _ c.loop-size.invariant.moments c.read_more.ensures.time
+  moments = goes_on g.D.Disk.may_leave g.D.Disk.moment g.D.Disk.left_since _ c.loop-size.disk c.read_more.new.disk _
+      c.loop-size.invariant.moments c.read_more.ensures.time
       (λ image left. c.loop-size.invariant.images image (c.read_more.ensures.images image left));
   kept = c.read_more.ensures.kept ∙ c.loop-size.invariant.kept;
   beside = beside-trans _ _ _ c.loop-size.invariant.beside c.read_more.ensures.beside;

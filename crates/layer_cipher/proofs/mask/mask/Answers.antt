@@ -7,7 +7,8 @@ use Rattle.pad_stream.proofs.ExclusiveOrLemmas.{exclusive_or_comm, length-exclus
 use Rattle.layer_cipher.proofs.mask.mask.Goals as goal
 
 pub xor_into-requires : goal.xor_into-requires
-xor_into-requires c = rw (c.deref_mut.ensures.value, c.in_ok-masked.ensures) (length-bytes_from c.mask_key.result 0 (length c.args.body.now))
+xor_into-requires c = rw (c.deref_mut.ensures.value, c.in_ok-masked.ensures)
+    (length-bytes_from c.mask_key.result 0 (length c.args.body.now))
 
 pub returns : goal.returns
 returns c =
@@ -16,7 +17,8 @@ returns c =
     let into = c.xor_into.new.into in
     let stream : now ≡ stream_of c.mask_key.result (length body) = c.deref_mut.ensures.value ∙ c.in_ok-masked.ensures in
     let long : length now ≡ length body = ap (λ (x : List ℕ). length x) stream ∙ length-bytes_from c.mask_key.result 0 (length body) in
-    let size : length into ≡ c.in_ok-masked.masked.len = ap (λ (x : List ℕ). length x) c.xor_into.ensures ∙ length-exclusive_or now body long ∙ c.deref_mut.ensures.len in
+    let size : length into ≡ c.in_ok-masked.masked.len = ap (λ (x : List ℕ). length x) c.xor_into.ensures
+    ∙ length-exclusive_or now body long ∙ c.deref_mut.ensures.len in
     take_at into (drop (length into) c.in_ok-masked.masked.items) c.in_ok-masked.masked.len size
     ∙ c.xor_into.ensures
     ∙ ap (λ (x : List ℕ). exclusive_or x body) (stream ∙ ap (λ (key : List ℕ). stream_of key (length body)) c.mask_key.ensures)

@@ -9,4 +9,15 @@ check_value-requires c = rw (c.deref.ensures.value, c.in_ok-masked.ensures) (ome
 pub returns : goal.returns
 unfolding layer_of
 returns c =
-    rw (c.in_ok-put_bytes-3.ensures.ok, c.in_ok-put_bytes-2.ensures.ok, c.in_ok-put_bytes.ensures.ok, c.in_ok-layer.ensures.items, c.bytes.ensures.value, c.seal_seed.ensures, c.check_value.ensures, c.deref.ensures.value, c.deref-2.ensures.value, c.in_ok-masked.ensures) refl
+    rw (
+      c.in_ok-put_bytes-3.ensures.ok,
+      c.in_ok-put_bytes-2.ensures.ok,
+      c.in_ok-put_bytes.ensures.ok,
+      c.in_ok-layer.ensures.items,
+      c.bytes.ensures.value,
+      c.seal_seed.ensures,
+      c.check_value.ensures,
+      c.deref.ensures.value,
+      c.deref-2.ensures.value,
+      c.in_ok-masked.ensures,
+    ) refl

@@ -6,7 +6,12 @@ use Rattle.lm_ots.proofs.chains.key_of_ends.Goals as goal
 
 pub loop-i-init : goal.loop-i-init
 loop-i-init c =
-    rw (key_string_none c.args.width c.args.identifier.now c.args.q c.args.signed.now c.args.sig.now, ← c.u32str.ensures, ← c.u16str.ensures)
+    rw (
+      key_string_none c.args.width c.args.identifier.now c.args.q c.args.signed.now c.args.sig.now,
+      ← c.u32str.ensures,
+      ←
+          c.u16str.ensures,
+    )
     (c.update-3.ensures _ (c.update-2.ensures _ (c.update.ensures [] c.new-hasher.ensures)))
 
 pub loop-i-preserved : goal.loop-i-preserved

@@ -9,5 +9,6 @@ use Rattle.pad_stream.proofs.pads.is_pad.Goals as goal
 pub returns-else-sent-length : goal.returns-else-sent-length
 returns-else-sent-length c = (
   λ same. absurd (c.if-sent-length.false (eqb-true _ _ same)),
-  λ is. absurd (c.if-sent-length.false (ap (λ (bytes : List ℕ). length bytes) is ∙ length-bytes_from (hash_of PadStream (c.args.seed.now ∷ [])) 0 c.args.length)),
+  λ is. absurd (c.if-sent-length.false (ap (λ (bytes : List ℕ). length bytes) is
+      ∙ length-bytes_from (hash_of PadStream (c.args.seed.now ∷ [])) 0 c.args.length)),
 )

@@ -11,8 +11,12 @@ loop-i-init c =
 pub returns-then-not-is_drawn : goal.returns-then-not-is_drawn
 returns-then-not-is_drawn c =
     let from = 256 * c.loop-i.i in
-    let to = from + c.min-size.result in
-    (λ e. absurd (cc), λ drawn. let yes : c.is_drawn.result ≡ true = c.is_drawn.ensures.1 (part-drawn c.args.key.now c.args.sent.now (64 * c.loop-i.i) from to (omega arith) (omega arith) (omega arith) drawn) in sym c.if-not-is_drawn.true ∙ yes)
+    let to = from + c.min-size.result in (
+      λ e. absurd (cc),
+      λ drawn. let yes : c.is_drawn.result ≡ true = c.is_drawn.ensures.1
+          (part-drawn c.args.key.now c.args.sent.now (64 * c.loop-i.i) from to (omega arith) (omega arith) (omega arith) drawn) in sym
+          c.if-not-is_drawn.true ∙ yes,
+    )
 
 pub loop-i-preserved : goal.loop-i-preserved
 loop-i-preserved c =
@@ -21,4 +25,5 @@ loop-i-preserved c =
     let here : min from (length c.args.sent.now) ≡ from = omega arith in
     let next : min (256 * (c.loop-i.i + 1)) (length c.args.sent.now) ≡ to = omega arith in
     let before : take from c.args.sent.now ≡ stream_of c.args.key.now from = rw here at c.loop-i.invariant in
-    rw next (part-after-drawn c.args.key.now c.args.sent.now (64 * c.loop-i.i) from to (omega arith) (omega arith) (omega arith) before (c.is_drawn.ensures.0 c.if-not-is_drawn.false))
+    rw next (part-after-drawn c.args.key.now c.args.sent.now (64 * c.loop-i.i) from to (omega arith) (omega arith) (omega arith) before
+    (c.is_drawn.ensures.0 c.if-not-is_drawn.false))

@@ -4,7 +4,8 @@ use Rattle.phase_message.proofs.Table.{turn_a, go_a_is, final_a_is, pad_is, chec
 use Rattle.phase_message.proofs.stage.first_half.Goals as goal
 
 pub returns-then-stage-n-clause-kind : goal.returns-then-stage-n-clause-kind
-returns-then-stage-n-clause-kind c = sym (turn_a (shape_of c.args.shape) c.args.stage (c.args.stage - 1) (omega arith) (omega arith) (omega arith))
+returns-then-stage-n-clause-kind c = sym (turn_a (shape_of c.args.shape) c.args.stage (c.args.stage - 1) (omega arith) (omega arith)
+    (omega arith))
 
 pub returns-in-0-clause-kind : goal.returns-in-0-clause-kind
 returns-in-0-clause-kind c = sym (go_a_is (shape_of c.args.shape) c.args.stage (omega arith))

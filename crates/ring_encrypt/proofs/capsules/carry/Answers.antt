@@ -17,12 +17,17 @@ loop-c-preserved c =
     let bit = shr_and_one (get_or c.args.m.now (k / 8) 0) (k % 8) in
     record {
       long = search rules;
-      carried = fill_more (λ k. residue (pos (get_or c.args.product.now k 0) +ℤ coefficient c.args.error.now k +ℤ pos (6144 * message_bit c.args.m.now k))) c.loop-c.v c.loop-c.c c.carrying.result 0 (omega arith) (rw (bit, kept, c.get-in-loop-c.ensures.value, c.get.ensures.value) at c.carrying.ensures.value) c.loop-c.invariant.carried;
+      carried = fill_more (λ k. residue (pos (get_or c.args.product.now k 0) +ℤ coefficient c.args.error.now k +ℤ pos
+          (6144 * message_bit c.args.m.now k))) c.loop-c.v c.loop-c.c c.carrying.result 0 (omega arith)
+          (rw (bit, kept, c.get-in-loop-c.ensures.value, c.get.ensures.value) at c.carrying.ensures.value) c.loop-c.invariant.carried;
     }
 
 pub returns-clause-value : goal.returns-clause-value
 unfolding carried
-returns-clause-value c = fill_by_all (λ k. residue (pos (get_or c.args.product.now k 0) +ℤ coefficient c.args.error.now k +ℤ pos (6144 * message_bit c.args.m.now k))) c.loop-c.v 256 0 c.loop-c.invariant.long (λ k h. c.loop-c.invariant.carried k (omega arith))
+returns-clause-value c = fill_by_all (λ k. residue (pos (get_or c.args.product.now k 0) +ℤ coefficient c.args.error.now k +ℤ pos
+    (6144 * message_bit c.args.m.now k))) c.loop-c.v 256 0 c.loop-c.invariant.long (λ k h. c.loop-c.invariant.carried k (omega arith))
 
 pub returns-clause-reduced : goal.returns-clause-reduced
-returns-clause-reduced c = All-from_get_or (λ x. x < 12289) c.loop-c.v 0 (λ k h. rw (c.loop-c.invariant.carried k (omega arith)) (residue_below (pos (get_or c.args.product.now k 0) +ℤ coefficient c.args.error.now k +ℤ pos (6144 * message_bit c.args.m.now k))))
+returns-clause-reduced c = All-from_get_or (λ x. x < 12289) c.loop-c.v 0
+    (λ k h. rw (c.loop-c.invariant.carried k (omega arith)) (residue_below
+    (pos (get_or c.args.product.now k 0) +ℤ coefficient c.args.error.now k +ℤ pos (6144 * message_bit c.args.m.now k))))

@@ -8,5 +8,6 @@ use Rattle.ring_encrypt.proofs.capsules.carry.Given as goal
 abbrev pub invariant-loop-c : goal.invariant-loop-c
 invariant-loop-c l = record {
   long : length l.v ≡ 256;
-  carried : (k : ℕ) → k < l.c → get_or l.v k 0 ≡ residue (pos (get_or l.product k 0) +ℤ coefficient l.error k +ℤ pos (6144 * message_bit l.m k));
+  carried : (k : ℕ) → k < l.c → get_or l.v k 0 ≡ residue (pos (get_or l.product k 0) +ℤ coefficient l.error k +ℤ pos
+      (6144 * message_bit l.m k));
 }

@@ -15,13 +15,16 @@ loop-c-preserved c =
     let kept = read_back_byte c.trit.result (omega (arith, c.trit.ensures.trit)) in
     record {
       long = search rules;
-      drawn = fill_more (λ k. trit_of (word_of c.args.key.now (c.args.place + k / 16)) (k % 16)) c.loop-c.coefficients k (to_z w8 (of_z w8 c.trit.result)) (pos 0) (omega arith)
+      drawn = fill_more (λ k. trit_of (word_of c.args.key.now (c.args.place + k / 16)) (k % 16)) c.loop-c.coefficients k
+          (to_z w8 (of_z w8 c.trit.result)) (pos 0) (omega arith)
           (kept ∙ c.trit.ensures.value ∙ ap (λ (n : ℕ). trit_of n (k % 16)) word) c.loop-c.invariant.drawn;
     }
 
 pub of-requires : goal.of-requires
-of-requires c = All-from_get_or (λ x. IsTrit x) c.loop-c.coefficients (pos 0) (λ k h. rw (c.loop-c.invariant.drawn k (omega arith)) (trit_of_is_trit (word_of c.args.key.now (c.args.place + k / 16)) (k % 16)))
+of-requires c = All-from_get_or (λ x. IsTrit x) c.loop-c.coefficients (pos 0)
+    (λ k h. rw (c.loop-c.invariant.drawn k (omega arith)) (trit_of_is_trit (word_of c.args.key.now (c.args.place + k / 16)) (k % 16)))
 
 pub returns : goal.returns
 unfolding ternary
-returns c = rw c.of.ensures.value (by_place_is (λ k. trit_of (word_of c.args.key.now (c.args.place + k / 16)) (k % 16)) c.loop-c.coefficients (pos 0) (omega arith) (λ k h. c.loop-c.invariant.drawn k (omega arith)))
+returns c = rw c.of.ensures.value (by_place_is (λ k. trit_of (word_of c.args.key.now (c.args.place + k / 16)) (k % 16))
+    c.loop-c.coefficients (pos 0) (omega arith) (λ k h. c.loop-c.invariant.drawn k (omega arith)))

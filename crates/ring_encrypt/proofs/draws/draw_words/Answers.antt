@@ -13,5 +13,6 @@ loop-i-preserved g c =
     record {
       long = search rules;
       generator = rw next at (ap (λ (p : ℕ × ChaCha). p.1) step);
-      drawn = fill_more (λ k. word_of c.args.key.now (c.args.place + k)) c.loop-i.words i c.next_word.result 0 (omega arith) (ap (λ (p : ℕ × ChaCha). p.0) step) c.loop-i.invariant.drawn;
+      drawn = fill_more (λ k. word_of c.args.key.now (c.args.place + k)) c.loop-i.words i c.next_word.result 0 (omega arith)
+          (ap (λ (p : ℕ × ChaCha). p.0) step) c.loop-i.invariant.drawn;
     }

@@ -27,4 +27,5 @@ returns-clause-value c =
     let at : (k : ℕ) → k < 1024 → get_or c.loop-place.sum k 0 ≡ residue (pos (get_or a k 0) +ℤ pos (get_or b k 0)) = λ k h.
     let x = c.loop-place.invariant.done k (omega arith) in
     rw (← c.coefficients-a.ensures.value, ← c.coefficients-b.ensures.value) (x ∙ refl) in
-    c.of.ensures.value ∙ by_place_is (λ k. residue (pos (get_or a k 0) +ℤ pos (get_or b k 0))) c.loop-place.sum 0 c.loop-place.invariant.long at
+    c.of.ensures.value ∙ by_place_is (λ k. residue (pos (get_or a k 0) +ℤ pos (get_or b k 0))) c.loop-place.sum 0
+    c.loop-place.invariant.long at

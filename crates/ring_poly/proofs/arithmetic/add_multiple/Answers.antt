@@ -14,11 +14,13 @@ loop-place-preserved c =
     let size : unsigned_abs old ≤ 2 ^ 30 = rw same (c.requires.sums p (pos 0) (omega arith)) in
     let small = c.requires.factor in
     let back : to_z w32 (of_z w32 f) ≡ f = read_back f (omega arith) in
-    let stored : to_z w32 (of_z w32 (to_z w32 (of_z w32 old) +ℤ to_z w32 (of_z w32 (to_z w32 (of_z w32 c.from.result) *ℤ to_z w32 (of_z w32 f))))) ≡ old +ℤ (pos t *ℤ f) =
+    let stored : to_z w32 (of_z w32 (to_z w32 (of_z w32 old) +ℤ to_z w32
+    (of_z w32 (to_z w32 (of_z w32 c.from.result) *ℤ to_z w32 (of_z w32 f))))) ≡ old +ℤ (pos t *ℤ f) =
     rw c.from.ensures (read_multiple old t f size (c.requires.terms p 0 (omega arith)) small) in
     record {
       done = below_more _ _
           (λ k h. let other : k ≢ p = omega arith in rw get_or-set_other (c.loop-place.invariant.done k h))
-          (rw get_or-set_same (stored ∙ ap (λ x. x +ℤ (pos t *ℤ f)) same ∙ ap (λ x. get_or c.args.sums.now p (pos 0) +ℤ (pos t *ℤ x)) (sym back)));
+          (rw get_or-set_same (stored ∙ ap (λ x. x +ℤ (pos t *ℤ f)) same
+          ∙ ap (λ x. get_or c.args.sums.now p (pos 0) +ℤ (pos t *ℤ x)) (sym back)));
       left = λ k h. let other : k ≢ p = omega arith in rw get_or-set_other (c.loop-place.invariant.left k (omega arith));
     }

@@ -30,7 +30,8 @@ loop-row-preserved c =
       added = λ k h.
           let e = rw factor at (c.add_row.ensures k (omega (arith, c.add_row.array_long))) in
           let before = c.loop-row.invariant.added k h in
-          e ∙ ap (λ y. y +ℤ (turned (map pos c.args.a.now) row k *ℤ z)) before ∙ sym (row_sum-more (map pos c.args.a.now) c.args.b.now row k);
+          e ∙ ap (λ y. y +ℤ (turned (map pos c.args.a.now) row k *ℤ z)) before
+          ∙ sym (row_sum-more (map pos c.args.a.now) c.args.b.now row k);
     }
 
 pub returns : goal.returns

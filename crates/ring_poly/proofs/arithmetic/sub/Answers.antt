@@ -18,16 +18,19 @@ loop-place-preserved c =
     }
 
 pub of-requires : goal.of-requires
-of-requires c = All-from_get_or (λ x. x < 12289) c.loop-place.difference 0 (λ k h. rw (c.loop-place.invariant.done k (omega arith)) (omega arith))
+of-requires c = All-from_get_or (λ x. x < 12289) c.loop-place.difference 0
+    (λ k h. rw (c.loop-place.invariant.done k (omega arith)) (omega arith))
 
 pub returns-clause-value : goal.returns-clause-value
 unfolding difference_of
 returns-clause-value c =
     let a = c.args.a.now in
     let b = c.args.b.now in
-    let small : (k : ℕ) → k < 1024 → get_or b k 0 < 12289 = λ k h. c.coefficients-b.ensures.polynomial.reduced k 0 (rw c.coefficients-b.ensures.polynomial.length h) in
+    let small : (k : ℕ) → k < 1024 → get_or b k 0 < 12289 = λ k h. c.coefficients-b.ensures.polynomial.reduced k 0
+    (rw c.coefficients-b.ensures.polynomial.length h) in
     let at : (k : ℕ) → k < 1024 → get_or c.loop-place.difference k 0 ≡ residue (pos (get_or a k 0) -ℤ pos (get_or b k 0)) = λ k h.
     let x = c.loop-place.invariant.done k (omega arith) in
     let y = rw (c.coefficients-a.ensures.value, c.coefficients-b.ensures.value) at x in
     y ∙ residue-sub_reduced (get_or a k 0) (get_or b k 0) (small k h) in
-    c.of.ensures.value ∙ by_place_is (λ k. residue (pos (get_or a k 0) -ℤ pos (get_or b k 0))) c.loop-place.difference 0 c.loop-place.invariant.long at
+    c.of.ensures.value ∙ by_place_is (λ k. residue (pos (get_or a k 0) -ℤ pos (get_or b k 0))) c.loop-place.difference 0
+    c.loop-place.invariant.long at

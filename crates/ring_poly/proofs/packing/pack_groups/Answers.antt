@@ -8,4 +8,5 @@ loop-group-preserved c =
     let room : 4 * g + 4 ≤ length c.args.coefficients.now = omega arith in
     let places : 7 * g + 7 ≤ length c.loop-group.bytes = omega arith in
     let part : length c.pack_group.new.bytes ≡ 7 = search rules in
-    pack_next g c.args.coefficients.now c.loop-group.bytes c.pack_group.new.bytes room places part c.loop-group.invariant c.pack_group.ensures
+    pack_next g c.args.coefficients.now c.loop-group.bytes c.pack_group.new.bytes room places part c.loop-group.invariant
+    c.pack_group.ensures

@@ -8,4 +8,5 @@ loop-group-preserved c =
     let room : 4 * g + 4 ≤ length c.loop-group.coefficients = omega arith in
     let places : 7 * g + 7 ≤ length c.args.bytes.now = omega arith in
     let part : length c.unpack_group.new.coefficients ≡ 4 = search rules in
-    unpack_next g c.args.bytes.now c.loop-group.coefficients c.unpack_group.new.coefficients places room part c.loop-group.invariant c.unpack_group.ensures
+    unpack_next g c.args.bytes.now c.loop-group.coefficients c.unpack_group.new.coefficients places room part c.loop-group.invariant
+    c.unpack_group.ensures

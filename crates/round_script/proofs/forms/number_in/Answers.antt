@@ -4,4 +4,5 @@ use Rattle.round_script.proofs.forms.number_in.Goals as goal
 
 pub returns-in-len1-up : goal.returns-in-len1-up
 returns-in-len1-up c =
-    c.ok.ensures.value ∙ number_read c.args.text.now c.parse.result (rw c.as_bytes.ensures.value at c.if-first-gt48.true) c.parse.ensures.value.0
+    c.ok.ensures.value ∙ number_read c.args.text.now c.parse.result (rw c.as_bytes.ensures.value at c.if-first-gt48.true)
+    c.parse.ensures.value.0

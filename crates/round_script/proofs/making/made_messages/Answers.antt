@@ -5,4 +5,5 @@ use Rattle.round_script.proofs.making.made_messages.Goals as goal
 
 pub loop-i-preserved : goal.loop-i-preserved
 loop-i-preserved c =
-    messages_more (made_message c.args.number c.args.bytes) c.loop-i.messages.items _ c.loop-i.i _ c.loop-i.invariant (c.of.ensures ∙ c.in_ok-message.ensures) c.in_ok-push.ensures.items
+    messages_more (made_message c.args.number c.args.bytes) c.loop-i.messages.items _ c.loop-i.i _ c.loop-i.invariant
+    (c.of.ensures ∙ c.in_ok-message.ensures) c.in_ok-push.ensures.items

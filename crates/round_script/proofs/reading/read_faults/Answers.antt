@@ -11,12 +11,15 @@ loop-i-preserved c =
       | in-Some+in_ok-push w ↦
           let read = ap (λ (one : Option FaultLine). (one, c.read_fault.new.lines)) (sym w.in-Some.is) ∙ c.read_fault.ensures in
           rw (w.faults-is, w.in_ok-push.ensures.items)
-          (loop_takes fault_line_of c.loop-i.faults.items (c.loop-i.i + 1) c.args.shape.members c.loop-i.i c.loop-i.lines c.read_fault.new.lines w.in-Some.fault _ c.loop-i-test.true read c.loop-i.invariant)
+          (loop_takes fault_line_of c.loop-i.faults.items (c.loop-i.i + 1) c.args.shape.members c.loop-i.i c.loop-i.lines
+          c.read_fault.new.lines w.in-Some.fault _ c.loop-i-test.true read c.loop-i.invariant)
       | in_default w ↦
           let read = ap (λ (one : Option FaultLine). (one, c.read_fault.new.lines)) (sym w.in_default.is) ∙ c.read_fault.ensures in
           rw w.faults-is
-          (loop_leaves fault_line_of c.loop-i.faults.items (c.loop-i.i + 1) c.args.shape.members c.loop-i.i c.loop-i.lines c.read_fault.new.lines _ c.loop-i-test.true read c.loop-i.invariant)
+          (loop_leaves fault_line_of c.loop-i.faults.items (c.loop-i.i + 1) c.args.shape.members c.loop-i.i c.loop-i.lines
+          c.read_fault.new.lines _ c.loop-i-test.true read c.loop-i.invariant)
     ]
 
 pub returns : goal.returns
-returns c = loop_is_done fault_line_of c.loop-i.faults.items (c.loop-i.i + 1) c.args.shape.members c.loop-i.i c.loop-i.lines _ c.loop-i-test.false c.loop-i.invariant
+returns c = loop_is_done fault_line_of c.loop-i.faults.items (c.loop-i.i + 1) c.args.shape.members c.loop-i.i c.loop-i.lines _
+    c.loop-i-test.false c.loop-i.invariant

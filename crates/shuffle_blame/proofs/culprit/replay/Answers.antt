@@ -30,8 +30,10 @@ returns-in-Some-2-clause-culprit c =
     = view-told c.args.log.now c.args.stage c.args.round c.args.shown.now.items c.wrong_views.result c.wrong_views.ensures
     ∙ ap (option_map (λ (slot : Slot). fault View slot.sender)) c.in_default.is in
     let told : c.in_ok-fault.field-0 ≡ fault_shown kind q
-    = c.in_ok-fault.ensures ∙ ap (λ (shown : List Shown). fault_shown kind (inquiry_of c.args.log.now c.args.stage c.args.round shown)) c.deref.ensures.value in
-    sym (culprit-parts kind q ∙ second-is (view_fault q) (fault_shown kind q) (vote_fault q) c.in-Some-2.fault view (sym told ∙ c.in-Some-2.is))
+    = c.in_ok-fault.ensures ∙ ap (λ (shown : List Shown). fault_shown kind (inquiry_of c.args.log.now c.args.stage c.args.round shown))
+    c.deref.ensures.value in
+    sym (culprit-parts kind q ∙ second-is (view_fault q) (fault_shown kind q) (vote_fault q) c.in-Some-2.fault view
+    (sym told ∙ c.in-Some-2.is))
 
 pub returns-clause-culprit : goal.returns-clause-culprit
 returns-clause-culprit c =
@@ -41,7 +43,8 @@ returns-clause-culprit c =
     = view-told c.args.log.now c.args.stage c.args.round c.args.shown.now.items c.wrong_views.result c.wrong_views.ensures
     ∙ ap (option_map (λ (slot : Slot). fault View slot.sender)) c.in_default.is in
     let told : c.in_ok-fault.field-0 ≡ fault_shown kind q
-    = c.in_ok-fault.ensures ∙ ap (λ (shown : List Shown). fault_shown kind (inquiry_of c.args.log.now c.args.stage c.args.round shown)) c.deref.ensures.value in
+    = c.in_ok-fault.ensures ∙ ap (λ (shown : List Shown). fault_shown kind (inquiry_of c.args.log.now c.args.stage c.args.round shown))
+    c.deref.ensures.value in
     let last : vote_fault q ≡ culprit_of q
     = sym (culprit-parts kind q ∙ third-is (view_fault q) (fault_shown kind q) (vote_fault q) view (sym told ∙ c.in_default-2.is)) in
     subst (λ (x : Option Fault). IfOk c.vote_fault.result (λ fault. fault ≡ x)) last c.vote_fault.ensures

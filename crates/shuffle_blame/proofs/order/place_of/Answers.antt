@@ -6,4 +6,5 @@ use Rattle.shuffle_blame.proofs.order.place_of.Goals as goal
 
 pub returns-clause-value : goal.returns-clause-value
 returns-clause-value c =
-    position_from_yields_List (λ body. bytes_eq c.args.entry.now body) _ _ c.position.result c.position.ensures.ran (YieldsList-from_slice c.args.bodies.now cc) (λ x b q k. search (rules, tests))
+    position_from_yields_List (λ body. bytes_eq c.args.entry.now body) _ _ c.position.result c.position.ensures.ran
+    (YieldsList-from_slice c.args.bodies.now cc) (λ x b q k. search (rules, tests))

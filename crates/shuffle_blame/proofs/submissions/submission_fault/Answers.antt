@@ -14,7 +14,14 @@ pub bounds-said-from : goal.bounds-said-from
 bounds-said-from c =
     let q : Inquiry = inquiry_at c.args.log.now c.args.ended c.args.parts.now in
     let members = ap (λ (shape : Shape). shape.members) c.shape-shape.ensures.shape in
-    omega (arith, c.from.ensures, members, ap (λ (list : List (List ℕ)). length list) c.requires.list, length-map-range_with_len (submission q) 1 c.args.log.now.shape.members)
+    omega (
+      arith,
+      c.from.ensures,
+      members,
+      ap (λ (list : List (List ℕ)). length list) c.requires.list,
+      length-map-range_with_len
+          (submission q) 1 c.args.log.now.shape.members,
+    )
 
 pub wrong_layer-requires-clause-said : goal.wrong_layer-requires-clause-said
 wrong_layer-requires-clause-said c =
@@ -32,9 +39,18 @@ wrong_layer-requires-clause-short c =
     let q : Inquiry = inquiry_at c.args.log.now c.args.ended c.args.parts.now in
     let members = ap (λ (shape : Shape). shape.members) c.shape-shape.ensures.shape in
     let within : c.from.result < length c.args.said.now
-    = omega (arith, c.from.ensures, members, ap (λ (list : List (List ℕ)). length list) c.requires.list, length-map-range_with_len (submission q) 1 c.args.log.now.shape.members) in
-    let short = All-get_or (λ entry. length entry < 2 ^ 32) c.args.said.now c.from.result c.index-said-from.result within c.requires.short in
-    let same : c.deref.result.now ≡ get_or c.args.said.now c.from.result c.index-said-from.result = c.deref.ensures.value ∙ c.items-bytes.ensures ∙ c.index-said-from.is in
+    = omega (
+      arith,
+      c.from.ensures,
+      members,
+      ap (λ (list : List (List ℕ)). length list) c.requires.list,
+      length-map-range_with_len
+          (submission q) 1 c.args.log.now.shape.members,
+    ) in
+    let short = All-get_or (λ entry. length entry < 2 ^ 32) c.args.said.now c.from.result c.index-said-from.result within c.requires.short
+    in
+    let same : c.deref.result.now ≡ get_or c.args.said.now c.from.result c.index-said-from.result = c.deref.ensures.value
+    ∙ c.items-bytes.ensures ∙ c.index-said-from.is in
     omega (arith, short, ap (λ (bytes : List ℕ). length bytes) same)
 
 pub returns-in-Some : goal.returns-in-Some
@@ -42,11 +58,13 @@ returns-in-Some c =
     let q : Inquiry = inquiry_at c.args.log.now c.args.ended c.args.parts.now in
     let members = ap (λ (shape : Shape). shape.members) c.shape-shape.ensures.shape in
     let is : IsMember q c.loop-member.member = record { least = omega arith; most = omega (arith, members) } in
-    sym (first_member-some q (layer_fault q c.args.ended.shuffle) c.loop-member.member (fault (Submission c.in-Some.layer) c.loop-member.member) is c.loop-member.invariant
+    sym (first_member-some q (layer_fault q c.args.ended.shuffle) c.loop-member.member
+    (fault (Submission c.in-Some.layer) c.loop-member.member) is c.loop-member.invariant
     (sym c.in_ok-layer.ensures ∙ ap (option_map (λ (layer : ℕ). fault (Submission layer) c.loop-member.member)) c.in-Some.is))
 
 pub returns : goal.returns
 returns c =
     let q : Inquiry = inquiry_at c.args.log.now c.args.ended c.args.parts.now in
     let members = ap (λ (shape : Shape). shape.members) c.shape-shape.ensures.shape in
-    sym (first_member-none q (layer_fault q c.args.ended.shuffle) (λ member least most. c.loop-member.invariant member least (omega (arith, members))))
+    sym (first_member-none q (layer_fault q c.args.ended.shuffle)
+    (λ member least most. c.loop-member.invariant member least (omega (arith, members))))

@@ -14,8 +14,12 @@ use Rattle.shuffle_blame.proofs.submissions.wrong_layer.Goals as goal
 
 pub loop-layer-init : goal.loop-layer-init
 loop-layer-init c =
-    let q : Inquiry = inquiry_at c.args.log.now c.args.ended c.args.parts.now in
-    (nothing-off q c.args.member ∙ ap (λ (bytes : List ℕ). Some bytes) (sym c.requires.said), c.requires.short, λ earlier least lt. absurd (omega arith))
+    let q : Inquiry = inquiry_at c.args.log.now c.args.ended c.args.parts.now in (
+      nothing-off q c.args.member ∙ ap (λ (bytes : List ℕ). Some bytes) (sym c.requires.said),
+      c.requires.short,
+      λ earlier least lt. absurd
+          (omega arith),
+    )
 
 pub returns-in_default : goal.returns-in_default
 returns-in_default c =
@@ -26,9 +30,11 @@ returns-in_default c =
     let members = ap (λ (shape : Shape). shape.members) c.shape-shape.ensures.shape in
     let is : IsMember q layer = record { least = omega arith; most = omega (arith, members) } in
     let told = layer-told c.args.log.now c.args.ended c.args.parts.now c.args.member layer c.in_ok-body.field-0 bytes
-    c.from.result c.from-in-loop-layer.result c.index-parts-from.result c.index-parts-from-in-loop-layer.result c.layer_seed-m.result c.rest_of.result.now
+    c.from.result c.from-in-loop-layer.result c.index-parts-from.result c.index-parts-from-in-loop-layer.result c.layer_seed-m.result
+    c.rest_of.result.now
     c.requires.is_end c.requires.least c.requires.most is.least is.most
-    c.from.ensures c.index-parts-from.is c.from-in-loop-layer.ensures c.index-parts-from-in-loop-layer.is c.layer_seed-m.ensures c.rest_of.ensures c.in_ok-body.ensures.value in
+    c.from.ensures c.index-parts-from.is c.from-in-loop-layer.ensures c.index-parts-from-in-loop-layer.is c.layer_seed-m.ensures
+    c.rest_of.ensures c.in_ok-body.ensures.value in
     sym (one_fails q (has_layer q shuffle c.args.member) (λ layer. fault (Submission layer) c.args.member) layer is c.loop-layer.invariant.2
     (layer-stops q shuffle c.args.member layer bytes c.loop-layer.invariant.0 (sym c.in_default.is ∙ told)))
 
@@ -42,10 +48,14 @@ loop-layer-preserved c =
     let least : 1 ≤ layer = omega arith in
     let most : layer ≤ c.args.log.now.shape.members = omega (arith, members) in
     let told = layer-told c.args.log.now c.args.ended c.args.parts.now c.args.member layer c.in_ok-body.field-0 bytes
-    c.from.result c.from-in-loop-layer.result c.index-parts-from.result c.index-parts-from-in-loop-layer.result c.layer_seed-m.result c.rest_of.result.now
+    c.from.result c.from-in-loop-layer.result c.index-parts-from.result c.index-parts-from-in-loop-layer.result c.layer_seed-m.result
+    c.rest_of.result.now
     c.requires.is_end c.requires.least c.requires.most least most
-    c.from.ensures c.index-parts-from.is c.from-in-loop-layer.ensures c.index-parts-from-in-loop-layer.is c.layer_seed-m.ensures c.rest_of.ensures c.in_ok-body.ensures.value in
-    let next = layer-next q shuffle c.args.member layer bytes c.in-Some.body least (omega (arith, most, c.requires.is_end.each_shows, length-map c.args.parts.now (λ (part : Part). part.shown))) c.loop-layer.invariant.0 (sym c.in-Some.is ∙ told) in
+    c.from.ensures c.index-parts-from.is c.from-in-loop-layer.ensures c.index-parts-from-in-loop-layer.is c.layer_seed-m.ensures
+    c.rest_of.ensures c.in_ok-body.ensures.value in
+    let next = layer-next q shuffle c.args.member layer bytes c.in-Some.body least
+    (omega (arith, most, c.requires.is_end.each_shows, length-map c.args.parts.now (λ (part : Part). part.shown)))
+    c.loop-layer.invariant.0 (sym c.in-Some.is ∙ told) in
     let short = rw c.in-Some.is at c.in_ok-body.ensures.short in
     let place : layer + 1 - 1 ≡ layer = omega arith in (
       ap (inside q (submission q c.args.member)) place ∙ next.0,

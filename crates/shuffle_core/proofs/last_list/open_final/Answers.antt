@@ -8,7 +8,8 @@ loop-seed-init c = rw (c.in_ok-items.ensures, c.deref.ensures.value) (opened_lis
 
 pub open_all-opened-requires : goal.open_all-opened-requires
 open_all-opened-requires c =
-    rw c.loop-seed.invariant (opened_list_short (take c.loop-seed.seed-index c.args.seeds.now.items) c.args.list.now.items (2 ^ 32) c.requires)
+    rw c.loop-seed.invariant (opened_list_short (take c.loop-seed.seed-index c.args.seeds.now.items) c.args.list.now.items (2 ^ 32)
+    c.requires)
 
 pub loop-seed-preserved : goal.loop-seed-preserved
 loop-seed-preserved c =
@@ -17,4 +18,5 @@ loop-seed-preserved c =
     let entries = c.args.list.now.items in
     let below : k < length seeds = rw c.deref-seed-items.ensures.value at c.loop-seed-test.true in
     let seed : c.new-key.result ≡ get_or seeds k [] = rw c.deref-seed-items.ensures.value at c.new-key.ensures in
-    rw (c.in_ok-items-2.ensures, seed, c.loop-seed.invariant, take_more seeds k [] below) (opened_list-push (get_or seeds k []) (take k seeds) entries)
+    rw (c.in_ok-items-2.ensures, seed, c.loop-seed.invariant, take_more seeds k [] below)
+    (opened_list-push (get_or seeds k []) (take k seeds) entries)

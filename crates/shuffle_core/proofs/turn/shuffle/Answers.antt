@@ -10,7 +10,8 @@ returns c =
     let bodies = c.args.bodies.items in
     let now = c.shuffle.new.self in
     let drawn = ap (λ (p : List (List ℕ) × Stream). p.0) c.shuffle.ensures.drawn in
-    let long : length now ≡ c.args.bodies.len = length_permutation c.deref_mut.result.now now c.shuffle.ensures.permutation ∙ c.deref_mut.ensures.len in
+    let long : length now ≡ c.args.bodies.len = length_permutation c.deref_mut.result.now now c.shuffle.ensures.permutation
+    ∙ c.deref_mut.ensures.len in
     take_at now (drop (length now) bodies) c.args.bodies.len long
     ∙ drawn
     ∙ rw (c.deref_mut.ensures.value, c.from_seed.ensures) (in_drawn_order-shuffled c.args.order_seed.now bodies)

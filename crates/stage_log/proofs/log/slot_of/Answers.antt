@@ -8,7 +8,8 @@ use Rattle.stage_log.proofs.SlotPlaces.{place-small, slot_at-sender}
 use Rattle.stage_log.proofs.log.slot_of.Goals as goal
 
 pub overflow_cast-place : goal.overflow_cast-place
-overflow_cast-place c = let small = place-small (shape_of c.args.shape) c.args.stage c.args.place c.args.shape.form c.requires in omega arith
+overflow_cast-place c = let small = place-small (shape_of c.args.shape) c.args.stage c.args.place c.args.shape.form c.requires in omega
+    arith
 
 pub sender_of-sender-requires : goal.sender_of-sender-requires
 sender_of-sender-requires c = place-small (shape_of c.args.shape) c.args.stage c.args.place c.args.shape.form c.requires

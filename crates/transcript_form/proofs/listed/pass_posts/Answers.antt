@@ -13,14 +13,19 @@ loop-init c =
 pub returns-in_err-read_post : goal.returns-in_err-read_post
 returns-in_err-read_post c =
     let p = err_from_is_err_and c.from_residual.result c.from_residual.ensures.1 in
-    rw (p.1, p.2) (loop-ends (λ (e : FailedForm). Some e) c.in_err-read_post.field-0.0 c.loop.invariant.0 c.args.count c.loop.counter (listed_at c.args.size) c.loop.cursor _ c.loop-test.true c.in_err-read_post.ensures c.loop.invariant.1)
+    rw (p.1, p.2) (loop-ends (λ (e : FailedForm). Some e) c.in_err-read_post.field-0.0 c.loop.invariant.0 c.args.count c.loop.counter
+    (listed_at c.args.size) c.loop.cursor _ c.loop-test.true c.in_err-read_post.ensures c.loop.invariant.1)
 
 pub loop-preserved : goal.loop-preserved
 loop-preserved c = (
   c.loop.invariant.0 ++ c.in_ok-read_post.field-0.now ∷ [],
-  loop-goes_on c.loop.invariant.0 c.args.count c.loop.counter (listed_at c.args.size) c.loop.cursor c.in_ok-read_post.field-0.now c.read_post.new.cursor _ c.loop-test.true c.in_ok-read_post.ensures c.loop.invariant.1,
+  loop-goes_on c.loop.invariant.0 c.args.count c.loop.counter (listed_at c.args.size) c.loop.cursor c.in_ok-read_post.field-0.now
+      c.read_post.new.cursor _ c.loop-test.true c.in_ok-read_post.ensures c.loop.invariant.1,
 )
 
 pub returns : goal.returns
-returns c =
-    (c.loop.invariant.0, loop-is_done c.loop.invariant.0 c.args.count c.loop.counter (listed_at c.args.size) c.loop.cursor _ c.loop-test.false c.loop.invariant.1)
+returns c = (
+  c.loop.invariant.0,
+  loop-is_done c.loop.invariant.0 c.args.count c.loop.counter (listed_at c.args.size) c.loop.cursor _
+      c.loop-test.false c.loop.invariant.1,
+)

@@ -6,4 +6,5 @@ use Rattle.transcript_form.proofs.listed.pass_posts.Given as goal
 -- some posts were read, and with those still to be read they are those of the whole
 abbrev pub invariant-loop : goal.invariant-loop
 invariant-loop l =
-    (front : List (List ℕ)) × (with_front front (repeated (l.count - l.counter) (listed_at l.size) l.cursor) ≡ repeated l.fn.count (listed_at l.fn.size) l.fn.cursor)
+    (front : List (List ℕ)) × (with_front front (repeated (l.count - l.counter) (listed_at l.size) l.cursor) ≡ repeated l.fn.count
+    (listed_at l.fn.size) l.fn.cursor)

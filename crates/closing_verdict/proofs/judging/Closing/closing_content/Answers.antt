@@ -16,21 +16,26 @@ pub unreachable-requires-in-Err-Malformed : goal.unreachable-requires-in-Err-Mal
 unreachable-requires-in-Err-Malformed c =
     let of : Completed = completed_of c.args.self in
     let shape : shape_of c.shape.result ≡ of.log.shape = c.shape.ensures ∙ sym c.requires.closing.complete.shape in
-    let read = closing-read of c.requires.closing.complete c.args.member c.requires.least c.requires.most (shape_of c.shape.result) c.in-Some.post.now c.deref.result.now
+    let read = closing-read of c.requires.closing.complete c.args.member c.requires.least c.requires.most (shape_of c.shape.result)
+    c.in-Some.post.now c.deref.result.now
     c.in-Some.ensures.post (c.deref.ensures.value ∙ c.items.ensures) shape in
-    said-fault c.in-Err-Malformed.field-0 c.in-Err-Malformed.field-0-0 c.in-Err-Malformed.field-0-1 (content_read (shape_of c.shape.result) c.deref.result.now)
-    (closing-said of c.requires.closing.complete c.args.member c.requires.least c.requires.most).content c.in-Err-Malformed.field-0-is c.in-Err-Malformed.ensures.exact read
+    said-fault c.in-Err-Malformed.field-0 c.in-Err-Malformed.field-0-0 c.in-Err-Malformed.field-0-1
+    (content_read (shape_of c.shape.result) c.deref.result.now)
+    (closing-said of c.requires.closing.complete c.args.member c.requires.least c.requires.most).content c.in-Err-Malformed.field-0-is
+    c.in-Err-Malformed.ensures.exact read
 
 pub returns-in-Ok-clause-value : goal.returns-in-Ok-clause-value
 returns-in-Ok-clause-value c =
     let of : Completed = completed_of c.args.self in
     let shape : shape_of c.shape.result ≡ of.log.shape = c.shape.ensures ∙ sym c.requires.closing.complete.shape in
-    (closing-is of c.requires.closing.complete c.args.member c.requires.least c.requires.most (shape_of c.shape.result) c.in-Some.post.now c.deref.result.now c.in-Ok.content
+    (closing-is of c.requires.closing.complete c.args.member c.requires.least c.requires.most (shape_of c.shape.result) c.in-Some.post.now
+    c.deref.result.now c.in-Ok.content
     c.in-Some.ensures.post (c.deref.ensures.value ∙ c.items.ensures) shape c.in-Ok.ensures.exact).0
 
 pub returns-in-Ok-clause-stage : goal.returns-in-Ok-clause-stage
 returns-in-Ok-clause-stage c =
     let of : Completed = completed_of c.args.self in
     let shape : shape_of c.shape.result ≡ of.log.shape = c.shape.ensures ∙ sym c.requires.closing.complete.shape in
-    (closing-is of c.requires.closing.complete c.args.member c.requires.least c.requires.most (shape_of c.shape.result) c.in-Some.post.now c.deref.result.now c.in-Ok.content
+    (closing-is of c.requires.closing.complete c.args.member c.requires.least c.requires.most (shape_of c.shape.result) c.in-Some.post.now
+    c.deref.result.now c.in-Ok.content
     c.in-Some.ensures.post (c.deref.ensures.value ∙ c.items.ensures) shape c.in-Ok.ensures.exact).1

@@ -9,7 +9,9 @@ pub loop-sender-preserved : goal.loop-sender-preserved
 loop-sender-preserved c =
     let of : Completed = completed_of c.args.self in
     let pushed : c.push.new.self.items ≡ c.loop-sender.posts.items ++ c.in_ok-post.post ∷ [] = c.in_ok-push.ensures.items in (
-      pushed ∙ member-next (sent_in (stage_closed of) of.stage) c.loop-sender.sender c.loop-sender.posts.items c.in_ok-post.post (omega arith) c.loop-sender.invariant.0 c.in_ok-post.ensures.value,
+      pushed ∙ member-next (sent_in (stage_closed of) of.stage) c.loop-sender.sender c.loop-sender.posts.items c.in_ok-post.post
+          (omega arith) c.loop-sender.invariant.0 c.in_ok-post.ensures.value,
       subst (λ (list : List (List ℕ)). All (λ entry. length entry < 2 ^ 32) list) (sym pushed)
-          (All-push (λ entry. length entry < 2 ^ 32) c.loop-sender.posts.items c.in_ok-post.post c.loop-sender.invariant.1 c.in_ok-post.ensures.short),
+          (All-push (λ entry. length entry < 2 ^ 32) c.loop-sender.posts.items c.in_ok-post.post c.loop-sender.invariant.1
+          c.in_ok-post.ensures.short),
     )

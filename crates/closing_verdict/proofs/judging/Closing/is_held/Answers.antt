@@ -46,7 +46,9 @@ returns c =
     let said = slots-now x slots is c.requires.late are in
     let late = c.requires.late in
     let past : List (List ℕ) = past_of log (c.args.self.stage + 1) in
-    held-is log.shape (past_of log (c.args.self.stage + 1)) c.args.accusation.now (map (option_map description_of) c.items.result.now.items) slots.pads.members c.items-keys.result.now.items c.holds.result c.is_ok.result
-    c.is_ok.ensures.value c.holds.ensures (ap (λ (t : List (Option Descriptor)). map (option_map description_of) t) c.items.ensures ∙ said.descriptors) said.pads
+    held-is log.shape (past_of log (c.args.self.stage + 1)) c.args.accusation.now (map (option_map description_of) c.items.result.now.items)
+    slots.pads.members c.items-keys.result.now.items c.holds.result c.is_ok.result
+    c.is_ok.ensures.value c.holds.ensures (ap (λ (t : List (Option Descriptor)). map (option_map description_of) t) c.items.ensures
+    ∙ said.descriptors) said.pads
     (c.items-keys.ensures ∙ c.requires.closing.keys.said.bulk ∙ keys-now x bulk_place is (omega (arith, late)))
     ∙ ap (λ (shape : Shape). is_held shape (past_of log (c.args.self.stage + 1)) c.args.accusation.now) is.shape

@@ -29,25 +29,31 @@ convict_pad-requires-clause-late c =
 
 pub convict_pad-requires-clause-held : goal.convict_pad-requires-clause-held
 convict_pad-requires-clause-held c =
-    held-told (stage_closed (completed_of c.args.self)) c.deref.result.now c.in-Some.accusation (sym c.first_that_holds.ensures ∙ c.in-Some.is)
+    held-told (stage_closed (completed_of c.args.self)) c.deref.result.now c.in-Some.accusation
+    (sym c.first_that_holds.ensures ∙ c.in-Some.is)
 
 -- what the first accusation that holds comes to
 pad-found : (c : Completed) (given items : List (Option (List ℕ))) (found : Option Accusation) → IsComplete c → given ≡ items
-    → items ≡ items_opened c.log.shape (past_of c.log (c.stage + 1)) 2 → found ≡ first_some (map (held_by (stage_closed c)) given) → first_bad_pad (stage_closed c) ≡ option_map (bad_pad (stage_closed c)) found
+    → items ≡ items_opened c.log.shape (past_of c.log (c.stage + 1)) 2 → found ≡ first_some (map (held_by (stage_closed c)) given)
+    → first_bad_pad (stage_closed c) ≡ option_map (bad_pad (stage_closed c)) found
 pad-found c given items found is same are found_is =
-    pad-told (stage_closed c) given found (same ∙ are ∙ ap (λ (shape : Shape). items_opened shape (past_of c.log (c.stage + 1)) 2) is.shape) found_is
+    pad-told (stage_closed c) given found (same ∙ are ∙ ap (λ (shape : Shape). items_opened shape (past_of c.log (c.stage + 1)) 2) is.shape)
+    found_is
 
 pub convict_pad-requires-clause-verdict : goal.convict_pad-requires-clause-verdict
 convict_pad-requires-clause-verdict c =
     let x : Completed = completed_of c.args.self in
-    let first = pad-found x c.deref.result.now c.in_ok-items.items.items c.first_that_holds.result c.requires.closing.complete c.deref.ensures.value c.in_ok-items.ensures.value c.first_that_holds.ensures in
+    let first = pad-found x c.deref.result.now c.in_ok-items.items.items c.first_that_holds.result c.requires.closing.complete
+    c.deref.ensures.value c.in_ok-items.ensures.value c.first_that_holds.ensures in
     c.requires.agree ∙ ap (λ (o : Option Verdict). unwrap_or o Done) (first ∙ ap (option_map (bad_pad (stage_closed x))) c.in-Some.is)
 
 pub returns : goal.returns
 returns c =
     let x : Completed = completed_of c.args.self in
-    let first = pad-found x c.deref.result.now c.in_ok-items.items.items c.first_that_holds.result c.requires.closing.complete c.deref.ensures.value c.in_ok-items.ensures.value c.first_that_holds.ensures in
+    let first = pad-found x c.deref.result.now c.in_ok-items.items.items c.first_that_holds.result c.requires.closing.complete
+    c.deref.ensures.value c.in_ok-items.ensures.value c.first_that_holds.ensures in
     record {
       at = c.requires.at;
-      verdict = c.requires.agree ∙ ap (λ (o : Option Verdict). unwrap_or o Done) (first ∙ ap (option_map (bad_pad (stage_closed x))) c.in-None.is);
+      verdict = c.requires.agree ∙ ap (λ (o : Option Verdict). unwrap_or o Done)
+          (first ∙ ap (option_map (bad_pad (stage_closed x))) c.in-None.is);
     }

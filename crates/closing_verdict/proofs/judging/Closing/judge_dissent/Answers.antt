@@ -19,7 +19,8 @@ shown_by-requires c =
     let x : Completed = completed_of c.args.self in
     let is = c.requires.closing.complete in
     let found = culprit-is x c.in_ok-shown.shown.items c.in_ok-fault.field-0 is c.in_ok-shown.ensures c.in_ok-fault.ensures.culprit in
-    replay-charge x c.of-charge.result c.in_ok-posts.posts.items c.in-Some.fault.member is c.of-charge.ensures c.in_ok-posts.ensures.value (blamed-one x c.in_ok-fault.field-0 c.in-Some.fault is found c.in-Some.is)
+    replay-charge x c.of-charge.result c.in_ok-posts.posts.items c.in-Some.fault.member is c.of-charge.ensures c.in_ok-posts.ensures.value
+    (blamed-one x c.in_ok-fault.field-0 c.in-Some.fault is found c.in-Some.is)
     (search rules) c.in_ok-posts.ensures.short
 
 pub returns : goal.returns
@@ -27,5 +28,6 @@ returns c =
     let x : Completed = completed_of c.args.self in
     let is = c.requires.closing.complete in
     let found = culprit-is x c.in_ok-shown.shown.items c.in_ok-fault.field-0 is c.in_ok-shown.ensures c.in_ok-fault.ensures.culprit in
-    replay-told x c.args.told.now.items c.in_ok-fault.field-0 c.in-Some.fault c.of-charge.result c.in_ok-posts.posts.items c.in_ok-conviction.conviction is c.requires.told c.requires.differ found c.in-Some.is
+    replay-told x c.args.told.now.items c.in_ok-fault.field-0 c.in-Some.fault c.of-charge.result c.in_ok-posts.posts.items
+    c.in_ok-conviction.conviction is c.requires.told c.requires.differ found c.in-Some.is
     c.of-charge.ensures c.in_ok-posts.ensures.value c.in_ok-conviction.ensures

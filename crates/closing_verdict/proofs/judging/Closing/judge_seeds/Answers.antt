@@ -19,7 +19,8 @@ use Rattle.closing_verdict.proofs.SeedVerdicts.{first-goes, second-comes, seed-c
 use Rattle.closing_verdict.proofs.judging.Closing.judge_seeds.Goals as goal
 
 -- what the comparison found
-wrong-found : (c : Completed) (told : List Told) (given seeds keys : List (List ℕ)) (shuffle : ℕ) (found : Option ℕ) → IsComplete c → AreTold c told → given ≡ seeds → seeds ≡ map seed_told told
+wrong-found : (c : Completed) (told : List Told) (given seeds keys : List (List ℕ)) (shuffle : ℕ) (found : Option ℕ) → IsComplete c
+    → AreTold c told → given ≡ seeds → seeds ≡ map seed_told told
     → keys ≡ keys_said c.log.shape (past_of c.log 1) (inner_place shuffle) → found ≡ first_below (length given) (wrong_at given keys)
     → wrong_seed (stage_closed c) shuffle ≡ option_map (seed_conviction (stage_closed c)) found
 wrong-found c told given seeds keys shuffle found is are same seeds_are keys_are found_is =
@@ -29,14 +30,16 @@ wrong-found c told given seeds keys shuffle found is are same seeds_are keys_are
     (ap (λ (t : List (List ℕ)). length t) all ∙ length-map told seed_told ∙ told-count c told are) found_is
 
 -- the verdict of the end of the shuffle
-final-verdict : (c : Completed) (told : List Told) (shuffle : ℕ) → IsComplete c → AreTold c told → list_all tells_assent told ≡ true → kind_of_stage c.log.shape c.stage ≡ Some (AtFinal shuffle)
+final-verdict : (c : Completed) (told : List Told) (shuffle : ℕ) → IsComplete c → AreTold c told → list_all tells_assent told ≡ true
+    → kind_of_stage c.log.shape c.stage ≡ Some (AtFinal shuffle)
     → verdict_in c ≡ agreed_at (stage_closed c) (Some (AtFinal shuffle))
 final-verdict c told shuffle is are agree at = agreed-verdict c told is are agree ∙ ap (agreed_at (stage_closed c)) at
 
 pub seeds_revealed-requires : goal.seeds_revealed-requires
 seeds_revealed-requires c =
     subst (λ (t : List Told). All TellsSeed t) (sym c.deref.ensures.value)
-    (all-seeds (completed_of c.args.self) c.args.told.now.items c.args.shuffle c.requires.closing.complete c.requires.told c.requires.at c.requires.agree)
+    (all-seeds (completed_of c.args.self) c.args.told.now.items c.args.shuffle c.requires.closing.complete c.requires.told c.requires.at
+    c.requires.agree)
 
 pub convict_seed-requires-clause-verdict : goal.convict_seed-requires-clause-verdict
 convict_seed-requires-clause-verdict c =
@@ -46,7 +49,8 @@ convict_seed-requires-clause-verdict c =
     let seeds_are = c.in_ok-seeds.ensures ∙ ap (λ (t : List Told). map seed_told t) c.deref.ensures.value in
     seed-convicts (stage_closed x) (verdict_in x) c.args.shuffle c.in-Some.member c.wrong_seed.result
     (final-verdict x told c.args.shuffle is c.requires.told c.requires.agree c.requires.at)
-    (wrong-found x told c.deref-2.result.now c.in_ok-seeds.seeds.items c.inner_keys.result.now c.args.shuffle c.wrong_seed.result is c.requires.told c.deref-2.ensures.value seeds_are c.inner_keys.ensures.keys
+    (wrong-found x told c.deref-2.result.now c.in_ok-seeds.seeds.items c.inner_keys.result.now c.args.shuffle c.wrong_seed.result is
+    c.requires.told c.deref-2.ensures.value seeds_are c.inner_keys.ensures.keys
     c.wrong_seed.ensures) c.in-Some.is
 
 pub overflow_add-self : goal.overflow_add-self
@@ -72,7 +76,8 @@ returns-then-shuffle-eq1 c =
       at = c.requires.at ∙ ap (λ (s : ℕ). some_final s) c.if-shuffle-eq1.true;
       verdict = first-goes (stage_closed x) (verdict_in x) c.args.shuffle c.wrong_seed.result
           (final-verdict x told c.args.shuffle is c.requires.told c.requires.agree c.requires.at)
-          (wrong-found x told c.deref-2.result.now c.in_ok-seeds.seeds.items c.inner_keys.result.now c.args.shuffle c.wrong_seed.result is c.requires.told c.deref-2.ensures.value seeds_are c.inner_keys.ensures.keys
+          (wrong-found x told c.deref-2.result.now c.in_ok-seeds.seeds.items c.inner_keys.result.now c.args.shuffle c.wrong_seed.result is
+          c.requires.told c.deref-2.ensures.value seeds_are c.inner_keys.ensures.keys
           c.wrong_seed.ensures) c.in_default.is c.if-shuffle-eq1.true;
       opened = record {
         are = c.in_ok-items.ensures.value ∙ ap (λ (stage : ℕ). items_opened log.shape (past_of log (stage + 1)) 1) ends;
@@ -85,7 +90,8 @@ returns-then-shuffle-eq1 c =
 
 pub judge_accusations-requires-clause-at : goal.judge_accusations-requires-clause-at
 judge_accusations-requires-clause-at c =
-    c.requires.at ∙ ap (λ (s : ℕ). some_final s) (end-second c.args.self.log.now.shape c.args.self.stage c.args.shuffle c.requires.at c.if-shuffle-eq1.false).0
+    c.requires.at ∙ ap (λ (s : ℕ). some_final s) (end-second c.args.self.log.now.shape c.args.self.stage c.args.shuffle c.requires.at
+    c.if-shuffle-eq1.false).0
   where
     some_final : ℕ → Option StageKind
     some_final s = Some (AtFinal s)
@@ -104,5 +110,6 @@ judge_accusations-requires-clause-agree c =
     let seeds_are = c.in_ok-seeds.ensures ∙ ap (λ (t : List Told). map seed_told t) c.deref.ensures.value in
     second-comes (stage_closed x) (verdict_in x) c.args.shuffle c.wrong_seed.result
     (final-verdict x told c.args.shuffle is c.requires.told c.requires.agree c.requires.at)
-    (wrong-found x told c.deref-2.result.now c.in_ok-seeds.seeds.items c.inner_keys.result.now c.args.shuffle c.wrong_seed.result is c.requires.told c.deref-2.ensures.value seeds_are c.inner_keys.ensures.keys
+    (wrong-found x told c.deref-2.result.now c.in_ok-seeds.seeds.items c.inner_keys.result.now c.args.shuffle c.wrong_seed.result is
+    c.requires.told c.deref-2.ensures.value seeds_are c.inner_keys.ensures.keys
     c.wrong_seed.ensures) c.in_default.is c.if-shuffle-eq1.false

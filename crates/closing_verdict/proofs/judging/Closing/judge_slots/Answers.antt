@@ -17,7 +17,8 @@ pub slots_said-requires-clause-opened : goal.slots_said-requires-clause-opened
 slots_said-requires-clause-opened c =
     let log = c.args.self.log.now in
     let at = confirm-at log.shape c.args.self.stage c.requires.at in
-    let there = opened-there log c.args.self.stage _ c.in-Some.opened.now.items c.requires.closing.opened (ap (option_map (λ items. items.now.items)) c.in-Some.is) in
+    let there = opened-there log c.args.self.stage _ c.in-Some.opened.now.items c.requires.closing.opened
+    (ap (option_map (λ items. items.now.items)) c.in-Some.is) in
     items-now (completed_of c.args.self) c.in-Some.opened.now.items c.requires.closing.complete (omega (arith, at)) there
 
 pub returns : goal.returns
@@ -26,7 +27,8 @@ returns c =
     let past : List (List ℕ) = past_of log (c.args.self.stage + 1) in
     let at = confirm-at log.shape c.args.self.stage c.requires.at in
     let next : c.args.self.stage + 1 ≡ log.shape.members + 7 = omega (arith, at) in
-    let states = c.in_ok-slots.ensures.states ∙ ap (λ (shape : Shape). slots_of_past shape (past_of log (c.args.self.stage + 1))) c.requires.closing.complete.shape in
+    let states = c.in_ok-slots.ensures.states ∙ ap (λ (shape : Shape). slots_of_past shape (past_of log (c.args.self.stage + 1)))
+    c.requires.closing.complete.shape in
     record {
       at = c.requires.at;
       verdict = c.requires.agree ∙ ap (λ (states : List SlotState). if list_any is_bad states then Goes else Done) (sym states);

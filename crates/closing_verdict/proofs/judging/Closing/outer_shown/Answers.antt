@@ -13,7 +13,8 @@ pub parts_shown-requires : goal.parts_shown-requires
 parts_shown-requires c =
     let x : Completed = completed_of c.args.self in
     let is = c.requires.closing.complete in
-    let kind = ap (λ (shape : Shape). kind_of_stage shape c.args.self.stage) (is.shape ∙ sym c.shape.ensures) ∙ sym c.stage_kind.ensures.kind ∙ c.in-Some-Final.is
+    let kind = ap (λ (shape : Shape). kind_of_stage shape c.args.self.stage) (is.shape ∙ sym c.shape.ensures)
+    ∙ sym c.stage_kind.ensures.kind ∙ c.in-Some-Final.is
     ∙ ap (λ (k : StageKind). Some k) c.in-Some-Final.field-0-is in
     all-parts x c.args.told.now c.in-Some-Final.field-0-0 is c.requires.told kind c.requires.differ
 
@@ -21,7 +22,8 @@ pub returns-in-Some-Final : goal.returns-in-Some-Final
 returns-in-Some-Final c =
     let x : Completed = completed_of c.args.self in
     let is = c.requires.closing.complete in
-    let kind = ap (λ (shape : Shape). kind_of_stage shape c.args.self.stage) (is.shape ∙ sym c.shape.ensures) ∙ sym c.stage_kind.ensures.kind ∙ c.in-Some-Final.is
+    let kind = ap (λ (shape : Shape). kind_of_stage shape c.args.self.stage) (is.shape ∙ sym c.shape.ensures)
+    ∙ sym c.stage_kind.ensures.kind ∙ c.in-Some-Final.is
     ∙ ap (λ (k : StageKind). Some k) c.in-Some-Final.field-0-is in
     if-ok _ _ c.parts_shown.result (λ shown are.
     are ∙ parts-told x c.args.told.now c.requires.told

@@ -11,7 +11,9 @@ returns c =
     let of : Completed = completed_of c.args.self in
     let justified : is_content_justified of.roster of.round c.in_ok-content.content ≡ true
     = sym c.in_ok-log.ensures.justified ∙ ap (λ (o : Option Log). is_some o) c.in-Some.is in (
-      justified-of of c.args.member c.in_ok-content.content c.told_of-told.result c.in_ok-second.second c.in_ok-content.ensures.value justified c.told_of-told.ensures
+      justified-of of c.args.member c.in_ok-content.content c.told_of-told.result c.in_ok-second.second c.in_ok-content.ensures.value
+          justified
+          c.told_of-told.ensures
           (c.in_ok-second.ensures c.args.member c.in_ok-content.ensures.value),
       record {
         keeps = rw c.in-Some.is at c.in_ok-log.ensures.keeps;

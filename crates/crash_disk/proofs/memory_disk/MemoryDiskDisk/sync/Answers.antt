@@ -21,7 +21,8 @@ returns-clause-time c = (passes_call _ _ _ _ c.step.ensures.after).time
 pub returns-clause-beside : goal.returns-clause-beside
 returns-clause-beside c =
     let ready = c.is_chosen-ready.ensures ∙ ap (λ (d : DiskState). is_chosen d.naming) c.self.view_is in
-    call_beside _ c.args.self.now c.step.new.self Synced c.step.ensures.after (λ passes. step_ready c.args.self.now c.is_chosen-ready.result ready passes)
+    call_beside _ c.args.self.now c.step.new.self Synced c.step.ensures.after
+    (λ passes. step_ready c.args.self.now c.is_chosen-ready.result ready passes)
 
 pub returns-clause-unchosen : goal.returns-clause-unchosen
 returns-clause-unchosen c = λ none.

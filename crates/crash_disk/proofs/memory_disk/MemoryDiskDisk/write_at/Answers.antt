@@ -10,18 +10,22 @@ use Rattle.crash_disk.proofs.memory_disk.MemoryDiskDisk.write_at.Goals as goal
 pub returns-clause-written : goal.returns-clause-written
 unfolding file_of
 returns-clause-written c =
-    let is = c.step.ensures.after ∙ ap (after_call (fails_step c.args.self.now c.is_chosen-ready.result) c.args.self.now) c.write_step.ensures in
+    let is = c.step.ensures.after ∙ ap (after_call (fails_step c.args.self.now c.is_chosen-ready.result) c.args.self.now)
+    c.write_step.ensures in
     let reads = ap length (c.self.invariant.images.file ∙ ap (λ (d : DiskState). file_of d) c.self.view_is) in
-    let place = fits_place (length c.self.inside.images.file) c.args.at (length c.args.bytes.now) c.fits.result c.fits.ensures.value c.if-not-fits.false in
+    let place = fits_place (length c.self.inside.images.file) c.args.at (length c.args.bytes.now) c.fits.result c.fits.ensures.value
+    c.if-not-fits.false in
     let within : c.args.at ≤ length (file_of c.args.self.now) = omega (arith, reads, place) in
     (overwrites _ _ _ _ c.args.at c.args.bytes.now c.step.ensures.answer is (λ passes. within)).written
 
 pub returns-clause-images : goal.returns-clause-images
 unfolding file_of
 returns-clause-images c =
-    let is = c.step.ensures.after ∙ ap (after_call (fails_step c.args.self.now c.is_chosen-ready.result) c.args.self.now) c.write_step.ensures in
+    let is = c.step.ensures.after ∙ ap (after_call (fails_step c.args.self.now c.is_chosen-ready.result) c.args.self.now)
+    c.write_step.ensures in
     let reads = ap length (c.self.invariant.images.file ∙ ap (λ (d : DiskState). file_of d) c.self.view_is) in
-    let place = fits_place (length c.self.inside.images.file) c.args.at (length c.args.bytes.now) c.fits.result c.fits.ensures.value c.if-not-fits.false in
+    let place = fits_place (length c.self.inside.images.file) c.args.at (length c.args.bytes.now) c.fits.result c.fits.ensures.value
+    c.if-not-fits.false in
     let within : c.args.at ≤ length (file_of c.args.self.now) = omega (arith, reads, place) in
     (overwrites _ _ _ _ c.args.at c.args.bytes.now c.step.ensures.answer is (λ passes. within)).images
 
@@ -30,7 +34,8 @@ returns-clause-time c = (passes_call _ _ _ _ c.step.ensures.after).time
 
 pub returns-then-not-fits-clause-images : goal.returns-then-not-fits-clause-images
 returns-then-not-fits-clause-images c =
-    (overwrites true Failed c.args.self.now c.fails.new.self c.args.at c.args.bytes.now refl c.fails.ensures.after (λ e. absurd (cc))).images
+    (overwrites true Failed c.args.self.now c.fails.new.self c.args.at c.args.bytes.now refl c.fails.ensures.after
+    (λ e. absurd (cc))).images
 
 pub returns-then-not-fits-clause-time : goal.returns-then-not-fits-clause-time
 returns-then-not-fits-clause-time c = (passes_call true c.args.self.now c.fails.new.self Synced c.fails.ensures.after).time
@@ -41,7 +46,8 @@ returns-then-not-fits-clause-beside c = look_beside true c.args.self.now c.fails
 pub returns-clause-beside : goal.returns-clause-beside
 returns-clause-beside c =
     let ready = c.is_chosen-ready.ensures ∙ ap (λ (d : DiskState). is_chosen d.naming) c.self.view_is in
-    call_beside _ c.args.self.now c.step.new.self _ c.step.ensures.after (λ passes. step_ready c.args.self.now c.is_chosen-ready.result ready passes)
+    call_beside _ c.args.self.now c.step.new.self _ c.step.ensures.after
+    (λ passes. step_ready c.args.self.now c.is_chosen-ready.result ready passes)
 
 pub returns-clause-unchosen : goal.returns-clause-unchosen
 returns-clause-unchosen c = λ none.

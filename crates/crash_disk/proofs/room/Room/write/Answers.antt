@@ -12,5 +12,6 @@ returns c =
     let whole : length c.overwrite.new.all ≡ c.self.inside.buffer.len = omega (arith, ap length value) in
     written_within c.self.inside.buffer.items c.overwrite.new.all _ c.args.bytes.now c.args.at c.self.inside.size c.max-self-inside.result
     c.self.inside.buffer.len (c.overwrite.ensures ∙ ap (λ (l : List ℕ). overwritten l c.args.at c.args.bytes.now) value) whole
-    (omega (arith, size, c.requires.place, length-take c.self.inside.size c.self.inside.buffer.items)) (omega (arith, c.requires.room, c.self.invariant)) c.max-self-inside.ensures
+    (omega (arith, size, c.requires.place, length-take c.self.inside.size c.self.inside.buffer.items))
+    (omega (arith, c.requires.room, c.self.invariant)) c.max-self-inside.ensures
     ∙ ap (λ (l : List ℕ). overwritten l c.args.at c.args.bytes.now) was

@@ -12,5 +12,6 @@ returns-clause-count c =
 pub returns-clause-own : goal.returns-clause-own
 returns-clause-own c = λ config fresh round count. record {
   key = c.new-key.ensures ∙ c.derived-key_seed.ensures ∙ derives config c.args.fresh.now c.args.round _ _ fresh round refl;
-  pad_seeds = c.of-pad_seeds.ensures ∙ c.in_ok-seeds.ensures ∙ pad-seeds config c.args.fresh.now c.args.round c.args.members fresh round count;
+  pad_seeds = c.of-pad_seeds.ensures ∙ c.in_ok-seeds.ensures ∙ pad-seeds config c.args.fresh.now c.args.round c.args.members fresh round
+      count;
 }

@@ -62,7 +62,8 @@ returns-in-Err-clause-exhausted g c = λ works later short.
     let of : IsOf c.args.self.now c.self.inside.secret c.in-Ok.content =
     is_of c.args.self.now c.self.inside.image c.self.inside.secret c.self.inside.failed c.in-Ok.content c.self.view_is
     (c.self.invariant c.if-self.false) (sym c.in-Ok.ensures.value) in
-    absurd (not_short _ _ c.args.leaves c.leaves-total.result _ _ short of.next of.total c.leaves-total.ensures c.if-leaves-total.false c.in-Ok.ensures.within)
+    absurd (not_short _ _ c.args.leaves c.leaves-total.result _ _ short of.next of.total c.leaves-total.ensures c.if-leaves-total.false
+    c.in-Ok.ensures.within)
 
 pub returns-in-Done-clause-old_round : goal.returns-in-Done-clause-old_round
 returns-in-Done-clause-old_round g c = λ works old.
@@ -76,7 +77,8 @@ returns-in-Done-clause-exhausted g c = λ works later short.
     let of : IsOf c.args.self.now c.self.inside.secret c.in-Ok.content =
     is_of c.args.self.now c.self.inside.image c.self.inside.secret c.self.inside.failed c.in-Ok.content c.self.view_is
     (c.self.invariant c.if-self.false) (sym c.in-Ok.ensures.value) in
-    absurd (not_short _ _ c.args.leaves c.leaves-total.result _ _ short of.next of.total c.leaves-total.ensures c.if-leaves-total.false c.in-Ok.ensures.within)
+    absurd (not_short _ _ c.args.leaves c.leaves-total.result _ _ short of.next of.total c.leaves-total.ensures c.if-leaves-total.false
+    c.in-Ok.ensures.within)
 
 pub returns-in-Failed-clause-old_round : goal.returns-in-Failed-clause-old_round
 returns-in-Failed-clause-old_round g c = λ works old.
@@ -90,17 +92,21 @@ returns-in-Failed-clause-exhausted g c = λ works later short.
     let of : IsOf c.args.self.now c.self.inside.secret c.in-Ok.content =
     is_of c.args.self.now c.self.inside.image c.self.inside.secret c.self.inside.failed c.in-Ok.content c.self.view_is
     (c.self.invariant c.if-self.false) (sym c.in-Ok.ensures.value) in
-    absurd (not_short _ _ c.args.leaves c.leaves-total.result _ _ short of.next of.total c.leaves-total.ensures c.if-leaves-total.false c.in-Ok.ensures.within)
+    absurd (not_short _ _ c.args.leaves c.leaves-total.result _ _ short of.next of.total c.leaves-total.ensures c.if-leaves-total.false
+    c.in-Ok.ensures.within)
 
 pub invariant_of-self-in-Done : goal.invariant_of-self-in-Done
 invariant_of-self-in-Done g c = λ works.
     let of : IsOf c.args.self.now c.self.inside.secret c.in-Ok.content =
     is_of c.args.self.now c.self.inside.image c.self.inside.secret c.self.inside.failed c.in-Ok.content c.self.view_is
     (c.self.invariant c.if-self.false) (sym c.in-Ok.ensures.value) in
-    let has : HasBegun c.args.self.now c.self.inside.image c.self.inside.secret c.in-Ok.content c.chosen-at.result c.args.round c.args.leaves c.raise.new.image c.reserve.new.self =
-    has_begun c.args.self.now c.self.inside.image c.self.inside.secret c.in-Ok.content c.chosen-at.result c.args.round c.args.leaves c.raise.new.image c.reserve.new.self
+    let has : HasBegun c.args.self.now c.self.inside.image c.self.inside.secret c.in-Ok.content c.chosen-at.result c.args.round
+    c.args.leaves c.raise.new.image c.reserve.new.self =
+    has_begun c.args.self.now c.self.inside.image c.self.inside.secret c.in-Ok.content c.chosen-at.result c.args.round c.args.leaves
+    c.raise.new.image c.reserve.new.self
     of c.in-Ok.ensures.whole (sym c.in-Ok.ensures.value) c.chosen-at.ensures.slot (omega (arith, c.ranges.round.fits)) c.if-round-kept.false
-    (enough_left c.args.leaves c.leaves-total.result _ c.in-Ok.content.kept.next c.if-leaves-total.false c.leaves-total.ensures c.in-Ok.ensures.within)
+    (enough_left c.args.leaves c.leaves-total.result _ c.in-Ok.content.kept.next c.if-leaves-total.false c.leaves-total.ensures
+    c.in-Ok.ensures.within)
     (c.in-Done.ensures.image refl) c.in-Ok-reserve.ensures.risen in
     has.invariant
 
@@ -116,13 +122,18 @@ returns-in-Done-clause-raised g c =
     let of : IsOf c.args.self.now c.self.inside.secret c.in-Ok.content =
     is_of c.args.self.now c.self.inside.image c.self.inside.secret c.self.inside.failed c.in-Ok.content c.self.view_is
     (c.self.invariant c.if-self.false) (sym c.in-Ok.ensures.value) in
-    let has : HasBegun c.args.self.now c.self.inside.image c.self.inside.secret c.in-Ok.content c.chosen-at.result c.args.round c.args.leaves c.raise.new.image c.reserve.new.self =
-    has_begun c.args.self.now c.self.inside.image c.self.inside.secret c.in-Ok.content c.chosen-at.result c.args.round c.args.leaves c.raise.new.image c.reserve.new.self
+    let has : HasBegun c.args.self.now c.self.inside.image c.self.inside.secret c.in-Ok.content c.chosen-at.result c.args.round
+    c.args.leaves c.raise.new.image c.reserve.new.self =
+    has_begun c.args.self.now c.self.inside.image c.self.inside.secret c.in-Ok.content c.chosen-at.result c.args.round c.args.leaves
+    c.raise.new.image c.reserve.new.self
     of c.in-Ok.ensures.whole (sym c.in-Ok.ensures.value) c.chosen-at.ensures.slot (omega (arith, c.ranges.round.fits)) c.if-round-kept.false
-    (enough_left c.args.leaves c.leaves-total.result _ c.in-Ok.content.kept.next c.if-leaves-total.false c.leaves-total.ensures c.in-Ok.ensures.within)
+    (enough_left c.args.leaves c.leaves-total.result _ c.in-Ok.content.kept.next c.if-leaves-total.false c.leaves-total.ensures
+    c.in-Ok.ensures.within)
     (c.in-Done.ensures.image refl) c.in-Ok-reserve.ensures.risen in
-    raised_state c.args.self.now c.self.inside.image c.raise.new.image c.self.inside.secret c.reserve.new.self c.self.inside.failed c.in-Ok.content
-    c.chosen-at.result c.leaves-total.result c.args.round c.args.leaves of c.self.view_is c.if-self.false c.leaves-total.ensures c.chosen-at.ensures.value
+    raised_state c.args.self.now c.self.inside.image c.raise.new.image c.self.inside.secret c.reserve.new.self c.self.inside.failed
+    c.in-Ok.content
+    c.chosen-at.result c.leaves-total.result c.args.round c.args.leaves of c.self.view_is c.if-self.false c.leaves-total.ensures
+    c.chosen-at.ensures.value
     has.parts (c.in-Done.ensures.image refl)
 
 pub returns-in-Done-clause-stands : goal.returns-in-Done-clause-stands
@@ -130,33 +141,42 @@ returns-in-Done-clause-stands g c =
     let of : IsOf c.args.self.now c.self.inside.secret c.in-Ok.content =
     is_of c.args.self.now c.self.inside.image c.self.inside.secret c.self.inside.failed c.in-Ok.content c.self.view_is
     (c.self.invariant c.if-self.false) (sym c.in-Ok.ensures.value) in
-    let has : HasBegun c.args.self.now c.self.inside.image c.self.inside.secret c.in-Ok.content c.chosen-at.result c.args.round c.args.leaves c.raise.new.image c.reserve.new.self =
-    has_begun c.args.self.now c.self.inside.image c.self.inside.secret c.in-Ok.content c.chosen-at.result c.args.round c.args.leaves c.raise.new.image c.reserve.new.self
+    let has : HasBegun c.args.self.now c.self.inside.image c.self.inside.secret c.in-Ok.content c.chosen-at.result c.args.round
+    c.args.leaves c.raise.new.image c.reserve.new.self =
+    has_begun c.args.self.now c.self.inside.image c.self.inside.secret c.in-Ok.content c.chosen-at.result c.args.round c.args.leaves
+    c.raise.new.image c.reserve.new.self
     of c.in-Ok.ensures.whole (sym c.in-Ok.ensures.value) c.chosen-at.ensures.slot (omega (arith, c.ranges.round.fits)) c.if-round-kept.false
-    (enough_left c.args.leaves c.leaves-total.result _ c.in-Ok.content.kept.next c.if-leaves-total.false c.leaves-total.ensures c.in-Ok.ensures.within)
+    (enough_left c.args.leaves c.leaves-total.result _ c.in-Ok.content.kept.next c.if-leaves-total.false c.leaves-total.ensures
+    c.in-Ok.ensures.within)
     (c.in-Done.ensures.image refl) c.in-Ok-reserve.ensures.risen in
     has.kept
 
 pub returns-then-round-kept-clause-moments : goal.returns-then-round-kept-clause-moments
 returns-then-round-kept-clause-moments g c = λ works some.
-    still_midway g.D.Disk.file g.D.Disk.may_leave g.D.Disk.moment g.D.Disk.left_since g.met.D.Disk.only_now c.args.disk.now c.args.self.now.image _ (c.requires works)
+    still_midway g.D.Disk.file g.D.Disk.may_leave g.D.Disk.moment g.D.Disk.left_since g.met.D.Disk.only_now c.args.disk.now
+    c.args.self.now.image _ (c.requires works)
 
 pub returns-then-leaves-total-clause-moments : goal.returns-then-leaves-total-clause-moments
 returns-then-leaves-total-clause-moments g c = λ works some.
-    still_midway g.D.Disk.file g.D.Disk.may_leave g.D.Disk.moment g.D.Disk.left_since g.met.D.Disk.only_now c.args.disk.now c.args.self.now.image _ (c.requires works)
+    still_midway g.D.Disk.file g.D.Disk.may_leave g.D.Disk.moment g.D.Disk.left_since g.met.D.Disk.only_now c.args.disk.now
+    c.args.self.now.image _ (c.requires works)
 
 pub returns-in-Err-clause-moments : goal.returns-in-Err-clause-moments
 returns-in-Err-clause-moments g c = λ works some.
-    still_midway g.D.Disk.file g.D.Disk.may_leave g.D.Disk.moment g.D.Disk.left_since g.met.D.Disk.only_now c.args.disk.now c.args.self.now.image _ (c.requires works)
+    still_midway g.D.Disk.file g.D.Disk.may_leave g.D.Disk.moment g.D.Disk.left_since g.met.D.Disk.only_now c.args.disk.now
+    c.args.self.now.image _ (c.requires works)
 
 pub returns-in-Done-clause-moments : goal.returns-in-Done-clause-moments
 returns-in-Done-clause-moments g c = λ works some.
     let of : IsOf c.args.self.now c.self.inside.secret c.in-Ok.content =
     is_of c.args.self.now c.self.inside.image c.self.inside.secret c.self.inside.failed c.in-Ok.content c.self.view_is
     (c.self.invariant c.if-self.false) (sym c.in-Ok.ensures.value) in
-    let enough = enough_left c.args.leaves c.leaves-total.result _ c.in-Ok.content.kept.next c.if-leaves-total.false c.leaves-total.ensures c.in-Ok.ensures.within in
-    raised_midway (λ content at. LeavesOf g.D.Disk.moment g.D.Disk.left_since (g.D.Disk.file c.args.disk.now) c.args.disk.now c.raise.new.disk (IsMidway content at))
-    c.args.self.now c.self.inside.image c.self.inside.secret c.self.inside.failed c.in-Ok.content c.chosen-at.result c.leaves-total.result c.args.round c.args.leaves
+    let enough = enough_left c.args.leaves c.leaves-total.result _ c.in-Ok.content.kept.next c.if-leaves-total.false c.leaves-total.ensures
+    c.in-Ok.ensures.within in
+    raised_midway (λ content at. LeavesOf g.D.Disk.moment g.D.Disk.left_since (g.D.Disk.file c.args.disk.now) c.args.disk.now
+    c.raise.new.disk (IsMidway content at))
+    c.args.self.now c.self.inside.image c.self.inside.secret c.self.inside.failed c.in-Ok.content c.chosen-at.result c.leaves-total.result
+    c.args.round c.args.leaves
     c.self.view_is of c.leaves-total.ensures c.chosen-at.ensures.value (sym c.in-Ok.ensures.value) c.if-round-kept.false enough some
     (λ rise. c.raise.ensures.moments c.in-Ok.content rise)
 
@@ -165,9 +185,12 @@ returns-in-Failed-clause-moments g c = λ works some.
     let of : IsOf c.args.self.now c.self.inside.secret c.in-Ok.content =
     is_of c.args.self.now c.self.inside.image c.self.inside.secret c.self.inside.failed c.in-Ok.content c.self.view_is
     (c.self.invariant c.if-self.false) (sym c.in-Ok.ensures.value) in
-    let enough = enough_left c.args.leaves c.leaves-total.result _ c.in-Ok.content.kept.next c.if-leaves-total.false c.leaves-total.ensures c.in-Ok.ensures.within in
-    raised_midway (λ content at. LeavesOf g.D.Disk.moment g.D.Disk.left_since (g.D.Disk.file c.args.disk.now) c.args.disk.now c.raise.new.disk (IsMidway content at))
-    c.args.self.now c.self.inside.image c.self.inside.secret c.self.inside.failed c.in-Ok.content c.chosen-at.result c.leaves-total.result c.args.round c.args.leaves
+    let enough = enough_left c.args.leaves c.leaves-total.result _ c.in-Ok.content.kept.next c.if-leaves-total.false c.leaves-total.ensures
+    c.in-Ok.ensures.within in
+    raised_midway (λ content at. LeavesOf g.D.Disk.moment g.D.Disk.left_since (g.D.Disk.file c.args.disk.now) c.args.disk.now
+    c.raise.new.disk (IsMidway content at))
+    c.args.self.now c.self.inside.image c.self.inside.secret c.self.inside.failed c.in-Ok.content c.chosen-at.result c.leaves-total.result
+    c.args.round c.args.leaves
     c.self.view_is of c.leaves-total.ensures c.chosen-at.ensures.value (sym c.in-Ok.ensures.value) c.if-round-kept.false enough some
     (λ rise. c.raise.ensures.moments c.in-Ok.content rise)
 
@@ -176,23 +199,31 @@ returns-in-Done-clause-paired g c = λ some paired.
     let of : IsOf c.args.self.now c.self.inside.secret c.in-Ok.content =
     is_of c.args.self.now c.self.inside.image c.self.inside.secret c.self.inside.failed c.in-Ok.content c.self.view_is
     (c.self.invariant c.if-self.false) (sym c.in-Ok.ensures.value) in
-    let enough = enough_left c.args.leaves c.leaves-total.result _ c.in-Ok.content.kept.next c.if-leaves-total.false c.leaves-total.ensures c.in-Ok.ensures.within in
-    begun_paired c.args.self.now c.self.inside.image c.raise.new.image c.self.inside.secret c.self.inside.failed c.in-Ok.content c.chosen-at.result c.leaves-total.result
-    c.args.round c.args.leaves c.self.view_is c.in-Ok.ensures.whole (omega (arith, c.ranges.round.fits)) c.leaves-total.ensures c.chosen-at.ensures.value
+    let enough = enough_left c.args.leaves c.leaves-total.result _ c.in-Ok.content.kept.next c.if-leaves-total.false c.leaves-total.ensures
+    c.in-Ok.ensures.within in
+    begun_paired c.args.self.now c.self.inside.image c.raise.new.image c.self.inside.secret c.self.inside.failed c.in-Ok.content
+    c.chosen-at.result c.leaves-total.result
+    c.args.round c.args.leaves c.self.view_is c.in-Ok.ensures.whole (omega (arith, c.ranges.round.fits)) c.leaves-total.ensures
+    c.chosen-at.ensures.value
     (sym c.in-Ok.ensures.value) c.if-round-kept.false enough (c.in-Done.ensures.image refl) some paired
 
 pub returns-in-Failed-clause-used : goal.returns-in-Failed-clause-used
 returns-in-Failed-clause-used g c = λ some.
-    let enough = enough_left c.args.leaves c.leaves-total.result _ c.in-Ok.content.kept.next c.if-leaves-total.false c.leaves-total.ensures c.in-Ok.ensures.within in
-    let rise : IsPaired c.self.inside.image → IsRise c.in-Ok.content c.self.inside.image c.chosen-at.result c.args.round (c.in-Ok.content.kept.next + c.args.leaves) =
-    rises c.in-Ok.content c.self.inside.image c.chosen-at.result c.leaves-total.result c.args.round c.args.leaves c.leaves-total.ensures c.chosen-at.ensures.value
+    let enough = enough_left c.args.leaves c.leaves-total.result _ c.in-Ok.content.kept.next c.if-leaves-total.false c.leaves-total.ensures
+    c.in-Ok.ensures.within in
+    let rise : IsPaired c.self.inside.image → IsRise c.in-Ok.content c.self.inside.image c.chosen-at.result c.args.round
+    (c.in-Ok.content.kept.next + c.args.leaves) =
+    rises c.in-Ok.content c.self.inside.image c.chosen-at.result c.leaves-total.result c.args.round c.args.leaves c.leaves-total.ensures
+    c.chosen-at.ensures.value
     (sym c.in-Ok.ensures.value) c.if-round-kept.false enough some in
     if_told (g.D.Disk.file c.args.disk.now) (λ file told. (
       c.raise.ensures.told (is_told _ file told),
       λ least keeps.
-          raise_keeps g.D.Disk.file g.D.Disk.may_leave g.D.Disk.moment g.D.Disk.left_since g.met.D.Disk.read_is_image g.met.D.Disk.counts_now g.met.D.Disk.only_now
+          raise_keeps g.D.Disk.file g.D.Disk.may_leave g.D.Disk.moment g.D.Disk.left_since g.met.D.Disk.read_is_image
+          g.met.D.Disk.counts_now g.met.D.Disk.only_now
           c.args.disk.now c.raise.new.disk c.self.inside.image file c.chosen-at.result c.in-Ok.content least _ told
-          (rest_seen _ _ c.args.self.now c.self.inside.image c.self.inside.secret c.self.inside.failed c.self.view_is c.if-self.false c.requires)
+          (rest_seen _ _ c.args.self.now c.self.inside.image c.self.inside.secret c.self.inside.failed c.self.view_is c.if-self.false
+          c.requires)
           (sym c.in-Ok.ensures.value) (λ paired. c.raise.ensures.moments c.in-Ok.content (rise paired)) keeps
           (λ paired said. tt),
     ))
@@ -202,50 +233,66 @@ returns-in-Done-clause-used g c = λ some.
     let of : IsOf c.args.self.now c.self.inside.secret c.in-Ok.content =
     is_of c.args.self.now c.self.inside.image c.self.inside.secret c.self.inside.failed c.in-Ok.content c.self.view_is
     (c.self.invariant c.if-self.false) (sym c.in-Ok.ensures.value) in
-    let has : HasBegun c.args.self.now c.self.inside.image c.self.inside.secret c.in-Ok.content c.chosen-at.result c.args.round c.args.leaves c.raise.new.image c.reserve.new.self =
-    has_begun c.args.self.now c.self.inside.image c.self.inside.secret c.in-Ok.content c.chosen-at.result c.args.round c.args.leaves c.raise.new.image c.reserve.new.self
+    let has : HasBegun c.args.self.now c.self.inside.image c.self.inside.secret c.in-Ok.content c.chosen-at.result c.args.round
+    c.args.leaves c.raise.new.image c.reserve.new.self =
+    has_begun c.args.self.now c.self.inside.image c.self.inside.secret c.in-Ok.content c.chosen-at.result c.args.round c.args.leaves
+    c.raise.new.image c.reserve.new.self
     of c.in-Ok.ensures.whole (sym c.in-Ok.ensures.value) c.chosen-at.ensures.slot (omega (arith, c.ranges.round.fits)) c.if-round-kept.false
-    (enough_left c.args.leaves c.leaves-total.result _ c.in-Ok.content.kept.next c.if-leaves-total.false c.leaves-total.ensures c.in-Ok.ensures.within)
+    (enough_left c.args.leaves c.leaves-total.result _ c.in-Ok.content.kept.next c.if-leaves-total.false c.leaves-total.ensures
+    c.in-Ok.ensures.within)
     (c.in-Done.ensures.image refl) c.in-Ok-reserve.ensures.risen in
-    let enough = enough_left c.args.leaves c.leaves-total.result _ c.in-Ok.content.kept.next c.if-leaves-total.false c.leaves-total.ensures c.in-Ok.ensures.within in
-    let rise : IsPaired c.self.inside.image → IsRise c.in-Ok.content c.self.inside.image c.chosen-at.result c.args.round (c.in-Ok.content.kept.next + c.args.leaves) =
-    rises c.in-Ok.content c.self.inside.image c.chosen-at.result c.leaves-total.result c.args.round c.args.leaves c.leaves-total.ensures c.chosen-at.ensures.value
+    let enough = enough_left c.args.leaves c.leaves-total.result _ c.in-Ok.content.kept.next c.if-leaves-total.false c.leaves-total.ensures
+    c.in-Ok.ensures.within in
+    let rise : IsPaired c.self.inside.image → IsRise c.in-Ok.content c.self.inside.image c.chosen-at.result c.args.round
+    (c.in-Ok.content.kept.next + c.args.leaves) =
+    rises c.in-Ok.content c.self.inside.image c.chosen-at.result c.leaves-total.result c.args.round c.args.leaves c.leaves-total.ensures
+    c.chosen-at.ensures.value
     (sym c.in-Ok.ensures.value) c.if-round-kept.false enough some in
     if_told (g.D.Disk.file c.args.disk.now) (λ file told. (
       c.raise.ensures.told (is_told _ file told),
       λ least keeps.
-          raise_keeps g.D.Disk.file g.D.Disk.may_leave g.D.Disk.moment g.D.Disk.left_since g.met.D.Disk.read_is_image g.met.D.Disk.counts_now g.met.D.Disk.only_now
+          raise_keeps g.D.Disk.file g.D.Disk.may_leave g.D.Disk.moment g.D.Disk.left_since g.met.D.Disk.read_is_image
+          g.met.D.Disk.counts_now g.met.D.Disk.only_now
           c.args.disk.now c.raise.new.disk c.self.inside.image file c.chosen-at.result c.in-Ok.content least _ told
-          (rest_seen _ _ c.args.self.now c.self.inside.image c.self.inside.secret c.self.inside.failed c.self.view_is c.if-self.false c.requires)
+          (rest_seen _ _ c.args.self.now c.self.inside.image c.self.inside.secret c.self.inside.failed c.self.view_is c.if-self.false
+          c.requires)
           (sym c.in-Ok.ensures.value) (λ paired. c.raise.ensures.moments c.in-Ok.content (rise paired)) keeps
           (λ paired said.
-          raise_hands g.D.Disk.file g.D.Disk.may_leave g.D.Disk.moment g.D.Disk.left_since g.met.D.Disk.read_is_image g.met.D.Disk.counts_now g.met.D.Disk.only_now
+          raise_hands g.D.Disk.file g.D.Disk.may_leave g.D.Disk.moment g.D.Disk.left_since g.met.D.Disk.read_is_image
+          g.met.D.Disk.counts_now g.met.D.Disk.only_now
           c.raise.new.disk c.raise.new.image c.in-Ok.content least _ c.args.round c.args.leaves (c.raise.ensures.told (is_told _ file told))
           (c.in-Done.ensures.current refl) has.read
-          (subst IsPaired (sym (c.in-Done.ensures.image refl)) (raised_paired c.in-Ok.content c.self.inside.image c.chosen-at.result c.args.round _
+          (subst IsPaired (sym (c.in-Done.ensures.image refl)) (raised_paired c.in-Ok.content c.self.inside.image c.chosen-at.result
+          c.args.round _
           c.in-Ok.ensures.whole (omega (arith, c.ranges.round.fits)) (rise paired)))
-          c.if-round-kept.false (handed_is c.args.round c.args.leaves c.in-Ok-reserve.run' c.self.inside.secret c.in-Ok.content c.in-Ok-reserve.ensures.reserved of.secret_is) said),
+          c.if-round-kept.false (handed_is c.args.round c.args.leaves c.in-Ok-reserve.run' c.self.inside.secret c.in-Ok.content
+          c.in-Ok-reserve.ensures.reserved of.secret_is) said),
     ))
 
 pub returns-then-round-kept-clause-beside_slot : goal.returns-then-round-kept-clause-beside_slot
 returns-then-round-kept-clause-beside_slot g c = λ works.
-    slot_stays g.D.Disk.file g.D.Disk.may_leave g.D.Disk.moment g.D.Disk.left_since g.met.D.Disk.only_now c.args.disk.now c.args.self.now.image _ (c.requires works)
+    slot_stays g.D.Disk.file g.D.Disk.may_leave g.D.Disk.moment g.D.Disk.left_since g.met.D.Disk.only_now c.args.disk.now
+    c.args.self.now.image _ (c.requires works)
 
 pub returns-then-leaves-total-clause-beside_slot : goal.returns-then-leaves-total-clause-beside_slot
 returns-then-leaves-total-clause-beside_slot g c = λ works.
-    slot_stays g.D.Disk.file g.D.Disk.may_leave g.D.Disk.moment g.D.Disk.left_since g.met.D.Disk.only_now c.args.disk.now c.args.self.now.image _ (c.requires works)
+    slot_stays g.D.Disk.file g.D.Disk.may_leave g.D.Disk.moment g.D.Disk.left_since g.met.D.Disk.only_now c.args.disk.now
+    c.args.self.now.image _ (c.requires works)
 
 pub returns-in-Err-clause-beside_slot : goal.returns-in-Err-clause-beside_slot
 returns-in-Err-clause-beside_slot g c = λ works.
-    slot_stays g.D.Disk.file g.D.Disk.may_leave g.D.Disk.moment g.D.Disk.left_since g.met.D.Disk.only_now c.args.disk.now c.args.self.now.image _ (c.requires works)
+    slot_stays g.D.Disk.file g.D.Disk.may_leave g.D.Disk.moment g.D.Disk.left_since g.met.D.Disk.only_now c.args.disk.now
+    c.args.self.now.image _ (c.requires works)
 
 pub returns-in-Done-clause-beside_slot : goal.returns-in-Done-clause-beside_slot
 returns-in-Done-clause-beside_slot g c = λ works.
     let of : IsOf c.args.self.now c.self.inside.secret c.in-Ok.content =
     is_of c.args.self.now c.self.inside.image c.self.inside.secret c.self.inside.failed c.in-Ok.content c.self.view_is
     (c.self.invariant c.if-self.false) (sym c.in-Ok.ensures.value) in
-    subst (λ (at : ℕ). LeavesOf g.D.Disk.moment g.D.Disk.left_since (g.D.Disk.file c.args.disk.now) c.args.disk.now c.raise.new.disk (λ file. IsTorn file at 13))
-    (slot_is_chosen c.args.self.now c.self.inside.image c.self.inside.secret c.self.inside.failed c.in-Ok.content c.chosen-at.result c.leaves-total.result
+    subst (λ (at : ℕ). LeavesOf g.D.Disk.moment g.D.Disk.left_since (g.D.Disk.file c.args.disk.now) c.args.disk.now c.raise.new.disk
+    (λ file. IsTorn file at 13))
+    (slot_is_chosen c.args.self.now c.self.inside.image c.self.inside.secret c.self.inside.failed c.in-Ok.content c.chosen-at.result
+    c.leaves-total.result
     c.self.view_is of c.leaves-total.ensures c.chosen-at.ensures.value) c.raise.ensures.beside_slot
 
 pub returns-in-Failed-clause-beside_slot : goal.returns-in-Failed-clause-beside_slot
@@ -253,6 +300,8 @@ returns-in-Failed-clause-beside_slot g c = λ works.
     let of : IsOf c.args.self.now c.self.inside.secret c.in-Ok.content =
     is_of c.args.self.now c.self.inside.image c.self.inside.secret c.self.inside.failed c.in-Ok.content c.self.view_is
     (c.self.invariant c.if-self.false) (sym c.in-Ok.ensures.value) in
-    subst (λ (at : ℕ). LeavesOf g.D.Disk.moment g.D.Disk.left_since (g.D.Disk.file c.args.disk.now) c.args.disk.now c.raise.new.disk (λ file. IsTorn file at 13))
-    (slot_is_chosen c.args.self.now c.self.inside.image c.self.inside.secret c.self.inside.failed c.in-Ok.content c.chosen-at.result c.leaves-total.result
+    subst (λ (at : ℕ). LeavesOf g.D.Disk.moment g.D.Disk.left_since (g.D.Disk.file c.args.disk.now) c.args.disk.now c.raise.new.disk
+    (λ file. IsTorn file at 13))
+    (slot_is_chosen c.args.self.now c.self.inside.image c.self.inside.secret c.self.inside.failed c.in-Ok.content c.chosen-at.result
+    c.leaves-total.result
     c.self.view_is of c.leaves-total.ensures c.chosen-at.ensures.value) c.raise.ensures.beside_slot

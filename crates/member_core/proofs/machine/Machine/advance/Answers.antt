@@ -24,5 +24,6 @@ returns-clause-stands g c start c' a is =
     let seat = seat-of c' c.args.self.now c.requires.sound.formed is.entered in
     let count = c.stage_count-end.ensures ∙ ap stage_count seat.shape in
     let all : c.loop.counter ≡ 2 * stage_count (shape_in c') = omega (arith, count, c.loop-test.false, c.loop.auto.counter-end) in
-    subst (λ (n : ℕ). StandsFor (g.C.Conduct.replies c.loop.conduct) start c' (iterate (actor_behind_step start c') n a) (holdings_of c.loop.self)) all
+    subst (λ (n : ℕ). StandsFor (g.C.Conduct.replies c.loop.conduct) start c' (iterate (actor_behind_step start c') n a)
+    (holdings_of c.loop.self)) all
     (c.loop.invariant.3 start c' a is)

@@ -14,7 +14,8 @@ returns-in_default g c = record {
   sound = c.requires.sound;
   going = c.requires.going;
   handed = refl;
-  stands = λ start c' a s. subst (λ (b : Actor). StandsFor (g.C.Conduct.replies c.args.conduct.now) start c' b (holdings_of c.args.self.now))
+  stands = λ start c' a s. subst (λ (b : Actor). StandsFor (g.C.Conduct.replies c.args.conduct.now) start c' b
+      (holdings_of c.args.self.now))
       (sym (repeat-none start c' a a.mood (λ bytes e. c.in_default.not-PutOff bytes (s.at.mood ∙ e)))) s;
 }
 
@@ -40,7 +41,8 @@ pub ask-requires-clause-ready : goal.ask-requires-clause-ready
 ask-requires-clause-ready g c = ready-unasked c.args.self.now _ c.in-PutOff.is (c.requires.sound.ready c.requires.going)
 
 pub ask-requires-clause-speakable : goal.ask-requires-clause-speakable
-ask-requires-clause-speakable g c = speakable-again c.args.self.now _ c.in-PutOff.is c.requires.going (c.requires.sound.ready c.requires.going) c.requires.sound.needed
+ask-requires-clause-speakable g c = speakable-again c.args.self.now _ c.in-PutOff.is c.requires.going
+    (c.requires.sound.ready c.requires.going) c.requires.sound.needed
 
 pub ask-requires-clause-question : goal.ask-requires-clause-question
 ask-requires-clause-question g c =
@@ -67,4 +69,5 @@ returns-clause-stands g c =
     if-ok _ _ c.ask.result (λ x stands start c' a s.
     subst (λ (b : Actor). StandsFor (g.C.Conduct.replies c.ask.new.conduct) start c' b (holdings_of c.ask.new.self))
     (ap (actor_behind_question start c' a) copied ∙ sym (ap (actor_behind_repeat start c' a) (sym s.at.mood ∙ c.in-PutOff.is)))
-    (stands start c' a (stands-again (g.C.Conduct.replies c.args.conduct.now) start c' a (holdings_of c.args.self.now) bytes c.in-PutOff.is s))) c.ask.ensures.stands
+    (stands start c' a (stands-again (g.C.Conduct.replies c.args.conduct.now) start c' a (holdings_of c.args.self.now) bytes c.in-PutOff.is
+    s))) c.ask.ensures.stands

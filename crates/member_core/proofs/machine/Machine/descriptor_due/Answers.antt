@@ -53,23 +53,29 @@ pub returns-clause-long : goal.returns-clause-long
 returns-clause-long g c =
     let m = c.args.self.now in
     let past : List (List ℕ) = past_of m.log m.stage in
-    let keys = keys-here m.log m.stage c.in-Some.keys (carried-keys m.log m.stage m.keys c.in-Some.keys c.in-Some.is c.requires.ready.keys) c.requires.behind c.requires.ready.past in
-    let own : length c.in_ok-made.made.descriptor.pad_hashes ≡ m.log.shape.members = own-hashes m (description_of c.in_ok-made.made.descriptor) c.requires.formed (λ config is.
-    c.in_ok-made.ensures.descriptor config past is.seat (held-is m.secrets.bulk c.in-Some-bulk.bulk (AreBulkSecrets config) c.in-Some-bulk.is is.secrets.bulk)
+    let keys = keys-here m.log m.stage c.in-Some.keys (carried-keys m.log m.stage m.keys c.in-Some.keys c.in-Some.is c.requires.ready.keys)
+    c.requires.behind c.requires.ready.past in
+    let own : length c.in_ok-made.made.descriptor.pad_hashes ≡ m.log.shape.members = own-hashes m
+    (description_of c.in_ok-made.made.descriptor) c.requires.formed (λ config is.
+    c.in_ok-made.ensures.descriptor config past is.seat (held-is m.secrets.bulk c.in-Some-bulk.bulk (AreBulkSecrets config)
+    c.in-Some-bulk.is is.secrets.bulk)
     (c.deref.ensures.value ∙ c.items-message.ensures ∙ is.message)
     (c.items.ensures ∙ keys.bulk ∙ ap (λ (s : Shape). keys_said s past bulk_place) (shape-is config m c.requires.formed is.seat))) in
     let many : length c.in_ok-descriptor.descriptor.pad_hashes ≡ m.log.shape.members = c.in_ok-descriptor.ensures.members ∙ own in
     ap (λ (t : List ℕ). length t) (c.of.ensures ∙ c.in_ok-bytes.ensures.value)
-    ∙ text-long (length c.in_ok-descriptor.descriptor.pad_hashes) (description_of c.in_ok-descriptor.descriptor) c.in_ok-bytes.ensures.grammar
+    ∙ text-long (length c.in_ok-descriptor.descriptor.pad_hashes) (description_of c.in_ok-descriptor.descriptor)
+    c.in_ok-bytes.ensures.grammar
     ∙ ap (λ (n : ℕ). 36 + 2272 * n) many
 
 pub returns-clause-told : goal.returns-clause-told
 returns-clause-told g c = λ config seat secrets message.
     let m = c.args.self.now in
     let past : List (List ℕ) = past_of m.log m.stage in
-    let keys = keys-here m.log m.stage c.in-Some.keys (carried-keys m.log m.stage m.keys c.in-Some.keys c.in-Some.is c.requires.ready.keys) c.requires.behind c.requires.ready.past in
+    let keys = keys-here m.log m.stage c.in-Some.keys (carried-keys m.log m.stage m.keys c.in-Some.keys c.in-Some.is c.requires.ready.keys)
+    c.requires.behind c.requires.ready.past in
     let own : description_of c.in_ok-made.made.descriptor ≡ own_description config past
-    = c.in_ok-made.ensures.descriptor config past seat (held-is m.secrets.bulk c.in-Some-bulk.bulk (AreBulkSecrets config) c.in-Some-bulk.is secrets.bulk)
+    = c.in_ok-made.ensures.descriptor config past seat (held-is m.secrets.bulk c.in-Some-bulk.bulk (AreBulkSecrets config) c.in-Some-bulk.is
+    secrets.bulk)
     (c.deref.ensures.value ∙ c.items-message.ensures ∙ message)
     (c.items.ensures ∙ keys.bulk ∙ ap (λ (s : Shape). keys_said s past bulk_place) (shape-is config m c.requires.formed seat)) in
     c.of.ensures ∙ c.in_ok-bytes.ensures.value
@@ -85,9 +91,11 @@ pub returns-clause-then : goal.returns-clause-then
 returns-clause-then g c = λ config seat secrets message.
     let m = c.args.self.now in
     let past : List (List ℕ) = past_of m.log m.stage in
-    let keys = keys-here m.log m.stage c.in-Some.keys (carried-keys m.log m.stage m.keys c.in-Some.keys c.in-Some.is c.requires.ready.keys) c.requires.behind c.requires.ready.past in
+    let keys = keys-here m.log m.stage c.in-Some.keys (carried-keys m.log m.stage m.keys c.in-Some.keys c.in-Some.is c.requires.ready.keys)
+    c.requires.behind c.requires.ready.past in
     let own : description_of c.in_ok-made.made.descriptor ≡ own_description config past
-    = c.in_ok-made.ensures.descriptor config past seat (held-is m.secrets.bulk c.in-Some-bulk.bulk (AreBulkSecrets config) c.in-Some-bulk.is secrets.bulk)
+    = c.in_ok-made.ensures.descriptor config past seat (held-is m.secrets.bulk c.in-Some-bulk.bulk (AreBulkSecrets config) c.in-Some-bulk.is
+    secrets.bulk)
     (c.deref.ensures.value ∙ c.items-message.ensures ∙ message)
     (c.items.ensures ∙ keys.bulk ∙ ap (λ (s : Shape). keys_said s past bulk_place) (shape-is config m c.requires.formed seat)) in
     c.in_ok-descriptor.ensures.then ∙ ap (g.C.Conduct.replies c.args.conduct.now).speech_after own
@@ -105,25 +113,33 @@ pub returns-in_err-made-clause-then : goal.returns-in_err-made-clause-then
 returns-in_err-made-clause-then g c = (let p = err_from_is_err_and c.from_residual.result c.from_residual.ensures.1 in rw p.1 tt)
 
 pub returns-in_err-descriptor-clause-long : goal.returns-in_err-descriptor-clause-long
-returns-in_err-descriptor-clause-long g c = (let p = err_from_is_err_and c.from_residual-in_err-descriptor.result c.from_residual-in_err-descriptor.ensures.1 in rw p.1 tt)
+returns-in_err-descriptor-clause-long g c = (let p = err_from_is_err_and c.from_residual-in_err-descriptor.result
+    c.from_residual-in_err-descriptor.ensures.1 in rw p.1 tt)
 
 pub returns-in_err-descriptor-clause-told : goal.returns-in_err-descriptor-clause-told
-returns-in_err-descriptor-clause-told g c = (let p = err_from_is_err_and c.from_residual-in_err-descriptor.result c.from_residual-in_err-descriptor.ensures.1 in rw p.1 tt)
+returns-in_err-descriptor-clause-told g c = (let p = err_from_is_err_and c.from_residual-in_err-descriptor.result
+    c.from_residual-in_err-descriptor.ensures.1 in rw p.1 tt)
 
 pub returns-in_err-descriptor-clause-pad : goal.returns-in_err-descriptor-clause-pad
-returns-in_err-descriptor-clause-pad g c = (let p = err_from_is_err_and c.from_residual-in_err-descriptor.result c.from_residual-in_err-descriptor.ensures.1 in rw p.1 tt)
+returns-in_err-descriptor-clause-pad g c = (let p = err_from_is_err_and c.from_residual-in_err-descriptor.result
+    c.from_residual-in_err-descriptor.ensures.1 in rw p.1 tt)
 
 pub returns-in_err-descriptor-clause-then : goal.returns-in_err-descriptor-clause-then
-returns-in_err-descriptor-clause-then g c = (let p = err_from_is_err_and c.from_residual-in_err-descriptor.result c.from_residual-in_err-descriptor.ensures.1 in rw p.1 tt)
+returns-in_err-descriptor-clause-then g c = (let p = err_from_is_err_and c.from_residual-in_err-descriptor.result
+    c.from_residual-in_err-descriptor.ensures.1 in rw p.1 tt)
 
 pub returns-in_err-bytes-clause-long : goal.returns-in_err-bytes-clause-long
-returns-in_err-bytes-clause-long g c = (let p = err_from_is_err_and c.from_residual-in_err-bytes.result c.from_residual-in_err-bytes.ensures.1 in rw p.1 tt)
+returns-in_err-bytes-clause-long g c = (let p = err_from_is_err_and c.from_residual-in_err-bytes.result
+    c.from_residual-in_err-bytes.ensures.1 in rw p.1 tt)
 
 pub returns-in_err-bytes-clause-told : goal.returns-in_err-bytes-clause-told
-returns-in_err-bytes-clause-told g c = (let p = err_from_is_err_and c.from_residual-in_err-bytes.result c.from_residual-in_err-bytes.ensures.1 in rw p.1 tt)
+returns-in_err-bytes-clause-told g c = (let p = err_from_is_err_and c.from_residual-in_err-bytes.result
+    c.from_residual-in_err-bytes.ensures.1 in rw p.1 tt)
 
 pub returns-in_err-bytes-clause-pad : goal.returns-in_err-bytes-clause-pad
-returns-in_err-bytes-clause-pad g c = (let p = err_from_is_err_and c.from_residual-in_err-bytes.result c.from_residual-in_err-bytes.ensures.1 in rw p.1 tt)
+returns-in_err-bytes-clause-pad g c = (let p = err_from_is_err_and c.from_residual-in_err-bytes.result
+    c.from_residual-in_err-bytes.ensures.1 in rw p.1 tt)
 
 pub returns-in_err-bytes-clause-then : goal.returns-in_err-bytes-clause-then
-returns-in_err-bytes-clause-then g c = (let p = err_from_is_err_and c.from_residual-in_err-bytes.result c.from_residual-in_err-bytes.ensures.1 in rw p.1 tt)
+returns-in_err-bytes-clause-then g c = (let p = err_from_is_err_and c.from_residual-in_err-bytes.result
+    c.from_residual-in_err-bytes.ensures.1 in rw p.1 tt)

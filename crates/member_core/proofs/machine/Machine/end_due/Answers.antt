@@ -24,22 +24,26 @@ unreachable-requires c =
     let placed = kind-place m.log.shape m.stage (Final c.args.shuffle) c.requires.kind in
     let within = placed.kind_in in
     let at = placed.at in
-    not-missing (shuffle_secrets m.secrets c.args.shuffle) (holds-shuffle m c.args.shuffle c.requires.needed c.requires.asked within.0 within.1 (omega (arith, at)))
+    not-missing (shuffle_secrets m.secrets c.args.shuffle) (holds-shuffle m c.args.shuffle c.requires.needed c.requires.asked within.0
+    within.1 (omega (arith, at)))
     (sym c.take_shuffle.ensures.taken ∙ c.in_default.is)
 
 pub unreachable-unreachable : goal.unreachable-unreachable
 unreachable-unreachable c = c.unreachable.type_inv
 
 pub final_body-requires-clause-first : goal.final_body-requires-clause-first
-final_body-requires-clause-first c = (kind-place c.args.self.now.log.shape c.args.self.now.stage (Final c.args.shuffle) c.requires.kind).kind_in.0
+final_body-requires-clause-first c = (kind-place c.args.self.now.log.shape c.args.self.now.stage (Final c.args.shuffle)
+    c.requires.kind).kind_in.0
 
 pub final_body-requires-clause-last : goal.final_body-requires-clause-last
-final_body-requires-clause-last c = (kind-place c.args.self.now.log.shape c.args.self.now.stage (Final c.args.shuffle) c.requires.kind).kind_in.1
+final_body-requires-clause-last c = (kind-place c.args.self.now.log.shape c.args.self.now.stage (Final c.args.shuffle)
+    c.requires.kind).kind_in.1
 
 pub final_body-requires-clause-complete : goal.final_body-requires-clause-complete
 final_body-requires-clause-complete c =
     let m = c.args.self.now in
-    subst (λ (s : ℕ). IsSome (before m.log s)) (kind-place m.log.shape m.stage (Final c.args.shuffle) c.requires.kind).at c.requires.ready.past
+    subst (λ (s : ℕ). IsSome (before m.log s)) (kind-place m.log.shape m.stage (Final c.args.shuffle) c.requires.kind).at
+    c.requires.ready.past
 
 pub final_body-requires-clause-stand : goal.final_body-requires-clause-stand
 final_body-requires-clause-stand c = c.requires.formed.stand (final_stage c.args.self.now.log.shape c.args.shuffle - 1)
@@ -80,8 +84,10 @@ returns-clause-due c = IfOk-weaker c.final_body.result _ _ (λ body said now.
     let placed = kind-place m.log.shape m.stage (Final c.args.shuffle) c.requires.kind in
     let within = placed.kind_in in
     final-due now m c.args.shuffle body c.in-Some.secrets c.requires.formed c.requires.ready c.requires.asked c.requires.kind
-    (λ config secrets. secrets-for config m.secrets c.args.shuffle c.in-Some.secrets secrets within.0 within.1 (sym c.take_shuffle.ensures.taken ∙ c.in-Some.is))
-    (subst (λ (s : ℕ). body ≡ final_row m.log.shape (posts_before m.log s) s c.in-Some.secrets.inner c.in-Some.secrets.outer c.in-Some.secrets.outer_opening) (sym placed.at) said)) c.final_body.ensures
+    (λ config secrets. secrets-for config m.secrets c.args.shuffle c.in-Some.secrets secrets within.0 within.1
+    (sym c.take_shuffle.ensures.taken ∙ c.in-Some.is))
+    (subst (λ (s : ℕ). body ≡ final_row m.log.shape (posts_before m.log s) s c.in-Some.secrets.inner c.in-Some.secrets.outer
+    c.in-Some.secrets.outer_opening) (sym placed.at) said)) c.final_body.ensures
 
 pub returns-clause-stands : goal.returns-clause-stands
 returns-clause-stands c = IfOk-weaker c.final_body.result _ _ (λ body said now start config a stands.
@@ -93,4 +99,5 @@ returns-clause-stands c = IfOk-weaker c.final_body.result _ _ (λ body said now 
     let left : Secrets = without_shuffle m.secrets c.args.shuffle in
     subst (λ (s : Secrets). StandsAsked now start config a (holdings_of (record m { secrets = s }))) (sym c.take_shuffle.ensures.left)
     (asked-with now now start config a m left m.own stands (secrets-shuffle config m.secrets c.args.shuffle stands.entered.secrets)
-    (goes-on_as now start config a m c.requires.asked stands not_first) (own-asked now start config a m left c.requires.asked stands not_first apart.1))) c.final_body.ensures
+    (goes-on_as now start config a m c.requires.asked stands not_first)
+    (own-asked now start config a m left c.requires.asked stands not_first apart.1))) c.final_body.ensures

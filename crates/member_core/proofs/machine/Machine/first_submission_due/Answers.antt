@@ -68,7 +68,12 @@ same-pad g c = refl
 pub returns-clause-formed : goal.returns-clause-formed
 returns-clause-formed g c =
     let m = c.args.self.now in
-    let own : Own = record { descriptor = c.in_ok-descriptor.descriptor; pad = c.in_ok-descriptor.pad; inner_ciphertext = c.in_ok-submission.submission.inner_ciphertext } in
+    let own : Own = record {
+      descriptor = c.in_ok-descriptor.descriptor;
+      pad = c.in_ok-descriptor.pad;
+      inner_ciphertext =
+          c.in_ok-submission.submission.inner_ciphertext;
+    } in
     formed-first m own c.requires.formed (λ config is. c.in_ok-descriptor.ensures.pad config is.seat is.secrets is.message)
 
 pub returns-clause-same : goal.returns-clause-same
@@ -77,9 +82,15 @@ returns-clause-same g c = refl
 pub returns-clause-needed : goal.returns-clause-needed
 returns-clause-needed g c =
     let m = c.args.self.now in
-    let own : Own = record { descriptor = c.in_ok-descriptor.descriptor; pad = c.in_ok-descriptor.pad; inner_ciphertext = c.in_ok-submission.submission.inner_ciphertext } in
+    let own : Own = record {
+      descriptor = c.in_ok-descriptor.descriptor;
+      pad = c.in_ok-descriptor.pad;
+      inner_ciphertext =
+          c.in_ok-submission.submission.inner_ciphertext;
+    } in
     let at = (kind-place m.log.shape m.stage (Submit 1) c.requires.kind).at in
-    needed-asked m own c.requires.asked c.requires.needed (λ e. omega (arith, e, at)) (λ e. omega (arith, e, at)) (λ e. omega (arith, e, at))
+    needed-asked m own c.requires.asked c.requires.needed (λ e. omega (arith, e, at)) (λ e. omega (arith, e, at))
+    (λ e. omega (arith, e, at))
 
 pub returns-clause-due : goal.returns-clause-due
 returns-clause-due g c =
@@ -90,9 +101,11 @@ returns-clause-due g c =
     let past : List (List ℕ) = past_of m.log m.stage in
     submit-due now m 1 own c.in_ok-submission.submission c.requires.formed c.requires.asked c.requires.kind
     (λ config is. ap (λ (t : List ℕ). length t) (sym (first-item config own past)) ∙ c.in_ok-descriptor.ensures.long)
-    (λ config seat secrets. c.in_ok-submission.ensures config own seat secrets (c.deref.ensures.value ∙ c.items.ensures ∙ first-item config own past))
+    (λ config seat secrets. c.in_ok-submission.ensures config own seat secrets
+    (c.deref.ensures.value ∙ c.items.ensures ∙ first-item config own past))
     (λ start config a stands. made-first now start config a m own c.requires.asked stands (omega (arith, at))
-    (c.in_ok-descriptor.ensures.told config (seat-of config m c.requires.formed stands.entered) stands.entered.secrets stands.entered.message))
+    (c.in_ok-descriptor.ensures.told config (seat-of config m c.requires.formed stands.entered) stands.entered.secrets
+    stands.entered.message))
 
 pub returns-clause-stands : goal.returns-clause-stands
 returns-clause-stands g c = λ start config a stands.
@@ -101,13 +114,19 @@ returns-clause-stands g c = λ start config a stands.
     let after : Replies = g.C.Conduct.replies c.descriptor_due.new.conduct in
     let at = (kind-place m.log.shape m.stage (Submit 1) c.requires.kind).at in
     let descriptor : List ℕ = c.in_ok-descriptor.descriptor in
-    let own : Own = record { descriptor = c.in_ok-descriptor.descriptor; pad = c.in_ok-descriptor.pad; inner_ciphertext = c.in_ok-submission.submission.inner_ciphertext } in
+    let own : Own = record {
+      descriptor = c.in_ok-descriptor.descriptor;
+      pad = c.in_ok-descriptor.pad;
+      inner_ciphertext =
+          c.in_ok-submission.submission.inner_ciphertext;
+    } in
     let past : List (List ℕ) = past_of m.log m.stage in
     let seat = seat-of config m c.requires.formed stands.entered in
     let secrets = stands.entered.secrets in
     let message = stands.entered.message in
     let submitted : c.in_ok-submission.submission ≡ own_submission config descriptor past 1
-    = c.in_ok-submission.ensures config descriptor seat secrets (c.deref.ensures.value ∙ c.items.ensures ∙ first-item config descriptor past) in
+    = c.in_ok-submission.ensures config descriptor seat secrets
+    (c.deref.ensures.value ∙ c.items.ensures ∙ first-item config descriptor past) in
     stands-first now after start config a m own c.requires.asked stands at
     (c.in_ok-descriptor.ensures.told config seat secrets message) (c.in_ok-descriptor.ensures.pad config seat secrets message)
     (ap (λ (x : Submission). x.inner_ciphertext) submitted) (c.in_ok-descriptor.ensures.then config seat secrets message)
@@ -134,10 +153,13 @@ pub returns-in_err-submission-clause-same : goal.returns-in_err-submission-claus
 returns-in_err-submission-clause-same g c = refl
 
 pub returns-in_err-submission-clause-needed : goal.returns-in_err-submission-clause-needed
-returns-in_err-submission-clause-needed g c = (let p = err_from_is_err_and c.from_residual-in_err-submission.result c.from_residual-in_err-submission.ensures.1 in rw p.1 tt)
+returns-in_err-submission-clause-needed g c = (let p = err_from_is_err_and c.from_residual-in_err-submission.result
+    c.from_residual-in_err-submission.ensures.1 in rw p.1 tt)
 
 pub returns-in_err-submission-clause-due : goal.returns-in_err-submission-clause-due
-returns-in_err-submission-clause-due g c = (let p = err_from_is_err_and c.from_residual-in_err-submission.result c.from_residual-in_err-submission.ensures.1 in rw p.1 tt)
+returns-in_err-submission-clause-due g c = (let p = err_from_is_err_and c.from_residual-in_err-submission.result
+    c.from_residual-in_err-submission.ensures.1 in rw p.1 tt)
 
 pub returns-in_err-submission-clause-stands : goal.returns-in_err-submission-clause-stands
-returns-in_err-submission-clause-stands g c = (let p = err_from_is_err_and c.from_residual-in_err-submission.result c.from_residual-in_err-submission.ensures.1 in rw p.1 tt)
+returns-in_err-submission-clause-stands g c = (let p = err_from_is_err_and c.from_residual-in_err-submission.result
+    c.from_residual-in_err-submission.ensures.1 in rw p.1 tt)

@@ -27,7 +27,8 @@ go_body-requires-clause-stand c = c.requires.formed.stand
 pub go_body-requires-clause-right : goal.go_body-requires-clause-right
 go_body-requires-clause-right c =
     let m = c.args.self.now in
-    subst (λ (s : ℕ). c.all_right.result ≡ all_right m.log.shape (past_of m.log s) s) (kind-place m.log.shape m.stage (Go c.args.shuffle) c.requires.kind).at
+    subst (λ (s : ℕ). c.all_right.result ≡ all_right m.log.shape (past_of m.log s) s)
+    (kind-place m.log.shape m.stage (Go c.args.shuffle) c.requires.kind).at
     (seen-right m c.all_right.result c.requires.ready c.all_right.ensures)
 
 pub returns : goal.returns
@@ -36,4 +37,5 @@ returns c = IfOk-weaker c.go_body.result _ _ (λ body said now.
     let at = (kind-place m.log.shape m.stage (Go c.args.shuffle) c.requires.kind).at in
     go-due now m c.args.shuffle body c.requires.formed c.requires.asked c.requires.kind
     (subst (λ (s : ℕ). body ≡ go_row m.log.shape (past_of m.log s) s m.own.inner_ciphertext) (sym at)
-    (said ∙ ap (go_row m.log.shape (past_of m.log (final_stage m.log.shape c.args.shuffle - 1)) (final_stage m.log.shape c.args.shuffle - 1)) (c.as_slice-own.ensures.value ∙ c.items.ensures)))) c.go_body.ensures
+    (said ∙ ap (go_row m.log.shape (past_of m.log (final_stage m.log.shape c.args.shuffle - 1))
+    (final_stage m.log.shape c.args.shuffle - 1)) (c.as_slice-own.ensures.value ∙ c.items.ensures)))) c.go_body.ensures

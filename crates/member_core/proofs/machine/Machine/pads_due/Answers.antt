@@ -34,7 +34,8 @@ pub returns : goal.returns
 returns c = IfOk-weaker c.pads_body.result _ _ (λ body said now.
     let m = c.args.self.now in
     let at = (kind-place m.log.shape m.stage Pad c.requires.kind).at in
-    let items : AreItemsOf m.log c.in-Some-opened.opened.items = carried-items m.log m.stage (λ items. items.items) m.opened c.in-Some-opened.opened c.in-Some-opened.is c.requires.ready.opened in
+    let items : AreItemsOf m.log c.in-Some-opened.opened.items = carried-items m.log m.stage (λ items. items.items) m.opened
+    c.in-Some-opened.opened c.in-Some-opened.is c.requires.ready.opened in
     let here : stage_opened m.log ≡ m.stage = omega (arith, at) in
     pads-due now m body c.in-Some-opened.opened.items c.requires.formed c.requires.asked c.requires.kind
     (items.are ∙ ap (λ (s : ℕ). items_opened m.log.shape (past_of m.log s) 1) here) items.count

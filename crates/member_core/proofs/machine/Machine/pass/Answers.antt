@@ -32,19 +32,22 @@ conclude-requires c =
 
 pub returns-clause-formed : goal.returns-clause-formed
 returns-clause-formed c =
-    (passes-all c.args.self.now c.carry_keys.new.self c.go_on.new.self c.conclude.new.self c.in_ok-judged.judged c.requires.sound c.requires.open
+    (passes-all c.args.self.now c.carry_keys.new.self c.go_on.new.self c.conclude.new.self c.in_ok-judged.judged c.requires.sound
+    c.requires.open
     c.requires.filled c.carry_keys.ensures.same c.in_ok-carry_keys.ensures.keys c.go_on.ensures.same c.go_on.ensures.seen c.conclude.ensures
     c.in_ok-judged.ensures).formed
 
 pub returns-clause-sound : goal.returns-clause-sound
 returns-clause-sound c =
     steps-sound c.args.self.now c.conclude.new.self
-    (passes-all c.args.self.now c.carry_keys.new.self c.go_on.new.self c.conclude.new.self c.in_ok-judged.judged c.requires.sound c.requires.open
+    (passes-all c.args.self.now c.carry_keys.new.self c.go_on.new.self c.conclude.new.self c.in_ok-judged.judged c.requires.sound
+    c.requires.open
     c.requires.filled c.carry_keys.ensures.same c.in_ok-carry_keys.ensures.keys c.go_on.ensures.same c.go_on.ensures.seen c.conclude.ensures
     c.in_ok-judged.ensures)
 
 pub returns-clause-stands : goal.returns-clause-stands
 returns-clause-stands c =
-    (passes-all c.args.self.now c.carry_keys.new.self c.go_on.new.self c.conclude.new.self c.in_ok-judged.judged c.requires.sound c.requires.open
+    (passes-all c.args.self.now c.carry_keys.new.self c.go_on.new.self c.conclude.new.self c.in_ok-judged.judged c.requires.sound
+    c.requires.open
     c.requires.filled c.carry_keys.ensures.same c.in_ok-carry_keys.ensures.keys c.go_on.ensures.same c.go_on.ensures.seen c.conclude.ensures
     c.in_ok-judged.ensures).stands

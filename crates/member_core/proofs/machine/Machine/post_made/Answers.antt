@@ -29,11 +29,13 @@ loop-stage-preserved c =
     elim c.match-kept.branch [
       | in-Some+else-left-eq0 w ↦
           ap (slice_get (posts_from m.log m.seat.number m.stray (c.loop-stage.stage + 1))) w.left-is
-          ∙ later-from m.log m.seat.number m.stray c.loop-stage.stage c.loop-stage.left w.in-Some.post.now within (sym w.in-Some.ensures.post) w.if-left-eq0.false
+          ∙ later-from m.log m.seat.number m.stray c.loop-stage.stage c.loop-stage.left w.in-Some.post.now within
+          (sym w.in-Some.ensures.post) w.if-left-eq0.false
           ∙ c.loop-stage.invariant
       | in_default w ↦
           ap (slice_get (posts_from m.log m.seat.number m.stray (c.loop-stage.stage + 1))) w.left-is
-          ∙ same-from m.log m.seat.number m.stray c.loop-stage.stage c.loop-stage.left within (sym c.kept.ensures.post ∙ ap option_copied w.in_default.is)
+          ∙ same-from m.log m.seat.number m.stray c.loop-stage.stage c.loop-stage.left within
+          (sym c.kept.ensures.post ∙ ap option_copied w.in_default.is)
           ∙ c.loop-stage.invariant
     ]
 

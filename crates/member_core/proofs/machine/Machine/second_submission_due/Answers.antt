@@ -78,7 +78,8 @@ pub returns-clause-formed : goal.returns-clause-formed
 returns-clause-formed c =
     let m = c.args.self.now in
     let inner : List ℕ = c.in_ok-submission.submission.inner_ciphertext in
-    subst (λ (s : Secrets). IsFormed (record m { secrets = s; own = record m.own { inner_ciphertext = inner } })) (sym c.end_bulk.ensures) (formed-second m inner c.requires.formed)
+    subst (λ (s : Secrets). IsFormed (record m { secrets = s; own = record m.own { inner_ciphertext = inner } })) (sym c.end_bulk.ensures)
+    (formed-second m inner c.requires.formed)
 
 pub returns-clause-same : goal.returns-clause-same
 returns-clause-same c = refl
@@ -88,7 +89,8 @@ returns-clause-needed c =
     let m = c.args.self.now in
     let inner : List ℕ = c.in_ok-submission.submission.inner_ciphertext in
     let at = (kind-place m.log.shape m.stage (Submit 2) c.requires.kind).at in
-    subst (λ (s : Secrets). HoldsNeeded (asked_at (holdings_of (record m { secrets = s; own = record m.own { inner_ciphertext = inner } })) Spoken)) (sym c.end_bulk.ensures)
+    subst (λ (s : Secrets). HoldsNeeded (asked_at (holdings_of (record m { secrets = s; own = record m.own { inner_ciphertext = inner } }))
+    Spoken)) (sym c.end_bulk.ensures)
     (needed-bulk m (record m.own { inner_ciphertext = inner }) c.requires.asked c.requires.needed at)
 
 pub returns-clause-due : goal.returns-clause-due
@@ -98,7 +100,8 @@ returns-clause-due c = λ now.
     let long : length c.accusation_due-item.result ≡ 34 = search rules in
     submit-due now m 2 m.own.descriptor c.in_ok-submission.submission c.requires.formed c.requires.asked c.requires.kind
     (λ config is. ap (λ (t : List ℕ). length t) (sym (c.accusation_due-item.ensures config is.seat is.secrets)) ∙ long)
-    (λ config seat secrets. c.in_ok-submission.ensures config m.own.descriptor seat secrets (c.accusation_due-item.ensures config seat secrets))
+    (λ config seat secrets. c.in_ok-submission.ensures config m.own.descriptor seat secrets
+    (c.accusation_due-item.ensures config seat secrets))
     (λ start config a stands. descriptor-kept now start config a m c.requires.formed c.requires.asked stands (omega (arith, at)))
 
 pub returns-clause-stands : goal.returns-clause-stands
@@ -109,5 +112,6 @@ returns-clause-stands c = λ now start config a stands.
     let seat = seat-of config m c.requires.formed stands.entered in
     let secrets = stands.entered.secrets in
     let submitted = c.in_ok-submission.ensures config m.own.descriptor seat secrets (c.accusation_due-item.ensures config seat secrets) in
-    subst (λ (s : Secrets). StandsAsked now start config a (holdings_of (record m { secrets = s; own = record m.own { inner_ciphertext = inner } }))) (sym c.end_bulk.ensures)
+    subst (λ (s : Secrets). StandsAsked now start config a (holdings_of
+    (record m { secrets = s; own = record m.own { inner_ciphertext = inner } }))) (sym c.end_bulk.ensures)
     (stands-second now start config a m inner c.requires.asked stands at (ap (λ (x : Submission). x.inner_ciphertext) submitted))

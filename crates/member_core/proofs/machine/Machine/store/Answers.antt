@@ -28,7 +28,8 @@ returns-in_err-keep-clause-formed g c = subst IsFormed (sym c.in_err-keep.ensure
 pub ask_again-requires-clause-sound : goal.ask_again-requires-clause-sound
 ask_again-requires-clause-sound g c =
     let post : Post = record { content = c.args.parts.content.now; signature = c.args.parts.signature.now } in
-    subst IsSound (sym c.in_ok-keep.ensures.kept) (sound-stays c.args.self.now (slot_named c.args.header) post c.requires.post c.requires.sound)
+    subst IsSound (sym c.in_ok-keep.ensures.kept) (sound-stays c.args.self.now (slot_named c.args.header) post c.requires.post
+    c.requires.sound)
 
 pub ask_again-requires-clause-going : goal.ask_again-requires-clause-going
 ask_again-requires-clause-going g c = subst (λ (m : Machine). IsOpen m.ending) (sym c.in_ok-keep.ensures.kept) c.requires.going
@@ -100,7 +101,8 @@ pub returns-in-Blamed-clause-runs : goal.returns-in-Blamed-clause-runs
 returns-in-Blamed-clause-runs g c = c.in_ok-advance.ensures.runs
 
 pub returns-in-Blamed-clause-handed : goal.returns-in-Blamed-clause-handed
-returns-in-Blamed-clause-handed g c = c.in_ok-advance.ensures.handed ∙ c.in_ok-ask_again.ensures.handed ∙ ap (λ (m : Machine). m.handed) c.in_ok-keep.ensures.kept
+returns-in-Blamed-clause-handed g c = c.in_ok-advance.ensures.handed ∙ c.in_ok-ask_again.ensures.handed
+    ∙ ap (λ (m : Machine). m.handed) c.in_ok-keep.ensures.kept
 
 pub returns-in-Blamed-clause-answer : goal.returns-in-Blamed-clause-answer
 returns-in-Blamed-clause-answer g c = sym (ap answer_behind c.in-Blamed.is)
@@ -110,9 +112,11 @@ returns-in-Blamed-clause-stands g c = λ start c' a s.
     let slot = slot_named c.args.header in
     let post : Post = record { content = c.args.parts.content.now; signature = c.args.parts.signature.now } in
     let b : Actor = record a { log = filled a.log slot post } in
-    let kept = stands-stays (g.C.Conduct.replies c.args.conduct.now) start c' a (holdings_of c.args.self.now) slot post c.requires.post.others c.requires.going s in
+    let kept = stands-stays (g.C.Conduct.replies c.args.conduct.now) start c' a (holdings_of c.args.self.now) slot post
+    c.requires.post.others c.requires.going s in
     c.in_ok-advance.ensures.stands start c' _ (c.in_ok-ask_again.ensures.stands start c' b
-    (subst (λ (m : Machine). StandsFor (g.C.Conduct.replies c.args.conduct.now) start c' b (holdings_of m)) (sym c.in_ok-keep.ensures.kept) kept))
+    (subst (λ (m : Machine). StandsFor (g.C.Conduct.replies c.args.conduct.now) start c' b (holdings_of m)) (sym c.in_ok-keep.ensures.kept)
+    kept))
 
 pub returns-in_default : goal.returns-in_default
 returns-in_default g c = record {
@@ -125,7 +129,9 @@ returns-in_default g c = record {
       let slot = slot_named c.args.header in
       let post : Post = record { content = c.args.parts.content.now; signature = c.args.parts.signature.now } in
       let b : Actor = record a { log = filled a.log slot post } in
-      let kept = stands-stays (g.C.Conduct.replies c.args.conduct.now) start c' a (holdings_of c.args.self.now) slot post c.requires.post.others c.requires.going s in
+      let kept = stands-stays (g.C.Conduct.replies c.args.conduct.now) start c' a (holdings_of c.args.self.now) slot post
+      c.requires.post.others c.requires.going s in
       c.in_ok-advance.ensures.stands start c' _ (c.in_ok-ask_again.ensures.stands start c' b
-      (subst (λ (m : Machine). StandsFor (g.C.Conduct.replies c.args.conduct.now) start c' b (holdings_of m)) (sym c.in_ok-keep.ensures.kept) kept));
+      (subst (λ (m : Machine). StandsFor (g.C.Conduct.replies c.args.conduct.now) start c' b (holdings_of m))
+      (sym c.in_ok-keep.ensures.kept) kept));
 }

@@ -52,17 +52,23 @@ pub returns-then-shuffle-eq1 : goal.returns-then-shuffle-eq1
 returns-then-shuffle-eq1 c = IfOk-weaker c.submit.result _ _ (λ submission said config own seat secrets item.
     let m = c.args.self.now in
     let past : List (List ℕ) = past_of m.log m.stage in
-    let keys = keys-here m.log m.stage c.in-Some.keys (carried-keys m.log m.stage m.keys c.in-Some.keys c.in-Some.is c.requires.ready.keys) c.requires.behind c.requires.ready.past in
+    let keys = keys-here m.log m.stage c.in-Some.keys (carried-keys m.log m.stage m.keys c.in-Some.keys c.in-Some.is c.requires.ready.keys)
+    c.requires.behind c.requires.ready.past in
     said config own past seat
-    (secrets-for config m.secrets c.args.shuffle c.secrets_of-secrets.result.now secrets c.requires.first c.requires.last c.secrets_of-secrets.ensures)
-    (shuffle-keys config m past c.args.shuffle 1 c.in-Some.keys.first c.requires.formed seat (sym c.if-shuffle-eq1.true) keys.first) item) c.submit.ensures
+    (secrets-for config m.secrets c.args.shuffle c.secrets_of-secrets.result.now secrets c.requires.first c.requires.last
+    c.secrets_of-secrets.ensures)
+    (shuffle-keys config m past c.args.shuffle 1 c.in-Some.keys.first c.requires.formed seat (sym c.if-shuffle-eq1.true) keys.first) item)
+    c.submit.ensures
 
 pub returns-else-shuffle-eq1 : goal.returns-else-shuffle-eq1
 returns-else-shuffle-eq1 c = IfOk-weaker c.submit-else-shuffle-eq1.result _ _ (λ submission said config own seat secrets item.
     let m = c.args.self.now in
     let past : List (List ℕ) = past_of m.log m.stage in
-    let keys = keys-here m.log m.stage c.in-Some.keys (carried-keys m.log m.stage m.keys c.in-Some.keys c.in-Some.is c.requires.ready.keys) c.requires.behind c.requires.ready.past in
+    let keys = keys-here m.log m.stage c.in-Some.keys (carried-keys m.log m.stage m.keys c.in-Some.keys c.in-Some.is c.requires.ready.keys)
+    c.requires.behind c.requires.ready.past in
     let second : 2 ≡ c.args.shuffle = omega arith in
     said config own past seat
-    (secrets-for config m.secrets c.args.shuffle c.secrets_of-secrets.result.now secrets c.requires.first c.requires.last c.secrets_of-secrets.ensures)
-    (shuffle-keys config m past c.args.shuffle 2 c.in-Some.keys.second c.requires.formed seat second keys.second) item) c.submit-else-shuffle-eq1.ensures
+    (secrets-for config m.secrets c.args.shuffle c.secrets_of-secrets.result.now secrets c.requires.first c.requires.last
+    c.secrets_of-secrets.ensures)
+    (shuffle-keys config m past c.args.shuffle 2 c.in-Some.keys.second c.requires.formed seat second keys.second) item)
+    c.submit-else-shuffle-eq1.ensures

@@ -28,19 +28,26 @@ pub returns-in-Err-clause-ending : goal.returns-in-Err-clause-ending
 returns-in-Err-clause-ending g c = idle-tells (Ignored (Frame c.in-Err.at)) c.args.self.now.ending c.requires.going (λ e. cc) (λ e. cc)
 
 pub returns-in-Err-clause-takes : goal.returns-in-Err-clause-takes
-returns-in-Err-clause-takes g c = λ start c' delivered s. takes-unframed (g.C.Conduct.replies c.args.conduct.now) start c' delivered c.args.self.now c.args.bytes.now c.in-Err.at c.requires.going c.in-Err.ensures s
+returns-in-Err-clause-takes g c = λ start c' delivered s. takes-unframed (g.C.Conduct.replies c.args.conduct.now) start c' delivered
+    c.args.self.now c.args.bytes.now c.in-Err.at c.requires.going c.in-Err.ensures s
 
 pub returns-in-Err-clause-idle : goal.returns-in-Err-clause-idle
 returns-in-Err-clause-idle g c = λ start c' delivered s leaves. refl
 
 pub check_parts-requires-clause-least : goal.check_parts-requires-clause-least
-check_parts-requires-clause-least g c = (let frame = framed-fits c.args.bytes.now (record { content = c.in-Ok.parts.content.now; signature = c.in-Ok.parts.signature.now }) c.in-Ok.ensures in let least = frame.least in let most = frame.most in omega (arith, least, most))
+check_parts-requires-clause-least g c = (let frame = framed-fits c.args.bytes.now
+    (record { content = c.in-Ok.parts.content.now; signature = c.in-Ok.parts.signature.now }) c.in-Ok.ensures in let least = frame.least in
+    let most = frame.most in omega (arith, least, most))
 
 pub check_parts-requires-clause-most : goal.check_parts-requires-clause-most
-check_parts-requires-clause-most g c = (let frame = framed-fits c.args.bytes.now (record { content = c.in-Ok.parts.content.now; signature = c.in-Ok.parts.signature.now }) c.in-Ok.ensures in let least = frame.least in let most = frame.most in omega (arith, least, most))
+check_parts-requires-clause-most g c = (let frame = framed-fits c.args.bytes.now
+    (record { content = c.in-Ok.parts.content.now; signature = c.in-Ok.parts.signature.now }) c.in-Ok.ensures in let least = frame.least in
+    let most = frame.most in omega (arith, least, most))
 
 pub check_parts-requires-clause-signature : goal.check_parts-requires-clause-signature
-check_parts-requires-clause-signature g c = (let frame = framed-fits c.args.bytes.now (record { content = c.in-Ok.parts.content.now; signature = c.in-Ok.parts.signature.now }) c.in-Ok.ensures in let least = frame.least in let most = frame.most in omega (arith, least, most))
+check_parts-requires-clause-signature g c = (let frame = framed-fits c.args.bytes.now
+    (record { content = c.in-Ok.parts.content.now; signature = c.in-Ok.parts.signature.now }) c.in-Ok.ensures in let least = frame.least in
+    let most = frame.most in omega (arith, least, most))
 
 pub returns-in-Err-check_parts-clause-formed : goal.returns-in-Err-check_parts-clause-formed
 returns-in-Err-check_parts-clause-formed g c = c.requires.sound.formed
@@ -61,10 +68,12 @@ pub returns-in-Err-check_parts-clause-conduct : goal.returns-in-Err-check_parts-
 returns-in-Err-check_parts-clause-conduct g c = λ leaves. refl
 
 pub returns-in-Err-check_parts-clause-ending : goal.returns-in-Err-check_parts-clause-ending
-returns-in-Err-check_parts-clause-ending g c = idle-tells (Ignored c.in-Err-check_parts.refusal) c.args.self.now.ending c.requires.going (λ e. cc) (λ e. cc)
+returns-in-Err-check_parts-clause-ending g c = idle-tells (Ignored c.in-Err-check_parts.refusal) c.args.self.now.ending c.requires.going
+    (λ e. cc) (λ e. cc)
 
 pub returns-in-Err-check_parts-clause-takes : goal.returns-in-Err-check_parts-clause-takes
-returns-in-Err-check_parts-clause-takes g c = λ start c' delivered s. takes-refused (g.C.Conduct.replies c.args.conduct.now) start c' delivered c.args.self.now c.args.bytes.now (record { content = c.in-Ok.parts.content.now; signature = c.in-Ok.parts.signature.now })
+returns-in-Err-check_parts-clause-takes g c = λ start c' delivered s. takes-refused (g.C.Conduct.replies c.args.conduct.now) start c'
+    delivered c.args.self.now c.args.bytes.now (record { content = c.in-Ok.parts.content.now; signature = c.in-Ok.parts.signature.now })
     c.in-Err-check_parts.refusal c.requires.going c.in-Ok.ensures c.in-Err-check_parts.ensures s
 
 pub returns-in-Err-check_parts-clause-idle : goal.returns-in-Err-check_parts-clause-idle
@@ -92,7 +101,9 @@ pub returns-then-header-self-clause-ending : goal.returns-then-header-self-claus
 returns-then-header-self-clause-ending g c = idle-tells (Own) c.args.self.now.ending c.requires.going (λ e. cc) (λ e. cc)
 
 pub returns-then-header-self-clause-takes : goal.returns-then-header-self-clause-takes
-returns-then-header-self-clause-takes g c = λ start c' delivered s. takes-own (g.C.Conduct.replies c.args.conduct.now) start c' delivered c.args.self.now c.args.bytes.now c.in-Ok-check_parts.header (record { content = c.in-Ok.parts.content.now; signature = c.in-Ok.parts.signature.now })
+returns-then-header-self-clause-takes g c = λ start c' delivered s. takes-own (g.C.Conduct.replies c.args.conduct.now) start c' delivered
+    c.args.self.now c.args.bytes.now c.in-Ok-check_parts.header
+    (record { content = c.in-Ok.parts.content.now; signature = c.in-Ok.parts.signature.now })
     c.requires.going c.in-Ok.ensures c.in-Ok-check_parts.ensures c.if-header-self.true s
 
 pub returns-then-header-self-clause-idle : goal.returns-then-header-self-clause-idle
@@ -105,7 +116,8 @@ pub hear-requires-clause-going : goal.hear-requires-clause-going
 hear-requires-clause-going g c = c.requires.going
 
 pub hear-requires-clause-post : goal.hear-requires-clause-post
-hear-requires-clause-post g c = another c.args.self.now c.args.bytes.now c.in-Ok-check_parts.header (record { content = c.in-Ok.parts.content.now; signature = c.in-Ok.parts.signature.now }) c.in-Ok.ensures
+hear-requires-clause-post g c = another c.args.self.now c.args.bytes.now c.in-Ok-check_parts.header
+    (record { content = c.in-Ok.parts.content.now; signature = c.in-Ok.parts.signature.now }) c.in-Ok.ensures
     c.in-Ok-check_parts.ensures c.if-header-self.false
 
 pub returns-clause-formed : goal.returns-clause-formed

@@ -15,22 +15,30 @@ pub returns-then-is_stage_complete-clause-stands : goal.returns-then-is_stage_co
 returns-then-is_stage_complete-clause-stands g c =
     if-ok (λ _. (now start : Replies) (c' : Configuration) (a : Actor) → StandsFor now start c' a (holdings_of c.args.self.now)
     → StandsFor now start c' (actor_behind_step start c' a) (holdings_of c.pass.new.self))
-    (λ _. (start : Replies) (c' : Configuration) (a : Actor) → StandsFor (g.C.Conduct.replies c.args.conduct.now) start c' a (holdings_of c.args.self.now)
+    (λ _. (start : Replies) (c' : Configuration) (a : Actor) → StandsFor (g.C.Conduct.replies c.args.conduct.now) start c' a
+    (holdings_of c.args.self.now)
     → StandsFor (g.C.Conduct.replies c.args.conduct.now) start c' (actor_behind_step start c' a) (holdings_of c.pass.new.self))
     c.pass.result (λ _ stands. stands (g.C.Conduct.replies c.args.conduct.now)) c.pass.ensures.stands
 
 pub returns-then-is_due-clause-stands : goal.returns-then-is_due-clause-stands
 returns-then-is_due-clause-stands g c =
-    if-ok (λ _. (start : Replies) (c' : Configuration) (a : Actor) → StandsFor (g.C.Conduct.replies c.args.conduct.now) start c' a (holdings_of c.args.self.now)
-    → StandsFor (g.C.Conduct.replies c.speak.new.conduct) start c' (actor_behind_question start c' a (content_to_say start c' a.stand)) (holdings_of c.speak.new.self))
-    (λ _. (start : Replies) (c' : Configuration) (a : Actor) → StandsFor (g.C.Conduct.replies c.args.conduct.now) start c' a (holdings_of c.args.self.now)
+    if-ok (λ _. (start : Replies) (c' : Configuration) (a : Actor)
+    → StandsFor (g.C.Conduct.replies c.args.conduct.now) start c' a (holdings_of c.args.self.now)
+    → StandsFor (g.C.Conduct.replies c.speak.new.conduct) start c' (actor_behind_question start c' a (content_to_say start c' a.stand))
+    (holdings_of c.speak.new.self))
+    (λ _. (start : Replies) (c' : Configuration) (a : Actor) → StandsFor (g.C.Conduct.replies c.args.conduct.now) start c' a
+    (holdings_of c.args.self.now)
     → StandsFor (g.C.Conduct.replies c.speak.new.conduct) start c' (actor_behind_step start c' a) (holdings_of c.speak.new.self))
-    c.speak.result (λ _ stands start c' a is. subst (λ (b : Actor). StandsFor (g.C.Conduct.replies c.speak.new.conduct) start c' b (holdings_of c.speak.new.self))
-    (sym (step-speaks c.args.self.now (g.C.Conduct.replies c.args.conduct.now) start c' a c.requires.sound.formed (sym c.is_open.ensures ∙ c.if-not-is_open.false)
-    (sym c.is_stage_complete.ensures ∙ c.if-is_stage_complete.false) (sym c.is_due.ensures ∙ c.if-is_due.true) is)) (stands start c' a is)) c.speak.ensures.stands
+    c.speak.result (λ _ stands start c' a is. subst (λ (b : Actor). StandsFor (g.C.Conduct.replies c.speak.new.conduct) start c' b
+    (holdings_of c.speak.new.self))
+    (sym (step-speaks c.args.self.now (g.C.Conduct.replies c.args.conduct.now) start c' a c.requires.sound.formed
+    (sym c.is_open.ensures ∙ c.if-not-is_open.false)
+    (sym c.is_stage_complete.ensures ∙ c.if-is_stage_complete.false) (sym c.is_due.ensures ∙ c.if-is_due.true) is)) (stands start c' a is))
+    c.speak.ensures.stands
 
 pub returns-clause-stands : goal.returns-clause-stands
 returns-clause-stands g c start c' a is =
     subst (λ (b : Actor). StandsFor (g.C.Conduct.replies c.args.conduct.now) start c' b (holdings_of c.args.self.now))
-    (sym (step-rests c.args.self.now (g.C.Conduct.replies c.args.conduct.now) start c' a c.requires.sound.formed (sym c.is_open.ensures ∙ c.if-not-is_open.false)
+    (sym (step-rests c.args.self.now (g.C.Conduct.replies c.args.conduct.now) start c' a c.requires.sound.formed
+    (sym c.is_open.ensures ∙ c.if-not-is_open.false)
     (sym c.is_stage_complete.ensures ∙ c.if-is_stage_complete.false) (sym c.is_due.ensures ∙ c.if-is_due.false) is)) is

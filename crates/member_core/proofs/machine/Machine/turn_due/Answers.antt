@@ -34,7 +34,8 @@ turn_body-requires-clause-last c =
 pub turn_body-requires-clause-complete : goal.turn_body-requires-clause-complete
 turn_body-requires-clause-complete c =
     let m = c.args.self.now in
-    subst (λ (s : ℕ). IsSome (before m.log s)) (kind-place m.log.shape m.stage (Shuffle c.args.shuffle m.seat.number) c.requires.kind).at c.requires.ready.past
+    subst (λ (s : ℕ). IsSome (before m.log s)) (kind-place m.log.shape m.stage (Shuffle c.args.shuffle m.seat.number) c.requires.kind).at
+    c.requires.ready.past
 
 pub returns : goal.returns
 returns c = IfOk-weaker c.turn_body.result _ _ (λ body said now.
@@ -42,5 +43,6 @@ returns c = IfOk-weaker c.turn_body.result _ _ (λ body said now.
     let placed = kind-place m.log.shape m.stage (Shuffle c.args.shuffle m.seat.number) c.requires.kind in
     let within = placed.kind_in in
     turn-due now m c.args.shuffle body c.requires.formed c.requires.ready c.requires.asked c.requires.kind (λ config seat secrets.
-    said config seat (secrets-for config m.secrets c.args.shuffle c.secrets_of-secrets.result.now secrets within.0 within.1 c.secrets_of-secrets.ensures)
+    said config seat (secrets-for config m.secrets c.args.shuffle c.secrets_of-secrets.result.now secrets within.0 within.1
+    c.secrets_of-secrets.ensures)
     ∙ ap (λ (s : ℕ). turn_row config (past_of m.log s) c.args.shuffle) (sym placed.at))) c.turn_body.ensures

@@ -14,7 +14,8 @@ use Rattle.member_core.proofs.member.Member.deliver.Goals as goal
 pub same-self : goal.same-self
 same-self g c = refl
 
-stopped-now : (g : Rattle.member_core.proofs.member.Member.deliver.Given.Over) (c : goal.In-Stopped g) → IsOutOfMemory c.args.self.now.holds.ending
+stopped-now : (g : Rattle.member_core.proofs.member.Member.deliver.Given.Over) (c : goal.In-Stopped g)
+    → IsOutOfMemory c.args.self.now.holds.ending
 stopped-now g c =
     subst (λ (m : Membership g.row.C.Denot). IsOutOfMemory m.holds.ending) c.self.view_is (subst IsOutOfMemory (sym c.in-Stopped.is) tt)
 
@@ -23,7 +24,11 @@ returns-in-Stopped-clause-idle g c start c' delivered stands leaves =
     absurd (stopped-stands g.C.Conduct.replies start c' delivered c.args.self.now stands (stopped-now g c))
 
 pub returns-in-Stopped-clause-finished : goal.returns-in-Stopped-clause-finished
-returns-in-Stopped-clause-finished g c = (λ e. absurd cc, λ ended. absurd (stopped-ended c.args.self.now.holds.ending (stopped-now g c) ended))
+returns-in-Stopped-clause-finished g c = (
+  λ e. absurd cc,
+  λ ended. absurd
+      (stopped-ended c.args.self.now.holds.ending (stopped-now g c) ended),
+)
 
 pub returns-in-Stopped-clause-evidence : goal.returns-in-Stopped-clause-evidence
 returns-in-Stopped-clause-evidence g c = (λ e. absurd cc, λ both. absurd (open-stops c.args.self.now.holds.ending both.0 (stopped-now g c)))
@@ -48,7 +53,8 @@ ended-now g c =
 
 pub returns-in-Done-clause-stands : goal.returns-in-Done-clause-stands
 returns-in-Done-clause-stands g c start c' delivered stands =
-    ended-stands g.C.Conduct.replies start c' delivered c.args.bytes.now c.args.self.now (λ i. omega (arith, c.type_inv.bytes i)) (ended-now g c)
+    ended-stands g.C.Conduct.replies start c' delivered c.args.bytes.now c.args.self.now (λ i. omega (arith, c.type_inv.bytes i))
+    (ended-now g c)
     stands
 
 pub returns-in-Done-clause-plain_member : goal.returns-in-Done-clause-plain_member
@@ -57,7 +63,8 @@ returns-in-Done-clause-plain_member g c c' delivered is =
 
 pub returns-in-Done-clause-run : goal.returns-in-Done-clause-run
 returns-in-Done-clause-run g c c' delivered is =
-    plain-run g.C.Conduct.replies c' (delivered ++ c.args.bytes.now ∷ []) c.args.self.now (returns-in-Done-clause-plain_member g c c' delivered is)
+    plain-run g.C.Conduct.replies c' (delivered ++ c.args.bytes.now ∷ []) c.args.self.now
+    (returns-in-Done-clause-plain_member g c c' delivered is)
 
 pub returns-in-Done-clause-answer : goal.returns-in-Done-clause-answer
 returns-in-Done-clause-answer g c start c' delivered stands =

@@ -36,7 +36,11 @@ returns-in_default-post_made g c =
 
 pub overflow_add-self : goal.overflow_add-self
 overflow_add-self g c =
-    omega (arith, handed-small c.self.inside.machine _ c.self.invariant.formed (sym c.post_made.ensures.post ∙ ap option_copied c.in-Some.is))
+    omega (
+      arith,
+      handed-small c.self.inside.machine _ c.self.invariant.formed
+          (sym c.post_made.ensures.post ∙ ap option_copied c.in-Some.is),
+    )
 
 pub invariant_of-self : goal.invariant_of-self
 invariant_of-self g c =
@@ -62,13 +66,19 @@ returns-in-Ok g c =
       stands = λ start c' delivered stands. subst (Stands g.C.Conduct.replies start c' delivered) (sym next)
           (stands-handed g.C.Conduct.replies start c' delivered m c.in-Ok.bytes stands);
       plain_member = λ c' delivered is. subst (IsPlainMember g.C.Conduct.replies c' delivered) (sym next)
-          (record { start = is.start; plain = is.plain; stands = stands-handed g.C.Conduct.replies is.start c' delivered m c.in-Ok.bytes is.stands });
+          (record {
+            start = is.start;
+            plain = is.plain;
+            stands = stands-handed g.C.Conduct.replies is.start c' delivered m c.in-Ok.bytes
+                is.stands;
+          });
       said = λ c' delivered is. next-said g.C.Conduct.replies c' delivered m _ bytes is;
       handed = next;
       room = subst (λ (m : Membership D). m.holds.handed ≤ length (posts_made m.holds)) c.self.view_is c.self.invariant.formed.handed;
       none = λ e err. absurd cc;
       secrets = subst (λ (m : Membership D). HoldsNeeded m.holds) (sym next)
-          (needed-handed m.holds (m.holds.handed + 1) (subst (λ (m : Membership D). HoldsNeeded m.holds) c.self.view_is c.self.invariant.needed));
+          (needed-handed m.holds (m.holds.handed + 1) (subst (λ (m : Membership D). HoldsNeeded m.holds) c.self.view_is
+          c.self.invariant.needed));
       runs = subst (λ (m : Membership D). IsRunning m.holds.ending) (sym next) runs;
       stopped = λ err. absurd cc;
       stays = λ stopped. absurd (runs-still m.holds.ending runs stopped);

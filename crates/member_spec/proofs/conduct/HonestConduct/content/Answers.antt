@@ -5,4 +5,5 @@ use Rattle.member_spec.proofs.Named.{names_slot}
 use Rattle.member_spec.proofs.conduct.HonestConduct.content.Goals as goal
 
 pub returns-clause-slot : goal.returns-clause-slot
-returns-clause-slot c = λ slot has. subst (λ (bytes : List ℕ). KeepsSlot c.args.log.now.shape slot bytes) (sym c.of.ensures) (names_slot c.args.log.now.shape slot c.args.bytes.items has)
+returns-clause-slot c = λ slot has. subst (λ (bytes : List ℕ). KeepsSlot c.args.log.now.shape slot bytes) (sym c.of.ensures)
+    (names_slot c.args.log.now.shape slot c.args.bytes.items has)

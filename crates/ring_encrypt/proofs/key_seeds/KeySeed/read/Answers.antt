@@ -18,14 +18,17 @@ returns-in_default-clause-refused c = λ key m sealed.
 
 pub returns-in_default-unpack_short-clause-refused : goal.returns-in_default-unpack_short-clause-refused
 returns-in_default-unpack_short-clause-refused c = λ key m sealed.
-    let back = ap read_packed (sym (back_of c.bytes-bytes.result.now c.args.c.now c.bytes-bytes.ensures.value c.bytes-bytes.ensures.length)) in
-    (sealed_reads c.args.c.now key m sealed).1 c.in_default-unpack_short.field-0 (back ∙ sym c.unpack_short.ensures.value ∙ c.in_default-unpack_short.is)
+    let back = ap read_packed (sym (back_of c.bytes-bytes.result.now c.args.c.now c.bytes-bytes.ensures.value c.bytes-bytes.ensures.length))
+    in
+    (sealed_reads c.args.c.now key m sealed).1 c.in_default-unpack_short.field-0
+    (back ∙ sym c.unpack_short.ensures.value ∙ c.in_default-unpack_short.is)
 
 pub returns-clause-value : goal.returns-clause-value
 returns-clause-value c =
     let bytes = c.bytes-bytes.result.now in
     let secret = c.self.invariant.1 ∙ ap secret_of c.self.view_is in
-    reads_decoded c.args.self.now c.args.c.now (take 1792 bytes) (take 448 (drop 1792 bytes)) c.in-Ok.u c.in-Ok-unpack_short.v c.mul.result c.read_message.result
+    reads_decoded c.args.self.now c.args.c.now (take 1792 bytes) (take 448 (drop 1792 bytes)) c.in-Ok.u c.in-Ok-unpack_short.v c.mul.result
+    c.read_message.result
     (ap (λ (b : List ℕ). take 1792 b) c.bytes-bytes.ensures.value)
     (back_of bytes c.args.c.now c.bytes-bytes.ensures.value c.bytes-bytes.ensures.length)
     (sym c.unpack.ensures.value ∙ c.in-Ok.is)

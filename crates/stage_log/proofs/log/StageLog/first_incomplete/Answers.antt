@@ -9,13 +9,15 @@ use Rattle.stage_log.proofs.log.StageLog.first_incomplete.Goals as goal
 pub returns-then-not-complete : goal.returns-then-not-complete
 returns-then-not-complete c =
     let count = ap (λ (log : Log). stage_count log.shape) c.self.view_is in
-    sym (first_below-some (incomplete_stage c.args.self.now) (stage_count c.args.self.now.shape) c.loop-stage.stage c.loop-stage.stage (omega (arith, count)) c.loop-stage.invariant
+    sym (first_below-some (incomplete_stage c.args.self.now) (stage_count c.args.self.now.shape) c.loop-stage.stage c.loop-stage.stage
+    (omega (arith, count)) c.loop-stage.invariant
     (incomplete-some c.args.self.now c.loop-stage.stage (sym c.complete.ensures ∙ c.if-not-complete.true)))
 
 pub returns : goal.returns
 returns c =
     let count = ap (λ (log : Log). stage_count log.shape) c.self.view_is in
-    sym (first_below-none (incomplete_stage c.args.self.now) (stage_count c.args.self.now.shape) (λ k lt. c.loop-stage.invariant k (omega (arith, count))))
+    sym (first_below-none (incomplete_stage c.args.self.now) (stage_count c.args.self.now.shape)
+    (λ k lt. c.loop-stage.invariant k (omega (arith, count))))
 
 pub loop-stage-preserved : goal.loop-stage-preserved
 loop-stage-preserved c = λ earlier lt.
@@ -23,5 +25,6 @@ loop-stage-preserved c = λ earlier lt.
       | inl before ↦ c.loop-stage.invariant earlier before
       | inr here ↦
           let same : c.loop-stage.stage ≡ earlier = omega arith in
-          subst (λ (t : ℕ). incomplete_stage c.args.self.now t ≡ None) same (complete-none c.args.self.now c.loop-stage.stage (sym c.complete.ensures ∙ c.if-not-complete.false))
+          subst (λ (t : ℕ). incomplete_stage c.args.self.now t ≡ None) same
+          (complete-none c.args.self.now c.loop-stage.stage (sym c.complete.ensures ∙ c.if-not-complete.false))
     ]

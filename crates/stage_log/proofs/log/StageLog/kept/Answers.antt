@@ -10,7 +10,8 @@ index-requires c = omega (arith, number-within _ c.args.slot c.self.invariant (s
 pub returns-clause-post : goal.returns-clause-post
 returns-clause-post c =
     subst (λ (log : Log). option_copied c.as_ref.result ≡ kept_in log c.args.slot) c.self.view_is
-    (c.as_ref.ensures.value ∙ sym (kept_in-at _ c.args.slot c.slot_number-number.result c.index.result.now c.self.invariant (sym c.is_slot.ensures ∙ c.if-not-is_slot.false) c.slot_number-number.ensures c.index.ensures))
+    (c.as_ref.ensures.value ∙ sym (kept_in-at _ c.args.slot c.slot_number-number.result c.index.result.now c.self.invariant
+    (sym c.is_slot.ensures ∙ c.if-not-is_slot.false) c.slot_number-number.ensures c.index.ensures))
 
 pub returns-clause-content : goal.returns-clause-content
 returns-clause-content c =

@@ -7,5 +7,6 @@ loop-sender-preserved c =
     let bit = missing_bit c.args.self.now c.args.stage in
     let next = bits-next bit c.loop-sender.sender c.loop-sender.bits c.loop-sender.auto.sender c.loop-sender.invariant.0 in (
       rw c.missing_bit-bits.ensures.bit next,
-      bits-below c.loop-sender.sender c.loop-sender.bits c.missing_bit-bits.result c.loop-sender.auto.sender c.loop-sender.invariant.1 c.missing_bit-bits.ensures.most,
+      bits-below c.loop-sender.sender c.loop-sender.bits c.missing_bit-bits.result c.loop-sender.auto.sender c.loop-sender.invariant.1
+          c.missing_bit-bits.ensures.most,
     )

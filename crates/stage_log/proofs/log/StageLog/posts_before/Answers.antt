@@ -15,9 +15,12 @@ slice_bounds-copies-end c =
 
 pub returns : goal.returns
 returns c =
-    let front : take (slots_before c.args.self.now.shape c.args.stage) c.args.self.now.posts ≡ take c.slots_before-end.result c.deref.result.now =
+    let front : take (slots_before c.args.self.now.shape c.args.stage) c.args.self.now.posts ≡ take c.slots_before-end.result
+    c.deref.result.now =
     ap (λ (log : Log). take (slots_before log.shape c.args.stage) log.posts) (sym c.self.view_is)
     ∙ ap (λ (k : ℕ). take k c.self.inside.posts.items) (sym c.slots_before-end.ensures.value)
     ∙ ap (λ (posts : List (Option Post)). take c.slots_before-end.result posts) (sym c.deref.ensures.value) in
-    kept-ok (λ posts. posts.items) (before c.args.self.now c.args.stage) (posts_kept (take c.slots_before-end.result c.deref.result.now)) c.copies.result
-    (before-kept c.args.self.now c.args.stage c.requires ∙ ap (λ (places : List (Option Post)). Some (posts_kept places)) front) c.copies.ensures
+    kept-ok (λ posts. posts.items) (before c.args.self.now c.args.stage) (posts_kept (take c.slots_before-end.result c.deref.result.now))
+    c.copies.result
+    (before-kept c.args.self.now c.args.stage c.requires ∙ ap (λ (places : List (Option Post)). Some (posts_kept places)) front)
+    c.copies.ensures

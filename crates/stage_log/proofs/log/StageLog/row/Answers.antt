@@ -29,8 +29,10 @@ slice_bounds-result-end c =
 
 pub returns-clause-posts : goal.returns-clause-posts
 returns-clause-posts c =
-    let next : c.slots_before-end.result ≡ slots_before (shape_of c.self.inside.shape) (c.args.stage + 1) = c.slots_before-end.ensures.value ∙ before-next _ c.args.stage c.saturating_add.result c.self.invariant (omega arith) c.saturating_add.ensures in
-    subst (λ (log : Log). slice_range c.deref.result.now c.slots_before-first.result c.slots_before-end.result ≡ posts_in log c.args.stage) c.self.view_is
+    let next : c.slots_before-end.result ≡ slots_before (shape_of c.self.inside.shape) (c.args.stage + 1) = c.slots_before-end.ensures.value
+    ∙ before-next _ c.args.stage c.saturating_add.result c.self.invariant (omega arith) c.saturating_add.ensures in
+    subst (λ (log : Log). slice_range c.deref.result.now c.slots_before-first.result c.slots_before-end.result ≡ posts_in log c.args.stage)
+    c.self.view_is
     (rw (c.deref.ensures.value, c.slots_before-first.ensures.value, next) refl)
 
 pub returns-clause-kept : goal.returns-clause-kept

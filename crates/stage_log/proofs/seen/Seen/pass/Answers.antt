@@ -22,5 +22,6 @@ returns c = λ posts e seen.
     ∙ next_view c.args.log.now c.args.stage (c.args.stage + 1) posts (omega arith) e in
     record {
       view = subst (λ (v : List ℕ). Carries c.carry.new.running v []) next (c.carry.ensures view seen.view);
-      right = right-next c.args.log.now c.args.stage posts c.args.self.now.right c.is_row_right.result c.row-row.ensures.form e seen.right here;
+      right = right-next c.args.log.now c.args.stage posts c.args.self.now.right c.is_row_right.result c.row-row.ensures.form e seen.right
+          here;
     }

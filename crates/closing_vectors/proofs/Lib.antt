@@ -1,0 +1,2 @@
+mod ShortLogs
+mod Reached

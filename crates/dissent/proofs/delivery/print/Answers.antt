@@ -1,8 +1,0 @@
-use Rattle.dissent.proofs.Printing.{broken_at_once}
-use Rattle.dissent.proofs.delivery.print.Goals as goal
-
-pub returns : goal.returns
-returns g c = record {
-  delivers = rw c.print_last.ensures.status (broken_at_once _ _ _ _ _ (rw c.in-Ok.ensures at c.print_last.ensures.part));
-  count = c.print_last.ensures.no_fall;
-}

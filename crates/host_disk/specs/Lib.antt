@@ -1,0 +1,4 @@
+pub mod Placed
+pub mod Memory
+pub mod Faults
+pub mod Room

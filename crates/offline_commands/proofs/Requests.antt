@@ -1,0 +1,101 @@
+-- What words spell, and what words of other numbers ask for.
+use Rattle.std.proofs.Common.{◌≡◌, ◌≢◌, ℕ, ◌+◌, ◌*◌, ◌<◌, ◌^◌, Bool, true, false, ◌&&◌, nat_lt, List, [], ◌∷◌, length, get_or, Some, None, Result, Ok, Err, if◌then◌else◌, refl, sym, ap, ◌∙◌, arith}
+use Rattle.std.specs.Prelude.{slice_index, String, string_bytes, bytes_eq, Option, option_map, option_and_then}
+use Rattle.std.specs.declared.alloc.Global.{Global}
+use Rattle.std.proofs.lemmas.List.{length-map}
+use Rattle.std.specs.Result.{OkIff, result_ok}
+use Rattle.std.specs.Str.{all_ascii_digits}
+use Rattle.std.specs.Str.Parse.{digits_value, ParsesUnsigned}
+use Rattle.std.proofs.lemmas.Bool.{ltb-true, lt-ltb}
+use Rattle.std.proofs.lemmas.Str.Parse.{IsNumeralModel, numerals_by_value, tells_all_ascii_digits, parse_plain}
+use Rattle.offline_commands.specs.Command.{Request, Form, number_of, values_behind, request_by, are_words, texts}
+
+own : IsNumeralModel (λ ds. all_ascii_digits ds ≡ true) (digits_value 10)
+own = numerals_by_value _ tells_all_ascii_digits
+
+all_hold : (a b c : Bool) (n : ℕ) → a ≡ true → b ≡ true → c ≡ true → (if a && b && c then Some n else None) ≡ Some n
+all_hold a b c n ea eb ec = rw (ea, eb, ec) refl
+
+one_fails : (a b c : Bool) (n : ℕ) → (a ≡ true → b ≡ true → c ≡ true → ⊥) → (if a && b && c then Some n else None) ≡ None
+one_fails true true true n never = absurd (never refl refl refl)
+one_fails false b c n never = refl
+one_fails true false c n never = refl
+one_fails true true false n never = refl
+
+not_empty : (text : List ℕ) → 48 < get_or text 0 0 → 0 < length text
+not_empty [] first = absurd (omega arith)
+not_empty (x ∷ xs) first = omega arith
+
+number_found : (E : Type 0) (text : List ℕ) (read : Result ℕ E) → 48 < get_or text 0 0
+    → OkIff read ((all_ascii_digits text ≡ true) × (0 < length text) × (digits_value 10 text < 2 ^ 64)) (digits_value 10 text)
+    → result_ok read ≡ number_of text
+number_found E text (Ok n) first ((digits, more, below), is) =
+    ap Some is ∙ sym (all_hold (nat_lt 48 (slice_index text 0)) (all_ascii_digits text) (nat_lt (digits_value 10 text) (2 ^ 64))
+    (digits_value 10 text)
+    (lt-ltb _ _ first) digits (lt-ltb _ _ below))
+number_found E text (Err e) first never =
+    sym (one_fails (nat_lt 48 (slice_index text 0)) (all_ascii_digits text) (nat_lt (digits_value 10 text) (2 ^ 64)) (digits_value 10 text)
+    (λ _ digits below. never (digits, not_empty text first, ltb-true _ _ below)))
+
+-- a text that does not begin with a sign or 0 is read as its number
+pub number_read : {E : Type 0} (text : List ℕ) (read : Result ℕ E) → 48 < get_or text 0 0 → ParsesUnsigned 64 10 text read
+    → result_ok read ≡ number_of text
+number_read {E} text read first parses = number_found E text read first (parse_plain own 64 text read parses (λ plus. absurd (omega arith)))
+
+-- what stands on both sides of a choice is what is chosen
+either : {A : Type 0} (b : Bool) (x : A) → (if b then x else x) ≡ x
+either true x = refl
+either false x = refl
+
+-- values stand behind options only in twice as many words
+values_behind-other : (options words : List (List ℕ)) → length words ≢ 2 * length options → values_behind options words ≡ None
+values_behind-other [] [] other = absurd (other refl)
+values_behind-other [] (word ∷ words) other = refl
+values_behind-other (option ∷ options) [] other = refl
+values_behind-other (option ∷ options) (word ∷ []) other = refl
+values_behind-other (option ∷ options) (word ∷ value ∷ words) other =
+    let none : values_behind options words ≡ None = values_behind-other options words (λ e. other (omega (arith, e))) in
+    rw none (either (bytes_eq word option) None)
+
+-- words of another number ask for nothing under a form
+request_by-other : (form : Form) (words : List (List ℕ)) → length words ≢ 1 + 2 * length form.options → request_by words form ≡ None
+request_by-other form [] other = refl
+request_by-other form (word ∷ words) other =
+    let none : values_behind form.options words ≡ None = values_behind-other form.options words (λ e. other (omega (arith, e))) in
+    rw none (either (bytes_eq word form.name) None)
+
+-- the same of texts
+pub texts_other : (form : Form) (words : List (String Global)) → length words ≢ 1 + 2 * length form.options
+    → request_by (texts words) form ≡ None
+texts_other form words other =
+    let same : length (texts words) ≡ length words = length-map words (λ word. string_bytes word) in
+    request_by-other form (texts words) (λ e. other (sym same ∙ e))
+
+-- two options with their values
+pub two_values : (name first second : List ℕ) (request : List (List ℕ) → Option Request) (n a x b y : List ℕ)
+    → request_by (n ∷ a ∷ x ∷ b ∷ y ∷ []) (record { name = name; options = first ∷ second ∷ []; request = request })
+    ≡ (if are_words (n ∷ a ∷ b ∷ []) (name ∷ first ∷ second ∷ []) then request (x ∷ y ∷ []) else None)
+two_values name first second request n a x b y = by_tests (bytes_eq n name) (bytes_eq a first) (bytes_eq b second)
+  where
+    by_tests : (p q r : Bool) → (if p then option_and_then request (if q then option_map (λ values. x ∷ values)
+        (if r then Some (y ∷ []) else None) else None) else None) ≡ (if p && (q && (r && true)) then request (x ∷ y ∷ []) else None)
+    by_tests true true true = refl
+    by_tests true true false = refl
+    by_tests true false r = refl
+    by_tests false q r = refl
+
+-- three options with their values
+pub three_values : (name first second third : List ℕ) (request : List (List ℕ) → Option Request) (n a x b y d z : List ℕ)
+    → request_by (n ∷ a ∷ x ∷ b ∷ y ∷ d ∷ z ∷ []) (record { name = name; options = first ∷ second ∷ third ∷ []; request = request })
+    ≡ (if are_words (n ∷ a ∷ b ∷ d ∷ []) (name ∷ first ∷ second ∷ third ∷ []) then request (x ∷ y ∷ z ∷ []) else None)
+three_values name first second third request n a x b y d z =
+    by_tests (bytes_eq n name) (bytes_eq a first) (bytes_eq b second) (bytes_eq d third)
+  where
+    by_tests : (p q r s : Bool) → (if p then option_and_then request (if q then option_map (λ values. x ∷ values)
+        (if r then option_map (λ values. y ∷ values) (if s then Some (z ∷ []) else None) else None) else None) else None)
+        ≡ (if p && (q && (r && (s && true))) then request (x ∷ y ∷ z ∷ []) else None)
+    by_tests true true true true = refl
+    by_tests true true true false = refl
+    by_tests true true false s = refl
+    by_tests true false r s = refl
+    by_tests false q r s = refl

@@ -1,0 +1,23 @@
+//! The commands of the program, over files, a key file's disk and a sink: the words that ask for one, what each reads,
+//! prints and ends with, and the adapters over real files and the standard output.
+#![tactic(auto)]
+
+mod commands;
+mod delivery;
+mod host;
+mod interfaces;
+mod memory;
+mod offline;
+mod show;
+mod status;
+mod stored;
+mod words;
+
+pub use commands::{POST_FILE_LIMIT, ROSTER_LIMIT, TOML_LIMIT, TRANSCRIPT_LIMIT};
+pub use delivery::print;
+pub use host::{HostFiles, WriterSink};
+pub use interfaces::{FileRead, FileWrite, Files, Sink, SinkAnswer};
+pub use memory::{MemoryFiles, MemorySink};
+pub use offline::run_offline;
+pub use status::Status;
+pub use words::{Command, is_keygen, read_words};

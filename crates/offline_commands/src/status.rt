@@ -1,0 +1,108 @@
+//! How a command ends: its status with the number and the line that tell it.
+ghost use Rattle.std.specs.Prelude.{◌≡◌, IfOk, string_bytes};
+ghost use Rattle.offline_commands.specs.Status.{status_number, status_line};
+ghost use Rattle.offline_commands.specs.Refusals.{roster_status, judge_status};
+ghost use Rattle.offline_commands.specs.declared.status.Status.TheVariants.{OutOfMemory};
+
+use group_roster::RosterRefusal;
+use std::alloc::{AllocError, Global};
+use transcript_form::Refused;
+
+/// How a command ended.
+#[derive(Clone, Copy, Debug, PartialEq, Eq)]
+pub enum Status {
+    /// The command came to its end, and printed its output.
+    Done,
+    /// The words are not those of a command.
+    Usage,
+    /// The judge refuses the transcript: the first check that fails, the number of the post that it names, or
+    /// 0, and the offset that it tells. Or the post that is to be shown is refused: the number of the check from
+    /// 1, a wrong frame, to 8, a body outside the grammar; post 1; and the place of 1 or 8, or else 0.
+    Refused { check: u32, post: u32, at: u32 },
+    /// A file could not be read.
+    ReadFault,
+    /// The output could not be written.
+    WriteFault,
+    /// The disk failed under a key file.
+    DiskFault,
+    /// The roster file breaks a rule of its grammar, first at this offset.
+    BadRoster { at: u32, rule: u32 },
+    /// A file has more bytes than its limit.
+    TooLong { limit: u32 },
+    OutOfMemory,
+}
+
+impl Status {
+    /// The exit status of the program.
+    pub fn number(&self) -> u8
+        ensures { result ≡ status_number self.now }
+    {
+        match self {
+            Status::Done => 0,
+            Status::Usage => 1,
+            Status::Refused { .. } => 4,
+            Status::ReadFault => 5,
+            Status::WriteFault => 6,
+            Status::DiskFault => 8,
+            Status::BadRoster { .. } => 11,
+            Status::TooLong { .. } => 13,
+            Status::OutOfMemory => 16,
+        }
+    }
+
+    /// The line that is printed for the status, with its line feed. `Done` and `WriteFault` have none.
+    pub fn line(&self, alloc: Global) -> Result<Vec<u8>, AllocError>
+        ensures { IfOk result (λ line. line.items ≡ status_line self.now) }
+    {
+        Ok(self.text(alloc)?.into_bytes())
+    }
+
+    fn text(&self, alloc: Global) -> Result<String, AllocError>
+        ensures { IfOk result (λ text. string_bytes text ≡ status_line self.now) }
+    {
+        match self {
+            Status::Done | Status::WriteFault => Ok(String::new(alloc)),
+            Status::Usage => format!(in alloc; "usage\n"),
+            Status::Refused { check, post, at } => {
+                format!(in alloc; "refused check {check} post {post} at {at}\n")
+            }
+            Status::ReadFault => format!(in alloc; "read fault\n"),
+            Status::DiskFault => format!(in alloc; "disk fault\n"),
+            Status::BadRoster { at, rule } => {
+                format!(in alloc; "bad roster at {at} rule {rule}\n")
+            }
+            Status::TooLong { limit } => format!(in alloc; "too long limit {limit}\n"),
+            Status::OutOfMemory => format!(in alloc; "out of memory\n"),
+        }
+    }
+}
+
+impl From<AllocError> for Status {
+    ghost from_gives = { λ _ status. status ≡ OutOfMemory };
+
+    fn from(_: AllocError) -> Status {
+        Status::OutOfMemory
+    }
+}
+
+impl From<RosterRefusal> for Status {
+    ghost from_gives = { λ refusal status. status ≡ roster_status refusal };
+
+    fn from(refusal: RosterRefusal) -> Status {
+        match refusal {
+            RosterRefusal::Bad { at, rule } => Status::BadRoster { at, rule },
+            RosterRefusal::Memory => Status::OutOfMemory,
+        }
+    }
+}
+
+impl From<Refused> for Status {
+    ghost from_gives = { λ refusal status. status ≡ judge_status refusal };
+
+    fn from(refusal: Refused) -> Status {
+        match refusal {
+            Refused::Check { check, post, at } => Status::Refused { check, post, at },
+            Refused::Memory => Status::OutOfMemory,
+        }
+    }
+}
