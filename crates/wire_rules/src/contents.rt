@@ -1,9 +1,14 @@
+//! Stages, slots and contents of phase_message.
+
 ghost use Rattle.std.specs.Prelude.{◌≤◌, IfOk};
 ghost use Rattle.phase_message.specs.Grammar.{OfGrammar};
 
-use super::*;
+use anyhow::{Context, Result, bail, ensure};
+use phase_message::{
+    Body, Content, DecodeRefusal, Shape, Slot, StageKind, decode, encode, is_slot, length_rule,
+    slot_number, slots_before, stage_kind,
+};
 use std::alloc::{AllocError, Global};
-use std::test::Fail;
 use wire_core::{put_bytes, put_u8};
 
 // A round of two members, one of three and one of eight.
@@ -23,8 +28,7 @@ const EIGHT: Shape = Shape {
 };
 
 // The table of stages of a group of three.
-#[test]
-fn stages_of_three(rt: HostRuntime) {
+pub fn stages_of_three() -> Result<()> {
     let want = [
         (0, Some(StageKind::Keys)),
         (1, Some(StageKind::Submit { shuffle: 1 })),
@@ -43,8 +47,9 @@ fn stages_of_three(rt: HostRuntime) {
         (16, None),
     ];
     for (stage, kind) in want {
-        assert!(rt; stage_kind(THREE, stage) == kind, "at {stage}");
+        ensure!(stage_kind(THREE, stage) == kind, "at {stage}");
     }
+    Ok(())
 }
 
 // The first 76 bytes of a content, behind which all bytes are 0.
@@ -79,9 +84,7 @@ fn offence(alloc: Global, content: &[u8; 9196], length: usize) -> Option<DecodeR
 }
 
 // One content of a group of three for each rule, in the order in which they are tested.
-#[test]
-fn the_first_offence_is_named(rt: HostRuntime) {
-    let alloc = rt.alloc();
+pub fn the_first_offence_is_named(alloc: Global) -> Result<()> {
     let keys = begun(0, 1, 1);
     let mut version = keys;
     version[0] = 2;
@@ -94,49 +97,49 @@ fn the_first_offence_is_named(rt: HostRuntime) {
     pad[77] = 1;
     pad[79] = 1;
     let malformed = |at: u32, rule: u32| Some(DecodeRefusal::Malformed { at, rule });
-    assert!(rt; offence(alloc, &keys, 75) == malformed(75, 7));
-    assert!(rt; offence(alloc, &version, 9196) == malformed(0, 8));
-    assert!(rt; offence(alloc, &begun(0, 0, 1), 9196) == malformed(41, 9));
-    assert!(rt; offence(alloc, &begun(0, 1, 2), 9196) == malformed(75, 1));
-    assert!(rt; offence(alloc, &keys, 9195) == malformed(7372, 2));
-    assert!(rt; offence(alloc, &large, 9196) == malformed(108, 4));
-    assert!(rt; offence(alloc, &flag, 77) == malformed(76, 5));
-    assert!(rt; offence(alloc, &pad, 80) == malformed(76, 6));
-    assert!(rt; offence(alloc, &begun(5, 1, 5), 78) == malformed(77, 3));
+    ensure!(offence(alloc, &keys, 75) == malformed(75, 7));
+    ensure!(offence(alloc, &version, 9196) == malformed(0, 8));
+    ensure!(offence(alloc, &begun(0, 0, 1), 9196) == malformed(41, 9));
+    ensure!(offence(alloc, &begun(0, 1, 2), 9196) == malformed(75, 1));
+    ensure!(offence(alloc, &keys, 9195) == malformed(7372, 2));
+    ensure!(offence(alloc, &large, 9196) == malformed(108, 4));
+    ensure!(offence(alloc, &flag, 77) == malformed(76, 5));
+    ensure!(offence(alloc, &pad, 80) == malformed(76, 6));
+    ensure!(offence(alloc, &begun(5, 1, 5), 78) == malformed(77, 3));
+    Ok(())
 }
 
 // The greatest coefficient, a vote, three pads.
-#[test]
-fn contents_are_read(rt: HostRuntime) -> Result<(), Fail> {
-    let alloc = rt.alloc();
+pub fn contents_are_read(alloc: Global) -> Result<()> {
     let mut keys = begun(0, 1, 1);
     keys[109] = 0x30;
-    let said = read(alloc, &keys, 9196)?;
-    assert!(rt; matches!(&said.body, Body::Keys { .. }));
+    let said = read(alloc, &keys, 9196)
+        .ok()
+        .context("a content is refused")?;
+    ensure!(matches!(&said.body, Body::Keys { .. }));
     let mut go = begun(5, 2, 5);
     go[76] = 1;
-    let said = read(alloc, &go, 77)?;
-    assert!(rt; said.header.sender == 2);
-    assert!(rt; matches!(&said.body, Body::Go { yes: true }));
+    let said = read(alloc, &go, 77).ok().context("a content is refused")?;
+    ensure!(said.header.sender == 2);
+    ensure!(matches!(&said.body, Body::Go { yes: true }));
     let written = encode(alloc, THREE, &said)?;
-    assert!(rt; is_front(&written, &go, 77));
+    ensure!(is_front(&written, &go, 77));
     let mut pads = begun(7, 1, 8);
     pads[79] = 1;
     pads[80] = 7;
-    let said = read(alloc, &pads, 89)?;
+    let said = read(alloc, &pads, 89).ok().context("a content is refused")?;
     match &said.body {
         Body::Pads { pads } => {
-            assert!(rt; pads.items().len() == 3);
-            assert!(rt; pads.items()[0].items().as_slice() == [7].as_slice());
+            ensure!(pads.items().len() == 3);
+            ensure!(pads.items()[0].items().as_slice() == [7].as_slice());
         }
-        _ => assert!(rt; false),
+        _ => bail!("another answer"),
     }
     Ok(())
 }
 
 // The shapes of version 1, and the least and greatest numbers outside.
-#[test]
-fn shapes_are_of_version_1(rt: HostRuntime) {
+pub fn shapes_are_of_version_1() -> Result<()> {
     let want = [
         (1, 1, false),
         (1, 2, true),
@@ -147,29 +150,30 @@ fn shapes_are_of_version_1(rt: HostRuntime) {
     ];
     for (version, members, given) in want {
         let shape = Shape::new(version, members);
-        assert!(rt;
+        ensure!(
             shape.is_some() == given,
             "version {version}, {members} members"
         );
     }
-    assert!(rt; Shape::new(1, 3) == Some(THREE));
+    ensure!(Shape::new(1, 3) == Some(THREE));
+    Ok(())
 }
 
 // The last slot of three members, and the lengths of keys, submissions and votes of eight.
-#[test]
-fn slots_and_lengths(rt: HostRuntime) {
-    assert!(rt; slots_before(THREE, 15) == 33);
+pub fn slots_and_lengths() -> Result<()> {
+    ensure!(slots_before(THREE, 15) == 33);
     let last = Slot {
         stage: 15,
         sender: 3,
     };
-    assert!(rt; is_slot(THREE, last));
-    assert!(rt; slot_number(THREE, last) == 35);
-    assert!(rt; length_rule(EIGHT, StageKind::Keys) == 9120);
-    assert!(rt; length_rule(EIGHT, StageKind::Submit { shuffle: 1 }) == 54_564);
-    assert!(rt; length_rule(EIGHT, StageKind::Submit { shuffle: 2 }) == 36_386);
-    assert!(rt; length_rule(EIGHT, StageKind::Go { shuffle: 1 }) == 1);
-    assert!(rt; length_rule(EIGHT, StageKind::Pad) == 0);
+    ensure!(is_slot(THREE, last));
+    ensure!(slot_number(THREE, last) == 35);
+    ensure!(length_rule(EIGHT, StageKind::Keys) == 9120);
+    ensure!(length_rule(EIGHT, StageKind::Submit { shuffle: 1 }) == 54_564);
+    ensure!(length_rule(EIGHT, StageKind::Submit { shuffle: 2 }) == 36_386);
+    ensure!(length_rule(EIGHT, StageKind::Go { shuffle: 1 }) == 1);
+    ensure!(length_rule(EIGHT, StageKind::Pad) == 0);
+    Ok(())
 }
 
 // A content of so many bytes, all 0 but for the version, the stage, the sender and the kind.
@@ -204,9 +208,7 @@ fn is_read_and_written(alloc: Global, bytes: &[u8]) -> Result<bool, AllocError> 
 
 // Each kind of each stage of two members with the number of its bytes: the keys and the entries have all theirs,
 // posts and pads none. A byte more or less is refused.
-#[test]
-fn contents_of_each_stage(rt: HostRuntime) -> Result<(), Fail> {
-    let alloc = rt.alloc();
+pub fn contents_of_each_stage(alloc: Global) -> Result<()> {
     let kinds = [
         (0, 1, 1, 9196),
         (1, 2, 2, 13_744),
@@ -232,15 +234,15 @@ fn contents_of_each_stage(rt: HostRuntime) -> Result<(), Fail> {
         let bytes = plain(alloc, stage, sender, kind, length)?;
         let more = plain(alloc, stage, sender, kind, length.saturating_add(1))?;
         let less = plain(alloc, stage, sender, kind, length.saturating_sub(1))?;
-        assert!(rt;
+        ensure!(
             is_read_and_written(alloc, &bytes)?,
             "stage {stage} kind {kind}"
         );
-        assert!(rt;
+        ensure!(
             !is_read_and_written(alloc, &more)?,
             "stage {stage} kind {kind}"
         );
-        assert!(rt;
+        ensure!(
             !is_read_and_written(alloc, &less)?,
             "stage {stage} kind {kind}"
         );
