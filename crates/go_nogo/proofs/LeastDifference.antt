@@ -15,23 +15,8 @@ use Rattle.phase_message.specs.Slots.{slot_number, stage_count}
 use Rattle.phase_message.specs.Stages.{is_sender, is_slot, kind_of_stage, speaks, stages, turns}
 use Rattle.phase_message.proofs.SlotBounds.{slot-bounds}
 use Rattle.stage_log.specs.Table.{Log, kept_in}
+use Rattle.stage_log.proofs.KeptPosts.{kept-slot}
 use Rattle.go_nogo.specs.Differences.{Differ, HaveNoDifference, IsFirstDifference, are_different, difference_at, difference_of, differing}
-
--- ---- what is kept stands in a slot
-
-pub kept-slot : (log : Log) (slot : Slot) (post : Post) → kept_in log slot ≡ Some post → is_slot log.shape slot.stage slot.sender ≡ true
-kept-slot log slot post e =
-    elim (cases_Bool (is_slot log.shape slot.stage slot.sender)) [
-      | inl speaks_there ↦ speaks_there
-      | inr silent ↦
-          let none : kept_in log slot ≡ None = cond-false (is_slot log.shape slot.stage slot.sender)
-          (option_flatten (slice_get log.posts (slot_number log.shape slot.stage slot.sender))) None silent in
-          absurd (nothing (kept_in log slot) post none e)
-    ]
-  where
-    nothing : (o : Option Post) (p : Post) → o ≡ None → o ≡ Some p → ⊥
-    nothing None p none some = absurd cc
-    nothing (Some q) p none some = absurd cc
 
 -- ---- a slot in which two logs differ
 

@@ -24,6 +24,7 @@ use Rattle.phase_message.specs.Shape.{Shape}
 use Rattle.phase_message.specs.Slots.{slot_at, slot_number, slots_before, slots_of}
 use Rattle.phase_message.specs.Stages.{is_slot, kind_of_stage, speaks}
 use Rattle.phase_message.proofs.Counts.{slots_next}
+use Rattle.phase_message.proofs.StageCounts.{before-confirm, before-end}
 use Rattle.phase_message.proofs.Lengths.{fixed-length, pads-length, turn-length}
 use Rattle.phase_message.proofs.SlotLists.{length-slots_of, slot_at-is, slot_number-within, slots_before-most, slots_before-past, slots_before-rises}
 use Rattle.phase_message.proofs.Table.{check_is, confirm_is, final_a_is, final_b_is, go_a_is, keys_is, pad_is, submit_a_is, turn_a}
@@ -329,47 +330,6 @@ posts-short log stage number is complete most short =
     ]
 
 -- ---- how many posts stand before a closing stage
-
-before-turn : (shape : Shape) (k : ℕ) → k ≤ shape.members → slots_before shape (2 + k) ≡ shape.members + shape.members + k
-before-turn shape zero most =
-    let keys = slots_next shape 0 Keys (keys_is shape 0 refl) in
-    let submit = slots_next shape 1 (Submit 1) (submit_a_is shape 1 refl) in
-    omega (arith, keys, submit)
-before-turn shape (suc k) most =
-    let same : 2 + suc k ≡ 2 + k + 1 = omega arith in
-    let next = slots_next shape (2 + k) (Shuffle 1 (k + 1)) (turn_a shape (2 + k) (k + 1) (omega arith) (omega arith) (omega arith)) in
-    omega (arith, ap (slots_before shape) same, next, before-turn shape k (omega arith))
-
-before-first : (shape : Shape) → slots_before shape (final_stage shape 1) ≡ 4 * shape.members
-before-first shape =
-    let n : ℕ = shape.members in
-    let turns = before-turn shape n (omega arith) in
-    let votes_at : 2 + n ≡ n + 2 = omega arith in
-    let votes = slots_next shape (n + 2) (Go 1) (go_a_is shape (n + 2) refl) in
-    let at : n + 2 + 1 ≡ final_stage shape 1 = omega arith in
-    omega (arith, turns, ap (slots_before shape) votes_at, votes, ap (slots_before shape) at)
-
-before-checks : (shape : Shape) → slots_before shape (shape.members + 6) ≡ 7 * shape.members
-before-checks shape =
-    let n : ℕ = shape.members in
-    let ends_at : final_stage shape 1 ≡ n + 3 = omega arith in
-    let ends = slots_next shape (final_stage shape 1) (Final 1) (final_a_is shape (final_stage shape 1) ends_at) in
-    let pads_at : final_stage shape 1 + 1 ≡ pad_stage shape = omega arith in
-    let pads = slots_next shape (pad_stage shape) Pad (pad_is shape (pad_stage shape) refl) in
-    let checks_at : pad_stage shape + 1 ≡ n + 5 = omega arith in
-    let checks = slots_next shape (n + 5) Check (check_is shape (n + 5) refl) in
-    let at : n + 5 + 1 ≡ n + 6 = omega arith in
-    omega (
-      arith,
-      before-first shape,
-      ends,
-      ap (slots_before shape) pads_at,
-      pads,
-      ap (slots_before shape) checks_at,
-      checks,
-      ap
-          (slots_before shape) at,
-    )
 
 before-second : (shape : Shape) → slots_before shape (final_stage shape 2) ≡ 11 * shape.members
 before-second shape =
