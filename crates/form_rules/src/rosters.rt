@@ -126,7 +126,10 @@ pub fn rules_of_documents(alloc: Global) -> Result<()> {
     for (text, want_at, want_rule) in cases {
         match from_toml(alloc, text.as_bytes()) {
             Err(RosterRefusal::Bad { at, rule }) => {
-                ensure!(at == want_at && rule == want_rule, "{text}: at {at} rule {rule}");
+                ensure!(
+                    at == want_at && rule == want_rule,
+                    "{text}: at {at} rule {rule}"
+                );
             }
             _ => bail!("taken: {text}"),
         }

@@ -101,10 +101,16 @@ pub fn the_first_bad_line_is_named(alloc: Global) -> Result<()> {
         ensure!(bad_line(alloc, &[text]) == Some(line), "line {line}");
     }
     for (text, line) in BAD_MESSAGES {
-        ensure!(bad_line(alloc, &[FIRST_LINES, text]) == Some(line), "line {line}");
+        ensure!(
+            bad_line(alloc, &[FIRST_LINES, text]) == Some(line),
+            "line {line}"
+        );
     }
     for (text, line) in BAD_ENDS {
-        ensure!(bad_line(alloc, &[FIRST_LINES, MESSAGES, text]) == Some(line), "line {line}");
+        ensure!(
+            bad_line(alloc, &[FIRST_LINES, MESSAGES, text]) == Some(line),
+            "line {line}"
+        );
     }
     Ok(())
 }

@@ -5,9 +5,7 @@ ghost use Rattle.std.specs.Prelude.{◌<◌, ◌^◌, length};
 use anyhow::{Context, Result, bail, ensure};
 use phase_message::Shape;
 use std::alloc::Global;
-use transcript_form::{
-    Accusation, Claim, Refused, read_claim, read_transcript, write_transcript,
-};
+use transcript_form::{Accusation, Claim, Refused, read_claim, read_transcript, write_transcript};
 
 // Bytes of a transcript for a group of three, and the check of the form that they fail, with its offset.
 const FAILURES: [(&[u8], u32, u32); 20] = [
@@ -120,7 +118,7 @@ pub fn a_transcript_of_each_claim_is_read_and_written(alloc: Global) -> Result<(
             Ok(transcript) => {
                 ensure!(transcript.claim == claim);
                 ensure!(transcript.posts.items().len() == claim.posts(shape) as usize);
-                ensure!(transcript.detail.is_some() == claim == Claim::Pad);
+                ensure!(transcript.detail.is_some() == (claim == Claim::Pad));
             }
             Err(refused) => bail!("{refused:?}"),
         }

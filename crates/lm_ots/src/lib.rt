@@ -5,8 +5,6 @@ mod chains;
 mod digits;
 mod one_time_keys;
 mod strings;
-#[cfg(test)]
-mod tests;
 mod types;
 
 pub use chains::{OtsRefusal, candidate, chain, message_hash};

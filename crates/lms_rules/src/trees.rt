@@ -148,7 +148,10 @@ fn signs_with_its_last_leaf(
 
 pub fn a_key_of_each_width_signs_to_its_last_leaf(alloc: Global) -> Result<()> {
     for width in [OtsType::W1, OtsType::W2, OtsType::W4, OtsType::W8] {
-        ensure!(signs_with_its_last_leaf(alloc, MadeHeight::H5, width, 31)?, "at {width:?}");
+        ensure!(
+            signs_with_its_last_leaf(alloc, MadeHeight::H5, width, 31)?,
+            "at {width:?}"
+        );
     }
     ensure!(signs_with_its_last_leaf(alloc, MadeHeight::H10, OtsType::W1, 1023)?);
     Ok(())

@@ -1,7 +1,8 @@
 //! Closing contents that two logs justify or not, votes, and the first difference of two logs.
 
-ghost use Rattle.std.specs.Prelude.{IsTrue, IfOk, IsSome, option_and_then};
-ghost use Rattle.phase_message.specs.Stages.{kind_of_stage, shape_of, vote_of};
+ghost use Rattle.std.specs.Prelude.{IsTrue, IfOk};
+ghost use Rattle.phase_message.specs.Closing.{ClosesVotes};
+ghost use Rattle.phase_message.specs.Stages.{shape_of};
 ghost use Rattle.go_nogo.specs.Stands.{IsVoteStage, StandAll};
 
 use crate::whole::{TWO, is_whole};
@@ -120,7 +121,7 @@ fn log_before(alloc: Global, stage: u8, second: Second) -> Mem<StageLog>
 
 // Whether a stage closes votes.
 fn closes(shape: Shape, stage: u8) -> bool
-    ensures { IsTrue result → IsSome (option_and_then vote_of (kind_of_stage (shape_of shape) stage)) }
+    ensures { IsTrue result → ClosesVotes (shape_of shape) stage }
 {
     matches!(
         stage_kind(shape, stage),
@@ -210,7 +211,10 @@ pub fn which_closings_are_justified(alloc: Global) -> Result<()> {
             [1; 32]
         };
         let said = closing(alloc, kind, view);
-        ensure!(answer(alloc, &said, &log)? == Some(expected), "{kind} {second:?}");
+        ensure!(
+            answer(alloc, &said, &log)? == Some(expected),
+            "{kind} {second:?}"
+        );
     }
     Ok(())
 }

@@ -140,11 +140,7 @@ fn stopped(alloc: Global, calls: u32) -> Result<MemoryDisk> {
 }
 
 // What the key file stands for after a crash.
-fn left(
-    alloc: Global,
-    disk: &MemoryDisk,
-    pick: Pick,
-) -> Result<Result<(u64, u32), StoreRefusal>> {
+fn left(alloc: Global, disk: &MemoryDisk, pick: Pick) -> Result<Result<(u64, u32), StoreRefusal>> {
     let mut after = disk.crash(alloc, pick)?;
     Ok(standing(alloc, &mut after))
 }
@@ -169,7 +165,10 @@ pub fn a_crash_at_any_call_leaves_what_was_begun(alloc: Global) -> Result<()> {
     for calls in [0, 1, 2, 3, 4, 10, 11, 12, 13, 14, 15, 16, 17] {
         let disk = stopped(alloc, calls)?;
         for pick in [Pick::Old, Pick::New, Pick::Ones] {
-            ensure!(left(alloc, &disk, pick)? == stands_for(calls, pick), "after {calls}");
+            ensure!(
+                left(alloc, &disk, pick)? == stands_for(calls, pick),
+                "after {calls}"
+            );
         }
     }
     Ok(())
@@ -235,7 +234,10 @@ pub fn a_fault_of_any_call_leaves_what_was_written_before(alloc: Global) -> Resu
     ] {
         let disk = failed(alloc, failing)?;
         let head = whole.file().get(..head).unwrap_or(&[]);
-        ensure!(disk.file() == file_with(head, slots).as_slice(), "at {failing}");
+        ensure!(
+            disk.file() == file_with(head, slots).as_slice(),
+            "at {failing}"
+        );
     }
     Ok(())
 }
