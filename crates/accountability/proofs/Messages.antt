@@ -47,7 +47,7 @@ use Rattle.round_spec.proofs.Strings.{kept_is_read, run_has_strings}
 use Rattle.std.proofs.lemmas.List.FromFn.{length-map-range_with_len, length-enumerate_from}
 use Rattle.conviction.proofs.OwnRows.{own-speaks}
 use Rattle.phase_message.proofs.StageCounts.{confirm-at}
-use Rattle.phase_message.proofs.Table.{pad_is, final_a_is, go_a_is, keys_is, submit_a_is, turn_a, check_is}
+use Rattle.phase_message.proofs.Table.{pad_is}
 use Rattle.accountability.proofs.PadEvidence.{pads-speak, named-member}
 use Rattle.conviction.proofs.Listed.{place-listed}
 use Rattle.round_spec.proofs.Rows.{row_past}
@@ -69,7 +69,7 @@ use Rattle.transcript_form.specs.declared.transcript.Transcript.{Transcript}
 use Rattle.accusation.specs.Item.{accusation_by, empty_item, first_in, item_accusation, item_row}
 use Rattle.transcript_form.specs.Accusation.{accusation_of, accusation_spelling}
 use Rattle.transcript_form.proofs.Accusations.{accusation_of-spelling}
-use Rattle.std.proofs.lemmas.Bool.{cases_eq, cases_lt, cond-true}
+use Rattle.std.proofs.lemmas.Bool.{cond-true}
 use Rattle.accountability.proofs.Endings.{ending-cases, outcome-cases}
 use Rattle.shuffle_blame.proofs.Endings.{ends_at}
 use Rattle.accountability.proofs.Ciphertexts.{first-seeds, place_opens, places_differ, run-opens}

@@ -1,8 +1,8 @@
 -- What is written for a bad pad is accepted.
-use Rattle.std.proofs.Common.{arith, refl, zero, suc, List, None, Ok, Option, Some, ap, eq-eqb, length, rules, slice_get, slice_index_or, subst, sym, take, true, ◌≡◌, ◌∙◌, ◌∷◌, ◌++◌, ◌<◌, ◌≤◌, ◌+◌, ◌-◌, ◌*◌, ◌^◌, ◌==◌, [], ℕ}
+use Rattle.std.proofs.Common.{arith, refl, zero, suc, List, None, Ok, Option, Some, ap, eq-eqb, length, rules, slice_get, slice_index_or, subst, sym, take, true, ◌≡◌, ◌∙◌, ◌∷◌, ◌++◌, ◌<◌, ◌≤◌, ◌+◌, ◌-◌, ◌^◌, ◌==◌, [], ℕ}
 use Rattle.std.proofs.lemmas.List.{length-map, length-take-le, length-append, take-map}
 use Rattle.stage_log.proofs.Views.{slice_get-take}
-use Rattle.phase_message.specs.declared.stage.StageKind.TheVariants.{Keys as AtKeys, Submit as AtSubmit, Shuffle as AtShuffle, Go as AtGo, Final as AtFinal, Pad as AtPad}
+use Rattle.phase_message.specs.declared.stage.StageKind.TheVariants.{Go as AtGo, Final as AtFinal, Pad as AtPad}
 use Rattle.phase_message.specs.declared.content.Body.TheVariants.{Pads}
 use Rattle.transcript_form.specs.declared.claim.Claim.TheVariants.{Pad}
 use Rattle.shuffle_blame.specs.declared.fault.Cause.TheVariants.{View}
@@ -42,7 +42,7 @@ use Rattle.phase_message.specs.Offence.{content_read}
 use Rattle.stage_log.specs.Log.{contents_of, view_of}
 use Rattle.conviction.proofs.OwnFronts.{descriptors-front, front, keys-front}
 use Rattle.round_spec.proofs.AgreedClosings.{final-closes}
-use Rattle.phase_message.proofs.Table.{final_a_is, go_a_is, keys_is, pad_is, slice_get_right, submit_a_is, turn_a}
+use Rattle.phase_message.proofs.Table.{pad_is, slice_get_right}
 use Rattle.std.proofs.lemmas.Option.{get_or_from_slice_get, slice_get-map}
 use Rattle.accusation.proofs.AccusationLemmas.{holds_exactly, holds_looks_at_one}
 use Rattle.phase_message.specs.Stages.{is_member, is_slot, kind_of_stage, speaks}

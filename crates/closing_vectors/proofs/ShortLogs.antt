@@ -1,15 +1,9 @@
 -- A log stays one of short posts when a short post is put into it.
-use Rattle.std.proofs.Common.{◌≡◌, ℕ, zero, suc, ◌<◌, ◌^◌, List, [], ◌∷◌, length, replicate, Option, Some, None, refl, sym, ap, subst, ◌∙◌, inl, inr}
-use Rattle.std.specs.Prelude.{◌⊎◌}
-use Rattle.std.specs.List.{slice_get, slice_set}
-use Rattle.std.specs.Option.{option_flatten}
-use Rattle.std.proofs.lemmas.Bool.{cond-true}
+use Rattle.std.proofs.Common.{◌≡◌, zero, suc, ◌<◌, ◌^◌, length, Option, Some, None, refl, sym, ap, subst, ◌∙◌, inl, inr}
 use Rattle.phase_message.specs.declared.post.Post.{Post}
 use Rattle.phase_message.specs.declared.stage.Slot.{Slot}
 use Rattle.phase_message.specs.Post.{post_spelling}
 use Rattle.phase_message.specs.Shape.{Shape}
-use Rattle.phase_message.specs.Slots.{slot_count, slot_number}
-use Rattle.phase_message.specs.Stages.{is_slot}
 use Rattle.stage_log.specs.Put.{filled_if, put_log}
 use Rattle.stage_log.specs.Table.{Log, empty_log, filled, kept_in}
 use Rattle.stage_log.proofs.KeptPosts.{empty-keeps, kept-post}

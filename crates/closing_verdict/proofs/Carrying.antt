@@ -1,18 +1,12 @@
 -- What was found of the stages before is right at the end of a closing stage too.
-use Rattle.std.proofs.Common.{◌≡◌, ℕ, zero, suc, ◌+◌, ◌<◌, ◌≤◌, List, ◌∷◌, map, Option, Some, None, refl, ap, sym, ◌∙◌, subst, arith}
-use Rattle.std.specs.Prelude.{option_and_then}
-use Rattle.std.specs.List.{range_with_len}
-use Rattle.phase_message.specs.declared.stage.Slot.{Slot}
-use Rattle.bulk_descriptor.specs.Descriptor.{descriptor_read}
+use Rattle.std.proofs.Common.{◌≡◌, ℕ, zero, suc, ◌+◌, ◌<◌, ◌≤◌, List, Option, Some, None, ◌∙◌, subst, arith}
 use Rattle.stage_log.specs.Table.{Log}
 use Rattle.shuffle_blame.specs.Asked.{past_of}
 use Rattle.honest_say.specs.declared.opening.Slots.{Slots}
 use Rattle.honest_say.specs.Opened.{AreSlotsSaid}
 use Rattle.honest_say.specs.Stays.{AreReached}
-use Rattle.honest_say.proofs.PastLemmas.{kept-said}
-use Rattle.honest_say.proofs.StageLemmas.{pad-slot}
 use Rattle.honest_say.proofs.Staying.{descriptors-stay, items_stay, keys_stay, pads-stay, slots_stay}
-use Rattle.round_spec.specs.Slots.{descriptors_opened, items_opened, keys_said, pad_stage, pads_in, pads_sent, said_in}
+use Rattle.round_spec.specs.Slots.{items_opened, keys_said, pad_stage}
 use Rattle.closing_verdict.specs.Carried.{AreItemsOf, AreSlotsOf, CarriesOpened, CarriesSlots, stage_found, stage_opened}
 use Rattle.closing_verdict.specs.Judgement.{Completed, IsComplete}
 use Rattle.closing_verdict.proofs.PadPosts.{front-some}

@@ -1,18 +1,16 @@
 -- The posts that show a bad pad: those of all slots before the pads, and the pads of a member.
-use Rattle.std.proofs.Common.{◌≡◌, ℕ, zero, suc, ◌+◌, ◌*◌, ◌<◌, ◌≤◌, ◌^◌, List, [], ◌∷◌, ◌++◌, All, length, get_or, map, take, Some, refl, sym, ap, subst, ◌∙◌, arith, inl, inr, length-append}
+use Rattle.std.proofs.Common.{◌≡◌, ℕ, zero, suc, ◌+◌, ◌*◌, ◌<◌, ◌≤◌, ◌^◌, List, [], ◌∷◌, ◌++◌, All, length, get_or, map, take, Some, sym, ap, subst, ◌∙◌, arith, inl, inr, length-append}
 use Rattle.std.specs.Prelude.{◌⊎◌, IsSome}
 use Rattle.std.proofs.lemmas.Bool.{cases_lt}
 use Rattle.std.proofs.lemmas.List.{get_or-map, get_or-take, length-map, length-take-le}
 use Rattle.std.proofs.lemmas.Option.{slice_get-get_or}
 use Rattle.phase_message.specs.declared.post.Post.{Post}
 use Rattle.phase_message.specs.declared.stage.Slot.{Slot}
-use Rattle.phase_message.specs.declared.stage.StageKind.TheVariants.{Keys as AtKeys, Submit as AtSubmit, Shuffle as AtShuffle, Go as AtGo, Final as AtFinal}
 use Rattle.phase_message.specs.Post.{post_spelling}
 use Rattle.phase_message.specs.Shape.{Shape}
 use Rattle.phase_message.specs.Slots.{slot_number, slots_before, slots_of}
 use Rattle.phase_message.proofs.StageCounts.{before-pads}
 use Rattle.phase_message.proofs.SlotLists.{length-slots_of, slot_at-is, slot_number-within, slots_before-most, slots_before-rises}
-use Rattle.phase_message.proofs.Table.{final_a_is, go_a_is, keys_is, submit_a_is, turn_a}
 use Rattle.stage_log.specs.Log.{before}
 use Rattle.stage_log.proofs.Fronts.{before-front, some_is}
 use Rattle.honest_say.specs.Pasts.{posts_before}

@@ -1,7 +1,6 @@
 -- What a member submits looks at nothing that is said at its stage or later.
 use Rattle.std.proofs.Common.{◌≡◌, ℕ, zero, suc, ◌+◌, ◌<◌, ◌≤◌, true, false, List, [], map, take, Option, Some, ap, sym, ◌∙◌, refl, arith, rules, inl, inr}
 use Rattle.std.specs.Prelude.{◌==◌, option_and_then, slice_index_or}
-use Rattle.std.specs.List.{range_with_len}
 use Rattle.std.proofs.lemmas.Bool.{cases_Bool, cond-false, cond-true, eq-eqb}
 use Rattle.std.proofs.lemmas.List.{get_or-take}
 use Rattle.wire_core.proofs.ListLemmas.{map-range}

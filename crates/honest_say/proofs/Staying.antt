@@ -1,7 +1,6 @@
 -- What was said stays.
-use Rattle.std.proofs.Common.{◌≡◌, ℕ, zero, suc, ◌+◌, ◌<◌, ◌≤◌, List, [], ◌∷◌, map, true, Option, Some, refl, ap, sym, ◌∙◌, arith}
+use Rattle.std.proofs.Common.{◌≡◌, ℕ, zero, suc, ◌+◌, ◌<◌, ◌≤◌, List, [], map, true, Option, Some, ap, sym, ◌∙◌, arith}
 use Rattle.std.specs.Prelude.{option_and_then, slice_index_or}
-use Rattle.std.specs.List.{range_with_len}
 use Rattle.wire_core.proofs.ListLemmas.{map-range}
 use Rattle.phase_message.specs.declared.content.Body.{Body}
 use Rattle.phase_message.specs.declared.stage.Slot.{Slot}

@@ -18,7 +18,7 @@ use Rattle.phase_message.specs.Stages.{is_member, is_sender, is_slot, kind_of_st
 use Rattle.phase_message.proofs.BodyKinds.{bodies_are_of_kinds}
 use Rattle.phase_message.proofs.StageCounts.{before-pads}
 use Rattle.phase_message.proofs.SlotLists.{past-stage, slot_at-number, slot_number-within, slots_before-rises}
-use Rattle.phase_message.proofs.Table.{final_a_is, go_a_is, keys_is, submit_a_is, turn_a}
+use Rattle.phase_message.proofs.Table.{final_a_is, keys_is, turn_a}
 use Rattle.shuffle_blame.specs.Replay.{list_of}
 use Rattle.round_spec.specs.Slots.{pad_stage}
 use Rattle.judge_core.specs.Pad.{count_before_pads}

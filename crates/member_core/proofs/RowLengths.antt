@@ -4,7 +4,6 @@ use Rattle.std.specs.Prelude.{◌==◌, IsSome, option_map, if◌then◌else◌}
 use Rattle.std.specs.Int.{to_be_bytes, w32}
 use Rattle.std.specs.List.{flat_map, slice_get}
 use Rattle.std.proofs.lemmas.Bool.{cases_Bool, cases_eq, cases_lt, cond-false, cond-true, eq-eqb}
-use Rattle.std.proofs.lemmas.Nat.{mul-le}
 use Rattle.std.proofs.lemmas.List.{drop-map, length-map, length-replicate, take-map}
 use Rattle.std.proofs.lemmas.Option.{slice_get-map, slice_get_within}
 use Rattle.wire_core.specs.Bytes.{prefixed}
@@ -17,7 +16,6 @@ use Rattle.phase_message.specs.declared.post.TheConstants.{POST_LIMIT}
 use Rattle.phase_message.specs.declared.stage.Slot.{Slot}
 use Rattle.phase_message.specs.declared.stage.StageKind.{StageKind}
 use Rattle.phase_message.specs.declared.stage.StageKind.TheVariants.{Keys, Submit, Shuffle, Go, Final, Pad, Check, Confirm}
-use Rattle.phase_message.specs.Body.{level}
 use Rattle.phase_message.specs.Grammar.{IsBody, OfGrammar, body_text, content_text}
 use Rattle.phase_message.specs.Post.{post_spelling}
 use Rattle.phase_message.specs.Shape.{Shape}
@@ -25,17 +23,16 @@ use Rattle.phase_message.specs.Slots.{slot_at, slot_number, slots_before, slots_
 use Rattle.phase_message.specs.Stages.{is_slot, kind_of_stage, speaks}
 use Rattle.phase_message.proofs.Counts.{slots_next}
 use Rattle.phase_message.proofs.StageCounts.{before-confirm, before-end}
-use Rattle.phase_message.proofs.Lengths.{fixed-length, pads-length, turn-length}
 use Rattle.phase_message.proofs.SlotLists.{length-slots_of, slot_at-is, slot_number-within, slots_before-most, slots_before-past, slots_before-rises}
-use Rattle.phase_message.proofs.Table.{check_is, confirm_is, final_a_is, final_b_is, go_a_is, keys_is, pad_is, submit_a_is, turn_a}
+use Rattle.phase_message.proofs.Table.{confirm_is, final_b_is}
 use Rattle.signed_post.specs.declared.post.TheConstants.{LONGEST_SIGNATURE}
 use Rattle.stage_log.specs.Log.{before, contents_of}
 use Rattle.stage_log.specs.Table.{IsLog, Log, kept_in}
 use Rattle.go_nogo.specs.Rows.{confirm_row, final_row, posts_at, written}
 use Rattle.go_nogo.specs.Votes.{votes_agree}
-use Rattle.round_spec.specs.Slots.{final_stage, pad_stage}
+use Rattle.round_spec.specs.Slots.{final_stage}
 use Rattle.round_spec.proofs.GoLists.{there}
-use Rattle.round_spec.proofs.OwnLengths.{content-long, take-less}
+use Rattle.round_spec.proofs.OwnLengths.{IsClosingKind, content-long, open-length, open-most, take-less}
 use Rattle.round_spec.proofs.SealedBytes.{all-from}
 use Rattle.honest_say.specs.Pasts.{posts_before}
 use Rattle.honest_say.proofs.PastLemmas.{complete-posts, kept-at, past-length}
@@ -52,41 +49,24 @@ IsPlain (Final shuffle) = ⊥
 IsPlain Confirm = ⊥
 IsPlain _ = Unit {0}
 
-level-most : (n shuffle k : ℕ) → n ≤ 8 → level n shuffle k ≤ 54564
-level-most n shuffle k few = elim (cases_Bool (shuffle == 1)) [
-  | inl a ↦ (let item = cond-true (shuffle == 1) (36 + 2272 * n) 34 a in layers (if shuffle == 1 then 36 + 2272 * n else 34)
-      (omega (arith, item, few)))
-  | inr b ↦ (let item = cond-false (shuffle == 1) (36 + 2272 * n) 34 b in layers (if shuffle == 1 then 36 + 2272 * n else 34)
-      (omega (arith, item, few)))
-]
-  where
-    layers : (item : ℕ) → item ≤ 18212 → item + 2272 * (2 * n - k) ≤ 54564
-    layers item small = omega (arith, small, few)
+plain-open : (kind : StageKind) → IsPlain kind → IsClosingKind kind → ⊥
+plain-open (Final shuffle) plain closing = plain
+plain-open Confirm plain closing = plain
+plain-open Keys plain closing = closing
+plain-open (Submit shuffle) plain closing = closing
+plain-open (Shuffle shuffle k) plain closing = closing
+plain-open (Go shuffle) plain closing = closing
+plain-open Pad plain closing = closing
+plain-open Check plain closing = closing
 
 open-long : (shape : Shape) (x : Content) (kind : StageKind) → 1 ≤ shape.members → shape.members ≤ 8 → OfGrammar shape x
     → kind_of_stage shape x.header.stage ≡ Some kind → IsPlain kind
     → length (content_text x) ≤ POST_LIMIT
-open-long shape x Keys some few is at plain = omega (arith, fixed-length shape x Keys is at (omega arith))
-open-long shape x (Submit shuffle) some few is at plain =
-    let long : 0 < level shape.members shuffle 0 = layers (if shuffle == 1 then 36 + 2272 * shape.members else 34) in
-    omega (arith, fixed-length shape x (Submit shuffle) is at long, level-most shape.members shuffle 0 few)
-  where
-    layers : (item : ℕ) → 0 < item + 2272 * (2 * shape.members - 0)
-    layers item = omega (arith, some)
-open-long shape x (Shuffle shuffle k) some few is at plain = elim (turn-length shape x shuffle k is at) [
-  | inl abort ↦ omega (arith, abort.1)
-  | inr list ↦ omega (
-    arith,
-    list,
-    mul-le shape.members (level shape.members shuffle k) 8 54564 few
-        (level-most shape.members shuffle k few),
-  )
-]
-open-long shape x (Go shuffle) some few is at plain = omega (arith, fixed-length shape x (Go shuffle) is at (omega arith))
-open-long shape x Pad some few is at plain = omega (arith, pads-length shape x is at, few)
-open-long shape x Check some few is at plain = omega (arith, fixed-length shape x Check is at (omega arith))
-open-long shape x (Final shuffle) some few is at plain = absurd plain
-open-long shape x Confirm some few is at plain = absurd plain
+open-long shape x kind some few is at plain = omega (
+  arith,
+  open-length shape x kind some is at (plain-open kind plain),
+  open-most shape kind few (plain-open kind plain),
+)
 
 -- a body of such a stage leaves room for its content
 pub plain-short : (shape : Shape) (stage sender : ℕ) (kind : StageKind) (body : Body) → 1 ≤ shape.members → shape.members ≤ 8
@@ -380,7 +360,7 @@ posts-first : (log : Log) (stage number : ℕ) → IsClosedBy log stage number �
 posts-first log stage number is at =
     let n : ℕ = slots_before log.shape stage in
     let few = is.few in
-    let count : n ≡ 4 * log.shape.members = ap (slots_before log.shape) at ∙ before-first log.shape in
+    let count : n ≡ 4 * log.shape.members = ap (slots_before log.shape) at ∙ before-end log.shape in
     let same = ap (slots_before log.shape) at in
     let own = first-behind log.shape number is.first is.last in
     let later = checks-behind log.shape number is.first is.last in
@@ -394,7 +374,7 @@ posts-checks : (log : Log) (stage number : ℕ) → IsClosedBy log stage number 
 posts-checks log stage number is at =
     let n : ℕ = slots_before log.shape stage in
     let few = is.few in
-    let count : n ≡ 7 * log.shape.members = ap (slots_before log.shape) at ∙ before-checks log.shape in
+    let count : n ≡ 7 * log.shape.members = ap (slots_before log.shape) at ∙ before-confirm log.shape in
     let same = ap (slots_before log.shape) at in
     let later = checks-behind log.shape number is.first is.last in
     let whole = sum-checks 16786548 (first_end log.shape number) (checks_end log.shape number) 536870912 1476395008 n

@@ -1,10 +1,9 @@
 -- A post of another member that is kept: what is true of a member stays true.
-use Rattle.std.proofs.Common.{◌≡◌, ◌⊎◌, ℕ, zero, suc, ◌+◌, ◌*◌, ◌^◌, ◌<◌, ◌≤◌, Bool, true, false, List, [], ◌∷◌, length, Option, Some, None, ap, sym, ◌∙◌, refl, subst, arith, inl, inr}
+use Rattle.std.proofs.Common.{◌≡◌, ℕ, zero, suc, ◌+◌, ◌*◌, ◌^◌, ◌<◌, ◌≤◌, Bool, true, false, List, [], ◌∷◌, length, Option, Some, None, ap, sym, ◌∙◌, refl, subst, arith, inl, inr}
 use Rattle.std.specs.Prelude.{◌++◌, IsSome, ◌==◌, unwrap_or, if◌then◌else◌}
 use Rattle.std.specs.List.{slice_get, slice_set}
 use Rattle.std.specs.Option.{option_flatten, option_map, option_to_list}
 use Rattle.std.proofs.lemmas.Bool.{cases_Bool, cond-false, cond-true, ltb-true}
-use Rattle.std.proofs.lemmas.Option.{none-some}
 use Rattle.phase_message.specs.declared.post.Post.{Post}
 use Rattle.phase_message.specs.declared.post.TheConstants.{POST_LIMIT}
 use Rattle.phase_message.specs.declared.stage.Slot.{Slot}
@@ -12,9 +11,8 @@ use Rattle.phase_message.specs.declared.stage.StageKind.{StageKind}
 use Rattle.phase_message.specs.declared.stage.StageKind.TheVariants.{Keys, Submit, Shuffle, Go, Final, Pad, Check, Confirm}
 use Rattle.phase_message.specs.Post.{post_spelling}
 use Rattle.phase_message.specs.Shape.{Shape}
-use Rattle.phase_message.specs.Slots.{slot_at, slot_number, stage_count}
+use Rattle.phase_message.specs.Slots.{slot_number, stage_count}
 use Rattle.phase_message.specs.Stages.{is_slot, kind_of_stage}
-use Rattle.phase_message.proofs.SlotLists.{slot_at-number}
 use Rattle.signed_post.specs.declared.post.TheConstants.{LONGEST_SIGNATURE}
 use Rattle.stage_log.specs.Log.{before, contents_of}
 use Rattle.stage_log.specs.Seen.{HasSeen}

@@ -1,9 +1,7 @@
 -- Deliveries that change nothing. What a member keeps is of the grammar, whatever its conduct is.
 use Rattle.std.proofs.Common.{◌≡◌, ◌⊎◌, ℕ, zero, suc, true, false, List, [], ◌∷◌, Option, Some, None, Result, Ok, Err, ap, sym, ◌∙◌, refl, subst, inl, inr}
-use Rattle.std.specs.Prelude.{◌==◌, ◌*◌, fold, is_ok, is_some, option_and_then, replicate, unwrap_or, if◌then◌else◌}
+use Rattle.std.specs.Prelude.{◌==◌, ◌*◌, fold, is_ok, is_some, option_and_then, unwrap_or, if◌then◌else◌}
 use Rattle.std.specs.Fn.{iterate}
-use Rattle.std.specs.List.{slice_get, slice_set}
-use Rattle.std.specs.Option.{option_flatten}
 use Rattle.std.specs.Result.{result_ok}
 use Rattle.std.proofs.lemmas.Bool.{cases_Bool, cond-false, cond-true}
 use Rattle.std.proofs.lemmas.Option.{none-some}
@@ -12,8 +10,7 @@ use Rattle.phase_message.specs.declared.header.Header.{Header}
 use Rattle.phase_message.specs.declared.post.Post.{Post}
 use Rattle.phase_message.specs.declared.stage.Slot.{Slot}
 use Rattle.phase_message.specs.Offence.{content_read}
-use Rattle.phase_message.specs.Slots.{slot_count, slot_number, stage_count}
-use Rattle.phase_message.specs.Stages.{is_slot}
+use Rattle.phase_message.specs.Slots.{stage_count}
 use Rattle.signed_post.specs.declared.post.PostRefusal.{PostRefusal}
 use Rattle.signed_post.specs.declared.post.PostRefusal.TheVariants.{Frame}
 use Rattle.signed_post.specs.Admission.{admission_of_bytes, framed_admission_of}
