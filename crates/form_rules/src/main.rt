@@ -1,7 +1,8 @@
-//! Checks the rules of rosters, transcripts and scripts, by an example for each with its place. A line is printed for
+//! Checks the rules of rosters, posts, transcripts and scripts, by an example for each with its place. A line is printed for
 //! what held; the first comparison that fails ends the program.
 #![tactic(auto)]
 
+mod frames;
 mod rosters;
 mod scripts;
 mod transcripts;
@@ -25,6 +26,8 @@ fn check_rosters<R: Runtime>(rt: &R, alloc: Global) -> Result<()> {
 fn main(rt: HostRuntime) -> Result<()> {
     let alloc = rt.alloc();
     check_rosters(&rt, alloc)?;
+    frames::frames_of_posts(alloc)?;
+    println!(rt; "signed_post: frames of posts")?;
     transcripts::the_first_check_of_the_form_is_named(alloc)?;
     println!(rt; "transcript_form: the first check of the form is named")?;
     transcripts::a_transcript_of_each_claim_is_read_and_written(alloc)?;

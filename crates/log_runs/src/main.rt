@@ -1,10 +1,12 @@
-//! Checks logs, votes, shuffles and descriptors of two members against values of other programs. A line is printed for
+//! Checks logs, votes, shuffles and messages of two members against values of other programs. A line is printed for
 //! what held; the first comparison that fails ends the program.
 #![tactic(auto)]
 
+mod accusations;
 mod closings;
 mod descriptors;
 mod replays;
+mod slot_states;
 mod turns;
 mod views;
 mod whole;
@@ -45,13 +47,23 @@ fn check_shuffles<R: Runtime>(rt: &R, alloc: Global) -> Result<()> {
     Ok(())
 }
 
-fn main(rt: HostRuntime) -> Result<()> {
-    let alloc = rt.alloc();
-    check_logs(&rt, alloc)?;
-    check_shuffles(&rt, alloc)?;
+fn check_messages<R: Runtime>(rt: &R, alloc: Global) -> Result<()> {
     descriptors::a_descriptor_of_no_bytes_for_two(alloc)?;
     println!(rt; "bulk_descriptor: a descriptor of no bytes for two")?;
     descriptors::the_own_pad_of_a_maker(alloc)?;
     println!(rt; "bulk_descriptor: the own pad of a maker")?;
+    slot_states::the_four_states(alloc)?;
+    println!(rt; "bulk_recovery: the four states")?;
+    accusations::a_pad_that_was_flipped(alloc)?;
+    println!(rt; "accusation: a pad that was flipped")?;
+    accusations::the_item_of_a_maker(alloc)?;
+    println!(rt; "accusation: the item of a maker")?;
     Ok(())
+}
+
+fn main(rt: HostRuntime) -> Result<()> {
+    let alloc = rt.alloc();
+    check_logs(&rt, alloc)?;
+    check_shuffles(&rt, alloc)?;
+    check_messages(&rt, alloc)
 }

@@ -4,11 +4,14 @@
 
 mod key_files;
 mod names;
+mod plans;
 
 use anyhow::Result;
 
 fn main(rt: HostRuntime) -> Result<()> {
     let alloc = rt.alloc();
+    plans::the_calls_of_the_plan_fail(alloc)?;
+    println!(rt; "outside: the calls of the plan fail")?;
     names::one_name_is_chosen(alloc)?;
     println!(rt; "crash_disk: one name is chosen")?;
     key_files::what_was_begun_is_kept(alloc)?;

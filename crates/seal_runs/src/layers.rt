@@ -1,29 +1,29 @@
-use super::*;
+//! Layers, one and eight on each other.
+
+use anyhow::{Result, bail, ensure};
+use layer_cipher::{KeySeed, Peeled, peel, peel_with, seal, wrap};
 use ring_encrypt::public_of;
 use std::alloc::Global;
-use std::test::Fail;
 use wire_core::{Register, Tag};
 
-#[test]
-fn a_layer_opens_to_what_was_sealed(rt: HostRuntime) -> Result<(), Fail> {
-    let alloc = rt.alloc();
+pub fn a_layer_opens_to_what_was_sealed(alloc: Global) -> Result<()> {
     let seed = [3; 32];
     let m = [0x5a; 32];
     for body in [b"".as_slice(), b"a body".as_slice()] {
         let layer = seal(alloc, &public_of(&seed), &m, body)?;
-        assert_eq!(rt; layer.len(), body.len() + 2272);
+        ensure!(layer.len() == body.len() + 2272);
         match peel(alloc, &seed, &layer)? {
             Peeled::Layer {
                 m: found,
                 body: rest,
             } => {
-                assert_eq!(rt; found, m);
-                assert_eq!(rt; rest.items().as_slice(), body);
+                ensure!(found == m);
+                ensure!(rest.items().as_slice() == body);
             }
-            Peeled::NoLayer => assert!(rt; false, "a layer that was sealed"),
+            Peeled::NoLayer => bail!("a layer that was sealed"),
         }
     }
-    assert!(rt; matches!(peel(alloc, &seed, &[0; 2271])?, Peeled::NoLayer));
+    ensure!(matches!(peel(alloc, &seed, &[0; 2271])?, Peeled::NoLayer));
     Ok(())
 }
 
@@ -44,26 +44,24 @@ const LONG_LAYER: [u8; 32] = [
     11, 218, 244, 58, 70, 64, 209, 3, 224, 198, 249,
 ];
 
-#[test]
-fn a_long_layer_is_that_of_another_program(rt: HostRuntime) -> Result<(), Fail> {
-    let alloc = rt.alloc();
+pub fn a_long_layer_is_that_of_another_program(alloc: Global) -> Result<()> {
     let layer = seal(alloc, &public_of(&SEED), &CARRIED, &[0x5a; 65_536])?;
-    assert_eq!(rt; layer.len(), 67_808);
+    ensure!(layer.len() == 67_808);
     let mut register = Register::new(Tag::View);
     register.piece(&layer);
-    assert_eq!(rt; register.end(), LONG_LAYER);
+    ensure!(register.end() == LONG_LAYER);
     match peel(alloc, &SEED, &layer)? {
         Peeled::Layer { m, body } => {
-            assert_eq!(rt; m, CARRIED);
-            assert_eq!(rt; body.items().as_slice(), [0x5a; 65_536].as_slice());
+            ensure!(m == CARRIED);
+            ensure!(body.items().as_slice() == [0x5a; 65_536].as_slice());
         }
-        Peeled::NoLayer => return Err(Fail::from("no layer")),
+        Peeled::NoLayer => bail!("no layer"),
     }
     Ok(())
 }
 
 // A blob of 70,000 bytes under eight keys.
-fn wrapped(alloc: Global) -> Result<Vec<u8>, Fail> {
+fn wrapped(alloc: Global) -> Result<Vec<u8>> {
     let keys = vec![in alloc;
         public_of(&[1; 32]),
         public_of(&[2; 32]),
@@ -80,26 +78,24 @@ fn wrapped(alloc: Global) -> Result<Vec<u8>, Fail> {
     Ok(wrap(alloc, &keys, &seeds, &[0x2a; 70_000])?)
 }
 
-#[test]
-fn eight_layers_come_off_the_first_key_outermost(rt: HostRuntime) -> Result<(), Fail> {
-    let alloc = rt.alloc();
+pub fn eight_layers_come_off_the_first_key_outermost(alloc: Global) -> Result<()> {
     let mut layers = wrapped(alloc)?;
-    assert_eq!(rt; layers.len(), 70_000 + 8 * 2272);
+    ensure!(layers.len() == 70_000 + 8 * 2272);
     for k in 1..9 {
         if layers.len() > 100_000 {
-            return Err(Fail::from("too many bytes"));
+            bail!("too many bytes");
         }
         let key = KeySeed::new([k; 32]);
         let found = peel_with(alloc, &key, &layers);
         key.destroy();
         match found? {
             Peeled::Layer { m, body } => {
-                assert_eq!(rt; m, [10 * k; 32]);
+                ensure!(m == [10 * k; 32]);
                 layers = body.into_items();
             }
-            Peeled::NoLayer => return Err(Fail::from("no layer")),
+            Peeled::NoLayer => bail!("no layer"),
         }
     }
-    assert_eq!(rt; layers.as_slice(), [0x2a; 70_000].as_slice());
+    ensure!(layers.as_slice() == [0x2a; 70_000].as_slice());
     Ok(())
 }

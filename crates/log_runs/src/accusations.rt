@@ -1,11 +1,13 @@
+//! Accusations of a pad of one byte, each condition broken in turn, and the item of a maker.
+
 ghost use Rattle.std.specs.Prelude.{◌≡◌, length, vec_len, IfOk, IfSome};
 
-use super::*;
-use bulk_descriptor::{Mem, decode, make};
+use accusation::{Accusation, AccusationRefusal, holds, own_item};
+use anyhow::{Context, Result, ensure};
+use bulk_descriptor::{List, Mem, PadTable, PublicKey, SlotState, decode, make};
 use pad_stream::pad;
 use ring_encrypt::public_of;
 use std::alloc::Global;
-use std::test::Fail;
 
 const SEEDS: [[u8; 32]; 2] = [[0x10; 32], [0x20; 32]];
 
@@ -51,58 +53,39 @@ fn judged(alloc: Global, accusation: &Accusation, sent: u8) -> Mem<Result<(), Ac
     Ok(holds(accusation, &descriptors, &pads, &keys))
 }
 
-#[test]
-fn a_pad_that_was_flipped(rt: HostRuntime) -> Result<(), Fail> {
-    let alloc = rt.alloc();
-    let sent = pad(alloc, &SEEDS[1], 1)?.pop().ok_or("a pad of one byte")?;
+pub fn a_pad_that_was_flipped(alloc: Global) -> Result<()> {
+    let sent = pad(alloc, &SEEDS[1], 1)?.pop().context("a pad of one byte")?;
     let accusation = Accusation {
         slot: 1,
         member: 2,
         seed: SEEDS[1],
     };
-    assert_eq!(rt; judged(alloc, &accusation, sent ^ 1)?, Ok(()));
-    assert_eq!(rt;
-        judged(alloc, &accusation, sent)?,
-        Err(AccusationRefusal::PadSent)
-    );
-    let empty = Accusation::decode(&[0; 34]).ok_or("34 bytes")?;
-    assert_eq!(rt;
-        judged(alloc, &empty, sent ^ 1)?,
-        Err(AccusationRefusal::Slot)
-    );
+    ensure!(judged(alloc, &accusation, sent ^ 1)? == Ok(()));
+    ensure!(judged(alloc, &accusation, sent)? == Err(AccusationRefusal::PadSent));
+    let empty = Accusation::decode(&[0; 34]).context("34 bytes")?;
+    ensure!(judged(alloc, &empty, sent ^ 1)? == Err(AccusationRefusal::Slot));
     let mut seed = SEEDS[1];
     seed[0] ^= 0x80;
     let changed = Accusation { seed, ..accusation };
-    assert_eq!(rt;
-        judged(alloc, &changed, sent ^ 1)?,
-        Err(AccusationRefusal::Capsule)
-    );
+    ensure!(judged(alloc, &changed, sent ^ 1)? == Err(AccusationRefusal::Capsule));
     let nobody = Accusation {
         member: 3,
         ..accusation
     };
-    assert_eq!(rt;
-        judged(alloc, &nobody, sent ^ 1)?,
-        Err(AccusationRefusal::Member)
-    );
+    ensure!(judged(alloc, &nobody, sent ^ 1)? == Err(AccusationRefusal::Member));
     // The maker's own seed was sealed, and its pad is another.
     let maker = Accusation {
         slot: 1,
         member: 1,
         seed: SEEDS[0],
     };
-    assert_eq!(rt;
-        judged(alloc, &maker, sent)?,
-        Err(AccusationRefusal::PadHash)
-    );
+    ensure!(judged(alloc, &maker, sent)? == Err(AccusationRefusal::PadHash));
     Ok(())
 }
 
-#[test]
-fn the_item_of_a_maker(rt: HostRuntime) -> Result<(), Fail> {
-    let alloc = rt.alloc();
+pub fn the_item_of_a_maker(alloc: Global) -> Result<()> {
     let seeds = SEEDS.to_vec(alloc)?;
-    assert_eq!(rt; seeds.len(), 2);
+    ensure!(seeds.len() == 2);
     let own = own(alloc)?;
     let opened = vec![in alloc; None, Some(List::of(own.clone()?))]?;
     let states = vec![in alloc; SlotState::Empty, SlotState::Bad { first: 2 }]?;
@@ -111,10 +94,7 @@ fn the_item_of_a_maker(rt: HostRuntime) -> Result<(), Fail> {
         member: 2,
         seed: SEEDS[1],
     };
-    assert_eq!(rt;
-        own_item(&own, &opened, &states, &seeds),
-        accusation.encode()
-    );
-    assert_eq!(rt; own_item(b"another's", &opened, &states, &seeds), [0; 34]);
+    ensure!(own_item(&own, &opened, &states, &seeds) == accusation.encode());
+    ensure!(own_item(b"another's", &opened, &states, &seeds) == [0; 34]);
     Ok(())
 }
