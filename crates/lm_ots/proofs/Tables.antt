@@ -31,13 +31,13 @@ all_set P xs d n i x inside is all k below =
           let other : k ≢ i = omega (arith, lower) in
           subst (P k) (sym (get_or-set_other xs i k x d other)) (all k below)
       | inr least ↦ elim (cases_lt i k) [
-          | inl higher ↦
-              let other : k ≢ i = omega (arith, higher) in
-              subst (P k) (sym (get_or-set_other xs i k x d other)) (all k below)
-          | inr most ↦
-              let same : i ≡ k = omega (arith, most, least) in
-              subst (λ (j : ℕ). P j (get_or (set xs i x) j d)) same (subst (P i) (sym (get_or-set_same xs i x d inside)) is)
-        ]
+        | inl higher ↦
+            let other : k ≢ i = omega (arith, higher) in
+            subst (P k) (sym (get_or-set_other xs i k x d other)) (all k below)
+        | inr most ↦
+            let same : i ≡ k = omega (arith, most, least) in
+            subst (λ (j : ℕ). P j (get_or (set xs i x) j d)) same (subst (P i) (sym (get_or-set_same xs i x d inside)) is)
+      ]
     ]
 
 -- what holds at each of four places

@@ -60,9 +60,12 @@ steps-step_string identifier q i (suc n) j x size small =
     ∙ steps-step_string identifier q i n (j + 1) (sha256 (step_string identifier q i j x)) size (λ some. omega (arith, fits)))
 
 -- one more step of a string
+iterate-suc : (n : ℕ) (string : List ℕ) → next_string (iterate next_string n string) ≡ iterate next_string (suc n) string
+iterate-suc zero string = refl
+iterate-suc (suc n) string = iterate-suc n (next_string string)
+
 pub iterate-more : (n : ℕ) (string : List ℕ) → next_string (iterate next_string n string) ≡ iterate next_string (n + 1) string
-iterate-more zero string = refl
-iterate-more (suc n) string = iterate-more n (next_string string)
+iterate-more n string = let more : n + 1 ≡ suc n = omega arith in rw more (iterate-suc n string)
 
 -- a walk that has taken some of its steps ends as it did
 pub end_of-on : (identifier : List ℕ) (q i steps : ℕ) (walk : Walk) (string : List ℕ) → length identifier ≡ 16 → walk.end < 256

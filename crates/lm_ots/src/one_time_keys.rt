@@ -12,8 +12,8 @@ use crate::step_strings::step_string;
 use crate::strings::u32str;
 use crate::types::OtsType;
 use crate::walks::{Walk, Walks, walk_to_ends, walks_to};
-use sha2::{Digest, Sha256};
 use sha_lanes::four_digests;
+use sha2::{Digest, Sha256};
 use std::alloc::{AllocError, Global};
 
 // The place of the randomizer among the secrets of a leaf, above all chains.
@@ -132,7 +132,11 @@ impl OtsKey {
             let at = usize::from(i);
             let end = walks[at].end;
             let value = starts[usize::from(i - first)];
-            walks[at] = Walk { place: 0, end, value };
+            walks[at] = Walk {
+                place: 0,
+                end,
+                value,
+            };
         }
     }
 

@@ -36,9 +36,10 @@ impl Walk {
         self.end.saturating_sub(self.place)
     }
 
-    // The walk of chain `i` that is where a string of its steps is.
+    // A walk at the place and with the value of a step's string.
     fn at_string(string: &[u8; 55], end: u8) -> Walk
-        ensures { result ≡ record { place = slice_index string.now 22; end = end; value = drop 23 string.now } }
+        ensures walk { result ≡ record { place = slice_index string.now 22; end = end; value = drop 23 string.now } }
+        ensures byte { end < 256 }
     {
         let mut value = [0; 32];
         value.copy_from_slice(&string[23..]);

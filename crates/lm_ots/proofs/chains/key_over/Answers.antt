@@ -1,5 +1,4 @@
-use Rattle.std.proofs.Common.{◌≡◌, [], ◌++◌, refl, ap}
-use Rattle.lm_ots.specs.declared.walks.Walk.{Walk}
+use Rattle.std.proofs.Common.{ℕ, [], ◌++◌, ap}
 use Rattle.lm_ots.specs.OneTime.{d_pblc, u16str, u32str}
 use Rattle.lm_ots.specs.Walks.{walk_at}
 use Rattle.lm_ots.proofs.Walking.{values-more, values-none}
@@ -17,10 +16,7 @@ loop-i-init c =
 
 pub loop-i-preserved : goal.loop-i-preserved
 loop-i-preserved c =
-    rw (
-      ←
-          values-more c.args.walks.now c.loop-i.i (c.args.identifier.now ++ u32str c.args.q ++ u16str d_pblc)
-          (walk_at c.args.walks.now c.loop-i.i).value refl,
-      ← c.from.ensures,
-    )
+    let walks = c.args.walks.now in
+    rw (← values-more walks c.loop-i.i (c.args.identifier.now ++ u32str c.args.q ++ u16str d_pblc) (walk_at walks c.from.result).value
+    (ap (λ (j : ℕ). (walk_at walks j).value) c.from.ensures))
     (c.update-in-loop-i.ensures _ c.loop-i.invariant)

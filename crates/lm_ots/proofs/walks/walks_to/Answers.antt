@@ -1,4 +1,5 @@
-use Rattle.std.proofs.Common.{ap, get_or-replicate}
+use Rattle.std.proofs.Common.{ap}
+use Rattle.std.proofs.lemmas.List.{get_or-replicate}
 use Rattle.lm_ots.specs.declared.walks.Walk.{Walk}
 use Rattle.lm_ots.proofs.walks.walks_to.Goals as goal
 

@@ -12,4 +12,4 @@ returns c = λ k below.
     c.four_digests.result refl c.four_digests.ensures k below
     ∙ ap sha256 (each_of_four (λ k. slice_index_or (c.seed_string.result ∷ c.seed_string-2.result ∷ c.seed_string-3.result ∷ c.seed_string-4.result ∷ []) k []
     ≡ seed_string key.identifier key.q (c.args.first + k) key.seed)
-    c.seed_string.ensures c.seed_string-2.ensures c.seed_string-3.ensures c.seed_string-4.ensures k below)
+    (let none : c.args.first + 0 ≡ c.args.first = omega arith in rw none c.seed_string.ensures) c.seed_string-2.ensures c.seed_string-3.ensures c.seed_string-4.ensures k below)
