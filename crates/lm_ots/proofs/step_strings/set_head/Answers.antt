@@ -1,6 +1,6 @@
 use Rattle.std.proofs.Common.{arith}
 use Rattle.lm_ots.proofs.Blocks.{head_written}
-use Rattle.lm_ots.proofs.chains.set_head.Goals as goal
+use Rattle.lm_ots.proofs.step_strings.set_head.Goals as goal
 
 pub returns : goal.returns
 returns c =

@@ -1,6 +1,6 @@
 use Rattle.std.proofs.Common.{arith}
 use Rattle.lm_ots.proofs.Blocks.{step_written}
-use Rattle.lm_ots.proofs.chains.set_step.Goals as goal
+use Rattle.lm_ots.proofs.step_strings.set_step.Goals as goal
 
 pub returns : goal.returns
 returns c =
