@@ -1,1 +1,3 @@
+mod FourLanes
+mod Rotations
 pub mod Lanes
