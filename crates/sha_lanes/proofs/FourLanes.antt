@@ -2,7 +2,9 @@
 use Rattle.std.proofs.Common.{◌≡◌, ℕ, zero, suc, ◌+◌, ◌-◌, ◌*◌, ◌/◌, ◌%◌, ◌^◌, ◌<◌, List, [], ◌∷◌, length, map, slice_index, bit_and, bit_or, bit_xor, refl, arith}
 use Rattle.std.specs.Int.{w32, bit_not, rotate_right}
 use Rattle.sha2.specs.Sha256.{ch, maj}
-use lib.Lanes.{zip2}
+use Rattle.std.proofs.lemmas.Simd.{Each1-get_or, below_from_Fits}
+use lib.Lanes.{Each1, zip2}
+use mir.Val.{Fits}
 use Rattle.sha_lanes.proofs.Rotations.{maj_short}
 
 pub each_lane : (P : ℕ → Type 0) → P 0 → P 1 → P 2 → P 3 → (j : ℕ) → j < 4 → P j
@@ -11,6 +13,10 @@ each_lane P a b c d (suc zero) h = b
 each_lane P a b c d (suc (suc zero)) h = c
 each_lane P a b c d (suc (suc (suc zero))) h = d
 each_lane P a b c d (suc (suc (suc (suc n)))) h = absurd (omega arith)
+
+-- a number in each lane
+pub splat-lane : (n j : ℕ) → j < 4 → slice_index (n ∷ n ∷ n ∷ n ∷ []) j ≡ n
+splat-lane n = each_lane _ refl refl refl refl
 
 -- a list of four is its elements
 pub of_four : {X : Type 0} (P : List X → Type 0) → ((a b c d : X) → P (a ∷ b ∷ c ∷ d ∷ [])) → (xs : List X) → length xs ≡ 4 → P xs
@@ -67,3 +73,7 @@ HasMajority xs ys zs = (j : ℕ) → j < 4
 pub has_majority : (xs : List ℕ) → length xs ≡ 4 → (ys : List ℕ) → length ys ≡ 4 → (zs : List ℕ) → length zs ≡ 4 → HasMajority xs ys zs
 has_majority =
     of_three_fours HasMajority (λ a b c d e f g h k l m n. each_lane _ (maj_short a e k) (maj_short b f l) (maj_short c g m) (maj_short d h n))
+
+-- each lane is a word
+pub lane-lt : (xs : List ℕ) → (length xs ≡ 4) × Each1 (Fits w32) xs → (j : ℕ) → j < 4 → slice_index xs j < 2 ^ 32
+lane-lt xs fits j below = Each1-get_or (λ x. x < 2 ^ 32) xs j 0 (omega (arith, fits.0)) (below_from_Fits w32 xs fits.1)
