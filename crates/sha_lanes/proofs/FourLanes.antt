@@ -1,5 +1,5 @@
 -- What is shown of each lane by showing it of the four.
-use Rattle.std.proofs.Common.{◌≡◌, ℕ, zero, suc, ◌+◌, ◌-◌, ◌*◌, ◌/◌, ◌%◌, ◌^◌, ◌<◌, List, [], ◌∷◌, length, map, slice_index, bit_and, bit_or, bit_xor, refl, arith}
+use Rattle.std.proofs.Common.{◌≡◌, ℕ, zero, suc, ◌-◌, ◌*◌, ◌/◌, ◌%◌, ◌^◌, ◌<◌, List, [], ◌∷◌, length, map, slice_index, slice_index_or, bit_and, bit_or, bit_xor, refl, arith}
 use Rattle.std.specs.Int.{w32, bit_not, rotate_right}
 use Rattle.sha2.specs.Sha256.{ch, maj}
 use Rattle.std.proofs.lemmas.Simd.{Each1-get_or, below_from_Fits}
@@ -26,6 +26,11 @@ of_four P p (a ∷ b ∷ []) h = absurd (omega arith)
 of_four P p (a ∷ b ∷ c ∷ []) h = absurd (omega arith)
 of_four P p (a ∷ b ∷ c ∷ d ∷ []) h = p a b c d
 of_four P p (a ∷ b ∷ c ∷ d ∷ e ∷ xs) h = absurd (omega arith)
+
+pub four_items : (xs : List (List ℕ)) → length xs ≡ 4
+    → xs ≡ slice_index_or xs 0 [] ∷ slice_index_or xs 1 [] ∷ slice_index_or xs 2 [] ∷ slice_index_or xs 3 [] ∷ []
+four_items =
+    of_four (λ xs. xs ≡ slice_index_or xs 0 [] ∷ slice_index_or xs 1 [] ∷ slice_index_or xs 2 [] ∷ slice_index_or xs 3 [] ∷ []) (λ a b c d. refl)
 
 abbrev ShiftsRight : ℕ → List ℕ → Type 0
 ShiftsRight k xs = (j : ℕ) → j < 4 → slice_index (zip2 (λ x n. x / 2 ^ n) xs (k ∷ k ∷ k ∷ k ∷ [])) j ≡ slice_index xs j / 2 ^ k

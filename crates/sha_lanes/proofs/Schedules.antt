@@ -1,8 +1,11 @@
 -- The rounds in each lane, by what sha2 shows of the rounds on one block.
-use Rattle.std.proofs.Common.{◌≡◌, ℕ, ◌+◌, ◌*◌, ◌%◌, ◌<◌, ◌≤◌, List, [], slice_index, slice_index_or, slice_set, refl, sym, ap, ◌∙◌, arith}
+use Rattle.std.proofs.Common.{◌≡◌, ℕ, List, [], slice_index, slice_index_or, slice_set, length}
 use Rattle.std.proofs.Math.ListN.{get_or-map}
-use Rattle.std.proofs.lemmas.List.{map-set}
+use Rattle.std.proofs.lemmas.List.{length-map, map-set}
 use Rattle.sha_lanes.specs.Lanes.{lane}
+
+pub length-lane : (words : List (List ℕ)) (j : ℕ) → length (lane j words) ≡ length words
+length-lane words j = length-map words (λ (w : List ℕ). slice_index w j)
 
 -- word k of lane j
 pub slice_index-lane : (words : List (List ℕ)) (j k : ℕ) → slice_index (lane j words) k ≡ slice_index (slice_index_or words k []) j

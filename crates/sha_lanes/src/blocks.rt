@@ -1,7 +1,7 @@
 //! From strings to the words of their blocks (FIPS 180-4, 5.1.1 and 5.2.1), and from words to digests.
 
 ghost use Rattle.std.specs.Prelude.{◌≡◌, ℕ, ◌+◌, ◌*◌, ◌<◌, ◌≤◌, [], slice_index, slice_index_or};
-ghost use Rattle.sha2.specs.Sha256.{IsWindow, digest_bytes, padded_message, schedule, word_at};
+ghost use Rattle.sha2.specs.Sha256.{IsWindow, compress, digest_bytes, initial_hash_256, padded_message, schedule, sha256, word_at};
 ghost use Rattle.sha_lanes.specs.Lanes.{lane};
 
 use std::simd::u32x4;
@@ -11,9 +11,10 @@ const STRING_BYTES: usize = 55;
 // A bit 1, zeros, and the length of the string in bits, 440, as 8 bytes.
 const PADDING: [u8; 9] = [0x80, 0, 0, 0, 0, 0, 0, 0x01, 0xb8];
 
-/// The block of a string: the string and its padding.
+/// The block of a string, which is the string and its padding; the digest is made of this block alone.
 pub(crate) fn padded_block(string: &[u8; 55]) -> [u8; 64]
-    ensures { result ≡ padded_message string.now }
+    ensures block { result ≡ padded_message string.now }
+    ensures digest { sha256 string.now ≡ digest_bytes (compress initial_hash_256 result) 8 }
 {
     let mut block = [0; 64];
     block[..STRING_BYTES].copy_from_slice(string);

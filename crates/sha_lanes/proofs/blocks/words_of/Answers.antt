@@ -1,9 +1,9 @@
-use Rattle.std.proofs.Common.{◌≡◌, ◌<◌, ◌≢◌, ◌∙◌, length, arith, ap, sym, inl, inr, slice_index, length-map}
+use Rattle.std.proofs.Common.{◌≡◌, ◌∙◌, length, arith, ap, inl, inr, slice_index}
 use Rattle.std.proofs.lemmas.Bool.{cases_lt}
 use Rattle.std.proofs.lemmas.List.{get_or-set_other, get_or-set_same, length-set}
 use Rattle.sha2.proofs.Schedule256.{IsWindow_first}
 use Rattle.sha_lanes.specs.Lanes.{lane}
-use Rattle.sha_lanes.proofs.Schedules.{lane-set}
+use Rattle.sha_lanes.proofs.Schedules.{lane-set, length-lane}
 use Rattle.sha_lanes.proofs.blocks.words_of.Goals as goal
 
 pub words-preserved : goal.words-preserved
@@ -13,7 +13,7 @@ words-preserved c =
       length-set c.words.words place word ∙ c.words.invariant.0,
       λ j k below written.
           let held = lane j c.words.words in
-          let long : length held ≡ 16 = length-map (λ w. slice_index w j) c.words.words ∙ c.words.invariant.0 in
+          let long : length held ≡ 16 = length-lane c.words.words j ∙ c.words.invariant.0 in
           ap (λ l. slice_index l k) (lane-set c.words.words j place word)
           ∙ elim (cases_lt k place) [
             | inl before ↦ get_or-set_other held place k (slice_index word j) 0 (omega arith) ∙ c.words.invariant.1 j k below before
@@ -26,5 +26,5 @@ words-preserved c =
 pub returns : goal.returns
 returns c j below =
     let words = c.words.words in
-    IsWindow_first _ (lane j words) (length-map (λ w. slice_index w j) words ∙ c.words.invariant.0)
+    IsWindow_first _ (lane j words) (length-lane words j ∙ c.words.invariant.0)
     (λ k lt. c.words.invariant.1 j k below (omega arith))

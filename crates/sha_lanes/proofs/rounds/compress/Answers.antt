@@ -1,5 +1,5 @@
-use Rattle.std.proofs.Common.{◌≡◌, ap, ap₂, ◌∙◌, refl}
-use Rattle.sha2.specs.Sha256.{add_state, compress, initial_hash_256}
+use Rattle.std.proofs.Common.{◌∙◌, refl}
+use Rattle.sha2.specs.Sha256.{compress}
 use Rattle.sha_lanes.proofs.rounds.compress.Goals as goal
 
 pub returns : goal.returns

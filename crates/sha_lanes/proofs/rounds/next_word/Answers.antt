@@ -10,9 +10,16 @@ returns c =
     record {
       value = λ j below.
           rw (
-            w j ((p + 14) % 16), w j ((p + 9) % 16), w j ((p + 1) % 16), at, w j p,
-            c.add-word.ensures j below, c.add.ensures j below, c.add-newer.ensures j below,
-            c.small_sigma1.ensures j below, c.small_sigma0.ensures j below,
+            w j ((p + 14) % 16),
+            w j ((p + 9) % 16),
+            w j ((p + 1) % 16),
+            at,
+            w j p,
+            c.add-word.ensures j below,
+            c.add.ensures j below,
+            c.add-newer.ensures j below,
+            c.small_sigma1.ensures j below,
+            c.small_sigma0.ensures j below,
           ) refl;
       window = refl;
     }
