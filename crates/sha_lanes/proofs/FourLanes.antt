@@ -1,10 +1,11 @@
 -- What is shown of each lane by showing it of the four.
-use Rattle.std.proofs.Common.{◌≡◌, ℕ, zero, suc, ◌-◌, ◌*◌, ◌/◌, ◌%◌, ◌^◌, ◌<◌, List, [], ◌∷◌, length, map, slice_index, slice_index_or, bit_and, bit_or, bit_xor, refl, arith}
+use Rattle.std.proofs.Common.{◌≡◌, ℕ, zero, suc, ◌-◌, ◌*◌, ◌/◌, ◌%◌, ◌^◌, ◌<◌, List, [], ◌∷◌, ◌++◌, length, map, slice_index, slice_index_or, bit_and, bit_or, bit_xor, refl, sym, arith}
 use Rattle.std.specs.Int.{w32, bit_not, rotate_right}
 use Rattle.sha2.specs.Sha256.{ch, maj}
 use Rattle.std.proofs.lemmas.Simd.{Each1-get_or, below_from_Fits}
 use lib.Lanes.{Each1, zip2}
 use mir.Val.{Fits}
+use Rattle.sha_lanes.specs.Lanes.{lane}
 use Rattle.sha_lanes.proofs.Rotations.{maj_short}
 
 pub each_lane : (P : ℕ → Type 0) → P 0 → P 1 → P 2 → P 3 → (j : ℕ) → j < 4 → P j
@@ -31,6 +32,31 @@ pub four_items : (xs : List (List ℕ)) → length xs ≡ 4
     → xs ≡ slice_index_or xs 0 [] ∷ slice_index_or xs 1 [] ∷ slice_index_or xs 2 [] ∷ slice_index_or xs 3 [] ∷ []
 four_items =
     of_four (λ xs. xs ≡ slice_index_or xs 0 [] ∷ slice_index_or xs 1 [] ∷ slice_index_or xs 2 [] ∷ slice_index_or xs 3 [] ∷ []) (λ a b c d. refl)
+
+pub four_numbers : (xs : List ℕ) → length xs ≡ 4
+    → xs ≡ slice_index xs 0 ∷ slice_index xs 1 ∷ slice_index xs 2 ∷ slice_index xs 3 ∷ []
+four_numbers = of_four (λ xs. xs ≡ slice_index xs 0 ∷ slice_index xs 1 ∷ slice_index xs 2 ∷ slice_index xs 3 ∷ []) (λ a b c d. refl)
+
+-- two lists of four after each other, element by element
+pub joined_fours : (xs ys : List ℕ) → length xs ≡ 4 → length ys ≡ 4
+    → slice_index xs 0 ∷ slice_index xs 1 ∷ slice_index xs 2 ∷ slice_index xs 3
+    ∷ slice_index ys 0 ∷ slice_index ys 1 ∷ slice_index ys 2 ∷ slice_index ys 3 ∷ [] ≡ xs ++ ys
+joined_fours xs ys four_x four_y = sym (λ i. four_numbers xs four_x i ++ four_numbers ys four_y i)
+
+-- a lane of eight vectors, from its halves
+pub halves-lane : (words : List (List ℕ)) → length words ≡ 8 → (j : ℕ)
+    → lane j (slice_index_or words 0 [] ∷ slice_index_or words 1 [] ∷ slice_index_or words 2 [] ∷ slice_index_or words 3 [] ∷ [])
+    ++ lane j (slice_index_or words 4 [] ∷ slice_index_or words 5 [] ∷ slice_index_or words 6 [] ∷ slice_index_or words 7 [] ∷ [])
+    ≡ lane j words
+halves-lane [] h j = absurd (omega arith)
+halves-lane (a ∷ []) h j = absurd (omega arith)
+halves-lane (a ∷ b ∷ []) h j = absurd (omega arith)
+halves-lane (a ∷ b ∷ c ∷ []) h j = absurd (omega arith)
+halves-lane (a ∷ b ∷ c ∷ d ∷ rest) h j =
+    of_four (λ rest. slice_index a j ∷ slice_index b j ∷ slice_index c j ∷ slice_index d j
+    ∷ slice_index (slice_index_or rest 0 []) j ∷ slice_index (slice_index_or rest 1 []) j
+    ∷ slice_index (slice_index_or rest 2 []) j ∷ slice_index (slice_index_or rest 3 []) j ∷ []
+    ≡ lane j (a ∷ b ∷ c ∷ d ∷ rest)) (λ e f g k. refl) rest (omega arith)
 
 abbrev ShiftsRight : ℕ → List ℕ → Type 0
 ShiftsRight k xs = (j : ℕ) → j < 4 → slice_index (zip2 (λ x n. x / 2 ^ n) xs (k ∷ k ∷ k ∷ k ∷ [])) j ≡ slice_index xs j / 2 ^ k

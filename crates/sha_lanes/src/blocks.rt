@@ -1,6 +1,6 @@
 //! From strings to the words of their blocks (FIPS 180-4, 5.1.1 and 5.2.1), and from words to digests.
 
-ghost use Rattle.std.specs.Prelude.{◌≡◌, ℕ, ◌+◌, ◌*◌, ◌<◌, ◌≤◌, [], slice_index, slice_index_or};
+ghost use Rattle.std.specs.Prelude.{◌≡◌, ℕ, ◌+◌, ◌*◌, ◌<◌, ◌≤◌, [], ◌∷◌, ◌++◌, map, slice_index, slice_index_or};
 ghost use Rattle.sha2.specs.Sha256.{IsWindow, compress, digest_bytes, initial_hash_256, padded_message, schedule, sha256, word_at};
 ghost use Rattle.sha_lanes.specs.Lanes.{lane};
 
@@ -56,16 +56,45 @@ pub(crate) fn words_of(blocks: &[[u8; 64]; 4]) -> [u32x4; 16]
     words
 }
 
-/// The digest in lane j: the words of its hash value, the high byte of each first.
+// Four words of each lane: lane j of `a`, `b`, `c` and `d` is vector j of the result.
 #[inline(always)]
-pub(crate) fn digest_of(hash: &[u32x4; 8], j: usize) -> [u8; 32]
-    requires { j < 4 }
-    ensures { result ≡ digest_bytes (lane j hash.now) 8 }
+fn transposed(a: u32x4, b: u32x4, c: u32x4, d: u32x4) -> [u32x4; 4]
+    ensures { result ≡ map (λ j. lane j (a ∷ b ∷ c ∷ d ∷ [])) (0 ∷ 1 ∷ 2 ∷ 3 ∷ []) }
 {
+    let (ac_low, ac_high) = a.interleave(c);
+    let (bd_low, bd_high) = b.interleave(d);
+    let (first, second) = ac_low.interleave(bd_low);
+    let (third, fourth) = ac_high.interleave(bd_high);
+    [first, second, third, fourth]
+}
+
+// The digest of eight words, the high byte of each first.
+#[inline(always)]
+fn digest_of(front: u32x4, back: u32x4) -> [u8; 32]
+    ensures { result ≡ digest_bytes (front ++ back) 8 }
+{
+    let [a, b, c, d] = front.to_array();
+    let [e, f, g, h] = back.to_array();
+    let words = [a, b, c, d, e, f, g, h];
     let mut digest = [0; 32];
     'words: for i in 0..8 {
-        let word = hash[i].to_array()[j];
-        digest[4 * i..4 * i + 4].copy_from_slice(&word.to_be_bytes());
+        digest[4 * i..4 * i + 4].copy_from_slice(&words[i].to_be_bytes());
     }
     digest
+}
+
+/// The digest in each lane of a hash value.
+#[inline(always)]
+pub(crate) fn digests_of(hash: &[u32x4; 8]) -> [[u8; 32]; 4]
+    ensures { result ≡ map (λ j. digest_bytes (lane j hash.now) 8) (0 ∷ 1 ∷ 2 ∷ 3 ∷ []) }
+{
+    let [a, b, c, d, e, f, g, h] = *hash;
+    let front = transposed(a, b, c, d);
+    let back = transposed(e, f, g, h);
+    [
+        digest_of(front[0], back[0]),
+        digest_of(front[1], back[1]),
+        digest_of(front[2], back[2]),
+        digest_of(front[3], back[3]),
+    ]
 }

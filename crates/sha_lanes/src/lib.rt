@@ -4,7 +4,7 @@
 ghost use Rattle.std.specs.Prelude.{◌≡◌, map};
 ghost use Rattle.sha2.specs.Sha256.{sha256};
 
-use blocks::{digest_of, padded_block, words_of};
+use blocks::{digests_of, padded_block, words_of};
 use rounds::compress;
 
 mod blocks;
@@ -23,10 +23,5 @@ pub fn four_digests(strings: &[[u8; 55]; 4]) -> [[u8; 32]; 4]
         padded_block(&strings[3]),
     ];
     let hash = compress(words_of(&blocks));
-    [
-        digest_of(&hash, 0),
-        digest_of(&hash, 1),
-        digest_of(&hash, 2),
-        digest_of(&hash, 3),
-    ]
+    digests_of(&hash)
 }
