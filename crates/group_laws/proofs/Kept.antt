@@ -91,7 +91,7 @@ kept-at script member delivered is of honest are =
           (λ bytes e. shown-evidence c delivered (state_of out) bytes enters are (ap state_of same) (e ∙ ap evidence_shown same));
     }
 
-shown-faulty : (seat : Seat) → (shown_of seat).faulty ≡ is_faulty seat.fault
+pub shown-faulty : (seat : Seat) → (shown_of seat).faulty ≡ is_faulty seat.fault
 unfolding shown_of
 shown-faulty seat = refl
 

@@ -5,3 +5,7 @@ pub mod Speeches
 pub mod Actors
 pub mod Worlds
 pub mod Kept
+pub mod Spellings
+pub mod Honest
+pub mod Forging
+pub mod Served

@@ -217,7 +217,7 @@ contains-drop zero xs x there = there
 contains-drop (suc n) [] x there = there
 contains-drop (suc n) (y ∷ ys) x there = contains-later y ys x (contains-drop n ys x there)
 
-contains-take : {A : Type 0} (n : ℕ) (xs : List A) (x : A) → Contains (take n xs) x → Contains xs x
+pub contains-take : {A : Type 0} (n : ℕ) (xs : List A) (x : A) → Contains (take n xs) x → Contains xs x
 contains-take zero xs x there = absurd (contains-nothing x there)
 contains-take (suc n) [] x there = there
 contains-take (suc n) (y ∷ ys) x there = elim (contains-cases y (take n ys) x there) [

@@ -74,14 +74,14 @@ pub header-same : (a b : Header) (r : Result Header Short) → r ≡ Ok a → r 
 header-same a b (Ok h) first second = cc
 header-same a b (Err short) first second = absurd cc
 
-content-same : (a b : Content) (r : Result Content Offence) → r ≡ Ok a → r ≡ Ok b → a ≡ b
+pub content-same : (a b : Content) (r : Result Content Offence) → r ≡ Ok a → r ≡ Ok b → a ≡ b
 content-same a b (Ok x) first second = cc
 content-same a b (Err offence) first second = absurd cc
 
-widths-of : (shape : Shape) (h : Header) → IsHeader shape h → HasWidths h
+pub widths-of : (shape : Shape) (h : Header) → IsHeader shape h → HasWidths h
 widths-of shape h is = record { group_long = is.group_long; round_small = is.round_small; view_long = is.view_long }
 
-text-header : (h : Header) (body : Body) → HasWidths h → header_of (content_text (record { header = h; body = body })) ≡ Ok h
+pub text-header : (h : Header) (body : Body) → HasWidths h → header_of (content_text (record { header = h; body = body })) ≡ Ok h
 text-header h body widths = begins-header_of (content_text (record { header = h; body = body })) h
     (record { widths = widths; rest = (kind_number body ∷ []) ++ body_text body; spelled = refl })
 

@@ -57,11 +57,11 @@ all-replicate : {A : Type 0} (P : A → Type 0) (n : ℕ) (x : A) → P x → Al
 all-replicate P zero x is = tt
 all-replicate P (suc n) x is = (is, all-replicate P n x is)
 
-all-told : {A : Type 0} (P : A → Type 0) (xs : List A) → ((x : A) → P x) → AllByRecursion P xs
+pub all-told : {A : Type 0} (P : A → Type 0) (xs : List A) → ((x : A) → P x) → AllByRecursion P xs
 all-told P [] each = tt
 all-told P (x ∷ xs) each = (each x, all-told P xs each)
 
-mapped-mapped : {A B C : Type 0} (f : B → C) (g : A → B) (h : A → C) (xs : List A) → ((x : A) → f (g x) ≡ h x)
+pub mapped-mapped : {A B C : Type 0} (f : B → C) (g : A → B) (h : A → C) (xs : List A) → ((x : A) → f (g x) ≡ h x)
     → map f (map g xs) ≡ map h xs
 mapped-mapped f g h [] same = refl
 mapped-mapped f g h (x ∷ xs) same = ap (λ ys. f (g x) ∷ ys) (mapped-mapped f g h xs same) ∙ ap (λ y. y ∷ map h xs) (same x)
