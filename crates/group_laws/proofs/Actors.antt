@@ -1,7 +1,7 @@
 -- What a member of any fault keeps and has made, whatever bytes were delivered to it: its log reads in its slots, and all that
 -- it posts is a content that it may say where it stands.
 use Rattle.std.proofs.Common.{◌≡◌, ◌⊎◌, ℕ, zero, suc, ◌+◌, ◌*◌, ◌<◌, ◌≤◌, Bool, true, false, List, [], ◌∷◌, ◌++◌, Option, Some, None, length, take, drop, map, ap, sym, ◌∙◌, refl, subst, arith, inl, inr, length-append}
-use Rattle.std.specs.Prelude.{◌-◌, ◌==◌, All, slice_index_or, Contains, IfSome, Ok, fold, is_ok, is_some, nat_lt, option_map, replicate, slice_range, if◌then◌else◌}
+use Rattle.std.specs.Prelude.{◌-◌, ◌==◌, All, slice_index_or, Contains, Err, IfSome, Ok, fold, is_ok, is_some, nat_lt, option_map, replicate, slice_range, if◌then◌else◌}
 use Rattle.std.specs.Fn.{iterate}
 use Rattle.std.specs.List.{AllByRecursion, slice_get}
 use Rattle.std.specs.Option.{option_flatten}

@@ -103,7 +103,7 @@ number-honest script number is (run, there, same) =
     let found = contains-map (run_shown script) (filter (λ shown. not shown.faulty) (script_end script)) run there in
     let shown : MemberShown = found.0 in
     let kept = contains-filter (λ (s : MemberShown). not s.faulty) (script_end script) found.0 found.1 in
-    let at = honest-at script found.0 is (record { shown = kept.0; honest = not-true found.0.faulty kept.1 }) in
+    let at = honest-at script found.0 is (record { listed = kept.0; honest = not-true found.0.faulty kept.1 }) in
     let number_is : at.member ≡ number = sym (shown-number (seat_with script at.member at.delivered)) ∙ ap (λ (s : MemberShown). s.number) at.is
     ∙ ap (λ (r : Run). r.config.number) found.2 ∙ same in
     sym (ap (fault_in script.faults) number_is) ∙ at.honest

@@ -106,7 +106,7 @@ pub record IsHonestAt (script : Script) (shown : MemberShown) : Type 0 where
 
 pub honest-at : (script : Script) (shown : MemberShown) → IsScript script → IsHonestIn script shown → IsHonestAt script shown
 honest-at script shown is in_it =
-    let at = shown-at script shown is in_it.shown in
+    let at = shown-at script shown is in_it.listed in
     let same = at.of.same in
     record {
       member = at.of.member;

@@ -109,7 +109,7 @@ unfolding honest_runs
 run-of script run there =
     let found = contains-map (run_shown script) (filter (λ (s : MemberShown). not s.faulty) (script_end script)) run there in
     let kept = contains-filter (λ (s : MemberShown). not s.faulty) (script_end script) found.0 found.1 in
-    (found.0, record { shown = kept.0; honest = honest-flag found.0.faulty kept.1 }, found.2)
+    (found.0, record { listed = kept.0; honest = honest-flag found.0.faulty kept.1 }, found.2)
 
 runs-apart : (script : Script) → IsScript script → AllPairs AreApart (honest_runs script)
 unfolding honest_runs script_end group_end
@@ -134,7 +134,7 @@ runs_are_honest script is = record {
 own-there : (script : Script) (shown : MemberShown) → IsHonestIn script shown → Contains (honest_runs script) (run_shown script shown)
 unfolding honest_runs
 own-there script shown in_it = contains-map-from (run_shown script) (filter (λ (s : MemberShown). not s.faulty) (script_end script)) shown
-    (contains-filter-from (λ (s : MemberShown). not s.faulty) (script_end script) shown in_it.shown (ap not in_it.honest))
+    (contains-filter-from (λ (s : MemberShown). not s.faulty) (script_end script) shown in_it.listed (ap not in_it.honest))
 
 pub honest_stand_among : HonestStandAmong
 honest_stand_among script shown is in_it =
@@ -144,7 +144,7 @@ honest_stand_among script shown is in_it =
       bytes = keeps.bytes;
       honest = runs_are_honest script is;
       own = own-there script shown in_it;
-      unforged = nothing_is_forged script shown is in_it.shown;
+      unforged = nothing_is_forged script shown is in_it.listed;
     }
 
 -- ---- what they are served

@@ -1,6 +1,6 @@
 -- In the group of a script members keep what they began with, and all that is delivered is bytes.
 use Rattle.std.proofs.Common.{◌≡◌, ◌⊎◌, ℕ, zero, suc, ◌+◌, ◌<◌, ◌≤◌, Bool, true, false, List, [], ◌∷◌, ◌++◌, Option, Some, None, length, drop, map, ap, sym, ◌∙◌, refl, subst, arith, inl, inr}
-use Rattle.std.specs.Prelude.{All, Contains, Result, Ok, Err, not, replicate, unwrap_or, if◌then◌else◌}
+use Rattle.std.specs.Prelude.{◌-◌, All, Contains, Result, Ok, Err, not, replicate, unwrap_or, if◌then◌else◌}
 use Rattle.std.specs.Fn.{iterate}
 use Rattle.std.specs.Int.{to_be_bytes, w32}
 use Rattle.std.specs.List.{AllByRecursion, flat_map, range_with_len, slice_get}
@@ -129,23 +129,38 @@ pub record IsEntryOf (seat : Seat) (entry : Entry) : Type 0 where
   pub is : (entry.post ≡ post) ⊎ ((content : List ℕ) × IsOtherVote (shape_in seat.config) post content
       × (second_content seat.fault (shape_in seat.config) post ≡ Some content) × (entry.post ≡ signed_with seat.spare content))
 
+abbrev whole-entry : Seat → Post → Entry
+whole-entry seat post = record { sender = seat.config.number; post = post; first = 1; last = (shape_in seat.config).members }
+
+abbrev lower-entry : Seat → Post → Entry
+lower-entry seat post = record { sender = seat.config.number; post = post; first = 1; last = seat.config.number - 1 }
+
+abbrev upper-entry : Seat → List ℕ → Entry
+upper-entry seat content = record {
+  sender = seat.config.number;
+  post = signed_with seat.spare content;
+  first = seat.config.number + 1;
+  last = (shape_in seat.config).members;
+}
+
 entry-with : (seat : Seat) (post : Post) (o : Option (List ℕ)) (entry : Entry) → Contains (actor_of seat).made post
     → second_content seat.fault (shape_in seat.config) post ≡ o → Contains (entries_with seat post o) entry → IsEntryOf seat entry
-entry-with seat post None entry made e there = elim (contains-cases _ [] entry there) [
+entry-with seat post None entry made e there = elim (contains-cases (whole-entry seat post) [] entry there) [
   | inl here ↦ record { post = post; made = made; is = inl (ap (λ (x : Entry). x.post) (sym here)) }
   | inr never ↦ absurd (contains-nothing entry never)
 ]
-entry-with seat post (Some content) entry made e there = elim (contains-cases _ _ entry there) [
-  | inl here ↦ record { post = post; made = made; is = inl (ap (λ (x : Entry). x.post) (sym here)) }
-  | inr later ↦ elim (contains-cases _ [] entry later) [
-    | inl here ↦ record {
-      post = post;
-      made = made;
-      is = inr (content, vote-second seat.fault (shape_in seat.config) post content e, e, ap (λ (x : Entry). x.post) (sym here));
-    }
-    | inr never ↦ absurd (contains-nothing entry never)
-  ]
-]
+entry-with seat post (Some content) entry made e there =
+    elim (contains-cases (lower-entry seat post) (upper-entry seat content ∷ []) entry there) [
+      | inl here ↦ record { post = post; made = made; is = inl (ap (λ (x : Entry). x.post) (sym here)) }
+      | inr later ↦ elim (contains-cases (upper-entry seat content) [] entry later) [
+        | inl here ↦ record {
+          post = post;
+          made = made;
+          is = inr (content, vote-second seat.fault (shape_in seat.config) post content e, e, ap (λ (x : Entry). x.post) (sym here));
+        }
+        | inr never ↦ absurd (contains-nothing entry never)
+      ]
+    ]
 
 pub entry-of : (before : ℕ) (seat : Seat) (entry : Entry) → Contains (entries_beyond before seat) entry → IsEntryOf seat entry
 unfolding entries_beyond
@@ -201,7 +216,7 @@ emptied seat = record seat { delivered = [] }
 pub record IsSteady (script : Script) (seats : List Seat) (queue : List Entry) : Type 0 where
   pub same : map emptied seats ≡ map (script_seat script) (script_members script)
   pub bytes : (seat : Seat) → Contains seats seat → AllByRecursion IsBytes seat.delivered
-  pub queue : (entry : Entry) → Contains queue entry → IsBytes (post_spelling entry.post)
+  pub entries : (entry : Entry) → Contains queue entry → IsBytes (post_spelling entry.post)
 
 -- a member is one of the script
 pub record IsSeatOf (script : Script) (seat : Seat) : Type 0 where
@@ -245,7 +260,7 @@ module _ (script : Script) (is : IsScript script) (carriage : Carriage) where
   carried-steady : (seats : List Seat) (carried : Entry) (others : List Entry) → IsSteady script seats (carried ∷ others)
       → IsSteady script (map (seat_behind carriage carried) seats) (others ++ flat_map (entries_behind carriage carried) seats)
   carried-steady seats carried others steady =
-      let carried_bytes = steady.queue carried (contains-here carried others) in
+      let carried_bytes = steady.entries carried (contains-here carried others) in
       let same : map emptied (map (seat_behind carriage carried) seats) ≡ map (script_seat script) (script_members script)
       = mapped-mapped emptied (seat_behind carriage carried) emptied seats (behind-same carriage carried) ∙ steady.same in
       let bytes : (seat : Seat) → Contains (map (seat_behind carriage carried) seats) seat → AllByRecursion IsBytes seat.delivered
@@ -256,8 +271,8 @@ module _ (script : Script) (is : IsScript script) (carriage : Carriage) where
       record {
         same = same;
         bytes = bytes;
-        queue = λ entry there. elim (Contains-append_cases others (flat_map (entries_behind carriage carried) seats) entry there) [
-          | inl old ↦ steady.queue entry (contains-later carried others entry old)
+        entries = λ entry there. elim (Contains-append_cases others (flat_map (entries_behind carriage carried) seats) entry there) [
+          | inl old ↦ steady.entries entry (contains-later carried others entry old)
           | inr new ↦
               let found = contains-flat (entries_behind carriage carried) seats entry new in
               let after : Seat = seat_behind carriage carried found.0 in
@@ -275,7 +290,7 @@ module _ (script : Script) (is : IsScript script) (carriage : Carriage) where
       (λ _. record {
         same = steady.same;
         bytes = steady.bytes;
-        queue = λ entry there. steady.queue entry (contains-later carried others entry there);
+        entries = λ entry there. steady.entries entry (contains-later carried others entry there);
       })
       (λ _. carried-steady seats carried others steady)
 
@@ -308,7 +323,7 @@ module _ (script : Script) (is : IsScript script) (carriage : Carriage) where
       record {
         same = same;
         bytes = bytes;
-        queue = λ entry there. (
+        entries = λ entry there. (
           let found = contains-flat (entries_beyond 0) seats entry there in
           seat-entries script found.0 0 entry is (seat-of script seats found.0 same found.1) (bytes found.0 found.1) found.2);
       }

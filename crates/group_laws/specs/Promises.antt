@@ -18,7 +18,7 @@ config_shown script shown = script_configuration script shown.number
 
 -- a member is shown at the end of a script's group, and has no fault
 pub record IsHonestIn (script : Script) (shown : MemberShown) : Type 0 where
-  pub shown : Contains (script_end script) shown
+  pub listed : Contains (script_end script) shown
   pub honest : shown.faulty ≡ false
 
 -- what is shown of it is the result of what was delivered to it, and is not that it stopped; its state keeps the promise of a
