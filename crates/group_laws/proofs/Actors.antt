@@ -30,7 +30,6 @@ use Rattle.stage_log.specs.Log.{all_some, contents_of}
 use Rattle.stage_log.specs.Table.{IsKept, IsLog, Log, empty_log, filled, kept_in, posts_in}
 use Rattle.stage_log.proofs.Entries.{filled-is_log}
 use Rattle.stage_log.proofs.Pasts.{all_some-is}
-use Rattle.bulk_descriptor.specs.Descriptor.{Description, descriptor_text}
 use Rattle.round_spec.specs.Course.{Stand, closing_of, is_open, stand_behind}
 use Rattle.round_spec.specs.Embedded.{slot_named}
 use Rattle.round_spec.specs.OwnRows.{CanSay, IsPastAt}
@@ -40,7 +39,6 @@ use Rattle.round_spec.specs.Say.{Configuration, content_with, number_said_before
 use Rattle.round_spec.specs.Verdict.{Goes, Verdict, verdict_of}
 use Rattle.round_spec.proofs.Beginnings.{shape-is}
 use Rattle.round_spec.proofs.Contained.{contains-cases, contains-nothing}
-use Rattle.round_spec.proofs.Courses.{cases_Some}
 use Rattle.round_spec.proofs.Given.{first_posts_delivered}
 use Rattle.round_spec.proofs.GoLists.{there as slot-there}
 use Rattle.round_spec.proofs.OwnBytes.{signature-bytes}
@@ -59,7 +57,7 @@ use Rattle.member_spec.specs.Replies.{Replies}
 use Rattle.member_spec.proofs.Hearing.{fault-of, fault-outside, given-here, heard-other}
 use Rattle.member_core.proofs.OwnPosts.{kept-cases}
 use Rattle.round_script.specs.declared.fault.Fault.{Fault}
-use Rattle.group_spec.specs.Faulty.{FaultyMember, faulty_description, faulty_member, faulty_replies, faulty_speech}
+use Rattle.group_spec.specs.Faulty.{faulty_description, faulty_member, faulty_replies, faulty_speech}
 use Rattle.group_spec.proofs.Made.{choose}
 use Rattle.group_laws.proofs.Changes.{description-item}
 use Rattle.group_laws.proofs.Rows.{IsOwn}
@@ -133,10 +131,10 @@ module _ (c : Configuration) (log : Log) (at : ℕ) (past posts : List Post) (fo
 
   within : slots_before (shape_in c) (at + 1) ≤ length log.posts
   within = (
-    let most = slots_before-most log.shape (at + 1) in
-    let places = form.places in
-    let same : slots_before log.shape (at + 1) ≡ slots_before (shape_in c) (at + 1) = ap (λ (s : Shape). slots_before s (at + 1)) shape in
-    omega (arith, most, places, same))
+      let most = slots_before-most log.shape (at + 1) in
+      let places = form.places in
+      let same : slots_before log.shape (at + 1) ≡ slots_before (shape_in c) (at + 1) = ap (λ (s : Shape). slots_before s (at + 1)) shape in
+      omega (arith, most, places, same))
 
   posts-many : length posts ≡ slots_before (shape_in c) (at + 1) - slots_before (shape_in c) at
   posts-many =
@@ -335,20 +333,20 @@ module _ (fault : Fault) (c : Configuration) (enters : CanEnter c) (Known : Post
       choose (λ (x : Actor). IsSober (faulty_replies (faulty_member fault c.number)) c Known x)
       (is_ok (content_read (shape_in c) post.content)) _ _
       (λ ok. (
-        let read = made-reads c Known a.stand.at a.stand.past text can good ok in
-        let speaks : is_slot a.log.shape a.stand.at c.number ≡ true
-        = ap (λ (s : Shape). is_slot s a.stand.at c.number) is.shape ∙ can.speaks in
-        record {
-          form = filled-is_log a.log slot post is.form (kept-of c slot post read);
-          shape = is.shape;
-          reads = filled-holds c a.log slot post (λ s p. ReadsIn c s p) is.form speaks is.reads read;
-          known = filled-holds c a.log slot post (λ s p. Known p) is.form speaks is.known (made-known a.stand.at text good);
-          past = is.past;
-          past_known = is.past_known;
-          goes = is.goes;
-          put_off = λ bytes e. absurd cc;
-          made = more-made a text good is;
-        }))
+      let read = made-reads c Known a.stand.at a.stand.past text can good ok in
+      let speaks : is_slot a.log.shape a.stand.at c.number ≡ true
+      = ap (λ (s : Shape). is_slot s a.stand.at c.number) is.shape ∙ can.speaks in
+      record {
+        form = filled-is_log a.log slot post is.form (kept-of c slot post read);
+        shape = is.shape;
+        reads = filled-holds c a.log slot post (λ s p. ReadsIn c s p) is.form speaks is.reads read;
+        known = filled-holds c a.log slot post (λ s p. Known p) is.form speaks is.known (made-known a.stand.at text good);
+        past = is.past;
+        past_known = is.past_known;
+        goes = is.goes;
+        put_off = λ bytes e. absurd cc;
+        made = more-made a text good is;
+      }))
       (λ _. record {
         form = is.form;
         shape = is.shape;

@@ -1,9 +1,9 @@
 -- What faults make of bytes are bytes.
-use Rattle.std.proofs.Common.{◌≡◌, ◌⊎◌, ℕ, zero, suc, ◌+◌, ◌%◌, ◌<◌, true, false, List, [], ◌∷◌, ◌++◌, Option, Some, None, length, take, drop, map, sym, ◌∙◌, ap, refl, subst, arith, inl, inr, length-append}
-use Rattle.std.specs.Prelude.{◌-◌, ◌==◌, slice_index_or, if◌then◌else◌}
+use Rattle.std.proofs.Common.{◌≡◌, ℕ, zero, suc, ◌+◌, ◌%◌, ◌<◌, List, [], ◌∷◌, ◌++◌, Option, Some, None, length, take, drop, refl, arith, length-append}
+use Rattle.std.specs.Prelude.{◌-◌, ◌==◌, slice_index_or}
 use Rattle.std.specs.Int.{to_be_bytes, w32, w64}
 use Rattle.std.specs.List.{AllByRecursion, concat, flat_map, slice_set}
-use Rattle.std.proofs.lemmas.Bool.{cases_Bool, cond-false, cond-true, eqb-true}
+use Rattle.std.proofs.lemmas.Bool.{eqb-true}
 use Rattle.wire_core.specs.Bytes.{IsBytes, prefixed}
 use Rattle.wire_core.proofs.ByteLists.{IsBytes-append, IsBytes-back, IsBytes-cons, IsBytes-front, IsBytes-nil, IsBytes-take, IsBytes-to_be_bytes}
 use Rattle.ring_poly.specs.Packing.{packed, unpacked}
@@ -202,9 +202,17 @@ other-hashes size d hashes is same keeps =
     let behind_head : IsBytes (d.message_hash ++ (old ++ capsules)) = IsBytes-back head (d.message_hash ++ (old ++ capsules)) is.bytes in
     let behind_hash : IsBytes (old ++ capsules) = IsBytes-back d.message_hash (old ++ capsules) behind_head in
     record {
-      long = omega (arith, long, same, length-append head (d.message_hash ++ (old ++ capsules)), length-append d.message_hash (old ++ capsules),
-          length-append old capsules, length-append head (d.message_hash ++ (new ++ capsules)),
-          length-append d.message_hash (new ++ capsules), length-append new capsules);
+      long = omega (
+        arith,
+        long,
+        same,
+        length-append head (d.message_hash ++ (old ++ capsules)),
+        length-append d.message_hash (old ++ capsules),
+        length-append old capsules,
+        length-append head (d.message_hash ++ (new ++ capsules)),
+        length-append d.message_hash (new ++ capsules),
+        length-append new capsules,
+      );
       bytes = IsBytes-append head (d.message_hash ++ (new ++ capsules)) (IsBytes-to_be_bytes w32 d.length)
           (IsBytes-append d.message_hash (new ++ capsules) (IsBytes-front d.message_hash (old ++ capsules) behind_head)
           (IsBytes-append new capsules (keeps (IsBytes-front old capsules behind_hash)) (IsBytes-back old capsules behind_hash)));

@@ -1,12 +1,11 @@
 -- Each member of a script can be honest in its round.
-use Rattle.std.proofs.Common.{◌≡◌, ℕ, zero, suc, ◌+◌, ◌-◌, ◌<◌, ◌≤◌, true, List, [], ◌∷◌, ◌++◌, Option, Some, length, map, ap, sym, ◌∙◌, refl, subst, arith, rules, length-append}
-use Rattle.std.specs.Prelude.{All, IsOk, Result, Ok, option_and_then, option_map, slice_index_or}
-use Rattle.std.specs.List.{AllByRecursion, range_with_len, slice_get}
+use Rattle.std.proofs.Common.{◌≡◌, ℕ, zero, suc, ◌+◌, ◌-◌, ◌≤◌, true, List, [], ◌∷◌, ◌++◌, Some, length, map, ap, ◌∙◌, refl, arith, rules, length-append}
+use Rattle.std.specs.Prelude.{Result, Ok, option_and_then, option_map, slice_index_or}
+use Rattle.std.specs.List.{AllByRecursion, slice_get}
 use Rattle.std.specs.Result.{result_ok}
 use Rattle.std.proofs.lemmas.List.{length-take-le}
 use Rattle.std.proofs.lemmas.List.FromFn.{length-map-range_with_len}
 use Rattle.std.proofs.lemmas.Option.{slice_get-map}
-use Rattle.wire_core.specs.Bytes.{IsBytes}
 use Rattle.wire_core.specs.Hash.{hash_of}
 use Rattle.wire_core.specs.declared.tag.Tag.TheVariants.{LmsIdentifier, ScriptKey}
 use Rattle.wire_core.proofs.ByteLists.{hash_bytes}
@@ -15,7 +14,7 @@ use Rattle.phase_message.proofs.SlotLists.{member-in}
 use Rattle.lm_ots.specs.OneTime.{type_number, u32str}
 use Rattle.lm_ots.proofs.Words.{length-u32str}
 use Rattle.lms_tree.specs.declared.keys.LmsPublic.{LmsPublic}
-use Rattle.lms_tree.specs.Secret.{own_node, own_public}
+use Rattle.lms_tree.specs.Secret.{own_public}
 use Rattle.lms_tree.specs.Tree.{height, key_bytes, key_read, tree_number}
 use Rattle.lms_tree.proofs.KeyBytes.{read_as_written}
 use Rattle.lms_tree.proofs.OwnPaths.{length-own_node}
@@ -51,8 +50,16 @@ key-long script member =
     let identifier = identifier-long script member in
     let first = length-u32str (tree_number key.lms_type) in
     let second = length-u32str (type_number key.ots_type) in
-    omega (arith, length-append (a ++ b ++ key.identifier) key.root, length-append (a ++ b) key.identifier, length-append a b, root,
-    identifier, first, second)
+    omega (
+      arith,
+      length-append (a ++ b ++ key.identifier) key.root,
+      length-append (a ++ b) key.identifier,
+      length-append a b,
+      root,
+      identifier,
+      first,
+      second,
+    )
 
 is-key : (script : Script) (member : ℕ) → IsKey (key_of_script script member)
 is-key script member = record { size = key-long script member; reads = rw (key-reads script member) (search rules) }

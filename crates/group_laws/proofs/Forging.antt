@@ -1,10 +1,8 @@
 -- In the group of a script nothing is forged: what is delivered in the name of an honest member was sent by it.
-use Rattle.std.proofs.Common.{◌≡◌, ◌⊎◌, ℕ, zero, suc, ◌+◌, ◌<◌, ◌≤◌, Bool, true, false, List, [], ◌∷◌, ◌++◌, Option, Some, None, length, map, ap, sym, ◌∙◌, refl, subst, arith, inl, inr}
-use Rattle.std.specs.Prelude.{All, AllPairs, ◌==◌, Contains, IfSome, IsSome, Ok, filter, not, option_and_then, slice_index_or}
-use Rattle.std.specs.List.{AllByRecursion, flat_map, range_with_len}
+use Rattle.std.proofs.Common.{◌≡◌, ◌⊎◌, ℕ, Bool, true, false, List, [], ◌∷◌, ◌++◌, Option, Some, None, length, map, ap, sym, ◌∙◌, refl, subst, inl, inr}
+use Rattle.std.specs.Prelude.{All, ◌==◌, Contains, Ok, filter, not, option_and_then}
+use Rattle.std.specs.List.{AllByRecursion, flat_map}
 use Rattle.std.proofs.lemmas.Bool.{cases_Bool, eq-eqb, false≢true}
-use Rattle.std.proofs.lemmas.List.Elements.{All-cons, All-map}
-use Rattle.std.proofs.lemmas.List.Kept.{AllPairs-cons, AllPairs-filter}
 use Rattle.std.proofs.lemmas.Option.{none-some}
 use Rattle.std.specs.Int.{to_be_bytes, w32}
 use Rattle.wire_core.specs.Bytes.{IsBytes, prefixed}
@@ -24,32 +22,20 @@ use Rattle.phase_message.specs.Post.{post_spelling}
 use Rattle.phase_message.specs.Shape.{Shape}
 use Rattle.phase_message.specs.Stages.{kind_of_stage, vote_of}
 use Rattle.phase_message.proofs.Whole.{content-header, content-is_spelled}
-use Rattle.bulk_descriptor.specs.declared.slot_state.SlotState.{SlotState}
 use Rattle.go_nogo.specs.Closing.{IsClosing, posts_embedded}
 use Rattle.group_roster.specs.Roster.{shape_of_roster}
 use Rattle.signed_post.specs.Admission.{Admitted}
-use Rattle.signed_post.specs.Frame.{FitsFrame, frame_of}
+use Rattle.signed_post.specs.Frame.{frame_of}
 use Rattle.signed_post.proofs.Frames.{framed-found}
 use Rattle.stage_log.specs.Table.{Log}
 use Rattle.stage_log.proofs.Pasts.{some_of}
-use Rattle.transcript_form.specs.declared.claim.Claim.{Claim}
-use Rattle.round_spec.specs.Embedded.{slot_named}
-use Rattle.round_spec.specs.Result.{Outcome, Waiting as WaitingFor, Blamed as BlamedBy, DoneWith, result_of}
-use Rattle.round_spec.specs.Runs.{AreApart, AreHonest, HasNumber, HonestRun, IsConfiguration, IsEmbedded, IsFaulty, NoForgery, Run, Sent, posts_said, run_after, runs_of, sent, contents_sent}
+use Rattle.round_spec.specs.Runs.{HasNumber, IsConfiguration, IsEmbedded, NoForgery, Run, Sent, posts_said, run_after, runs_of, sent, contents_sent}
 use Rattle.round_spec.specs.Say.{Configuration, shape_in, signed_at}
-use Rattle.round_spec.proofs.Contained.{contains-cases, contains-filter, contains-filter-from, contains-flat-from, contains-here, contains-later, contains-map, contains-map-from, contains-nothing}
-use Rattle.round_spec.proofs.Honesty.{run_after_is_honest}
+use Rattle.round_spec.proofs.Contained.{contains-filter, contains-filter-from, contains-flat-from, contains-here, contains-later, contains-map, contains-map-from, contains-nothing}
 use Rattle.round_spec.proofs.SealedBytes.{all-places}
 use Rattle.conviction.proofs.Listed.{all-contained}
-use Rattle.accountability.specs.Faulty.{IsAmong}
-use Rattle.accountability.specs.Messages.{HasEachMessage}
-use Rattle.member_spec.specs.declared.state.State.{State}
-use Rattle.member_spec.specs.declared.state.State.TheVariants.{Blamed}
-use Rattle.member_spec.specs.Actor.{Actor}
-use Rattle.member_spec.specs.Outcomes.{slots_shown}
 use Rattle.member_spec.specs.Replies.{IsPlain, Replies}
 use Rattle.member_spec.proofs.PlainLaws.{plain_comes_to_result, plain_posts_are_said}
-use Rattle.member_core.specs.Promises.{HoldsMessages, IsEvidence, IsOneList}
 use Rattle.round_script.specs.declared.fault.Fault.{Fault}
 use Rattle.round_script.specs.declared.fault.Fault.TheVariants.{None as Honest}
 use Rattle.round_script.specs.declared.script.Script.{Script}
@@ -61,17 +47,16 @@ use Rattle.group_spec.specs.Scripts.{fault_in, script_carriage, script_configura
 use Rattle.group_spec.specs.World.{Entry, Seat, actor_of, is_first_vote, second_content}
 use Rattle.group_spec.proofs.Deliveries.{deliveries_were_posted}
 use Rattle.group_spec.proofs.Plainness.{honest-plain}
-use Rattle.group_laws.specs.Forging.{BlamedAreFaulty, DoneMembersAgree, HonestMembersAreServed, HonestStandAmong, NothingIsForged, RunsAreHonest, honest_runs, run_shown}
-use Rattle.group_laws.specs.Promises.{IsHonestIn, KeepsItsPromise, config_shown}
+use Rattle.group_laws.specs.Forging.{NothingIsForged, honest_runs, run_shown}
+use Rattle.group_laws.specs.Promises.{config_shown}
 use Rattle.group_laws.proofs.Actors.{IsMade, member-is-sober}
 use Rattle.group_laws.proofs.Changes.{rest-bytes, unprefixed}
 use Rattle.group_laws.proofs.Entering.{configured}
 use Rattle.group_laws.proofs.Honest.{said-embeds}
-use Rattle.group_laws.proofs.Kept.{honest-at, honest-fault, members_keep_their_promise, plain-member, seat_with, shown-faulty}
-use Rattle.group_laws.proofs.Rows.{not-closed}
+use Rattle.group_laws.proofs.Kept.{honest-at, honest-fault, seat_with, shown-faulty}
 use Rattle.group_laws.proofs.Speeches.{IsGoodText, header-same, text-header, widths-of}
 use Rattle.group_laws.proofs.Spellings.{content-nearly, content-spelled, valid-some}
-use Rattle.group_laws.proofs.Worlds.{IsEntryOf, IsOtherVote, IsSeatOf, all-told, emptied, entry-of, last-steady, last_seats, mapped-mapped, seat-enters, seat-of, shown-at, shown-delivered}
+use Rattle.group_laws.proofs.Worlds.{IsEntryOf, IsOtherVote, IsSeatOf, all-told, entry-of, last-steady, last_seats, seat-enters, seat-of, shown-at, shown-delivered}
 
 -- ---- members by their numbers
 

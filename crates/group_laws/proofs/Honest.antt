@@ -1,5 +1,5 @@
 -- What an honest run kept was said by its member or delivered to it, and it embeds nothing else.
-use Rattle.std.proofs.Common.{◌≡◌, ◌⊎◌, ℕ, zero, suc, ◌+◌, ◌<◌, ◌≤◌, true, false, List, [], ◌∷◌, Option, Some, None, length, take, map, ap, sym, ◌∙◌, refl, subst, arith, inl, inr}
+use Rattle.std.proofs.Common.{◌≡◌, ◌⊎◌, ℕ, true, List, Option, Some, None, length, take, map, ap, sym, ◌∙◌, refl, subst, arith, inl, inr}
 use Rattle.std.specs.Prelude.{All, ◌==◌, Contains, IsSome, Ok, option_and_then, option_map, if◌then◌else◌}
 use Rattle.std.specs.List.{range_with_len, slice_get}
 use Rattle.std.specs.Option.{option_flatten}
@@ -10,7 +10,6 @@ use Rattle.wire_core.specs.Bytes.{IsBytes}
 use Rattle.phase_message.specs.declared.content.Content.{Content}
 use Rattle.phase_message.specs.declared.post.Post.{Post}
 use Rattle.phase_message.specs.declared.stage.Slot.{Slot}
-use Rattle.phase_message.specs.Grammar.{content_text}
 use Rattle.phase_message.specs.Offence.{content_read}
 use Rattle.phase_message.specs.Post.{post_spelling}
 use Rattle.phase_message.specs.Shape.{Shape}
@@ -27,13 +26,12 @@ use Rattle.go_nogo.specs.Closing.{IsClosing, posts_embedded}
 use Rattle.signed_post.specs.Frame.{frame_of}
 use Rattle.conviction.proofs.OwnRows.{in-range}
 use Rattle.round_spec.specs.Course.{Others, course_of, own_post_at, settled_log}
-use Rattle.round_spec.specs.Given.{IsDelivered}
 use Rattle.round_spec.specs.OwnRows.{CanSay, IsPastAt, content_due}
 use Rattle.round_spec.specs.Result.{delivered_counted, counted_part, first_posts, least_ending, log_after}
 use Rattle.round_spec.specs.Runs.{HonestRun, IsConfiguration, Run, own_slot, posts_said, run_after}
-use Rattle.round_spec.specs.Say.{Configuration, content_with, own_content, own_descriptor, own_post, shape_in}
+use Rattle.round_spec.specs.Say.{Configuration, own_content, own_descriptor, own_post, shape_in}
 use Rattle.round_spec.specs.Verdict.{Verdict}
-use Rattle.round_spec.proofs.Contained.{contains-cases, contains-filter_map, contains-filter_map-from, contains-later, contains-here, contains-nothing}
+use Rattle.round_spec.proofs.Contained.{contains-filter_map, contains-filter_map-from}
 use Rattle.round_spec.proofs.Given.{first_posts_delivered}
 use Rattle.round_spec.proofs.GoLists.{there as slot-there}
 use Rattle.round_spec.proofs.Honesty.{run_after_is_honest}

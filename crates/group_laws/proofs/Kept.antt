@@ -1,9 +1,8 @@
 -- What is shown of an honest member of a script's group keeps its promise.
-use Rattle.std.proofs.Common.{◌≡◌, ℕ, Bool, true, false, List, Option, Some, None, ap, sym, ◌∙◌, refl, subst}
+use Rattle.std.proofs.Common.{◌≡◌, ℕ, false, List, Option, Some, None, ap, sym, ◌∙◌, refl, subst}
 use Rattle.std.specs.Prelude.{◌↔◌, All, IfSome, IsSome}
 use Rattle.std.proofs.lemmas.Bool.{false≢true}
 use Rattle.wire_core.specs.Bytes.{IsBytes}
-use Rattle.bulk_descriptor.specs.declared.slot_state.SlotState.{SlotState}
 use Rattle.round_spec.specs.Result.{Outcome, Waiting as WaitingFor, Blamed as BlamedBy, DoneWith, result_of}
 use Rattle.round_spec.specs.Say.{Configuration}
 use Rattle.round_spec.proofs.SealedBytes.{all-places}

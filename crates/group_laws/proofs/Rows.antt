@@ -1,5 +1,5 @@
 -- What a member has to say, whatever the bytes of its own descriptor: bytes, short enough, and what is embedded is of its past.
-use Rattle.std.proofs.Common.{◌≡◌, ◌⊎◌, ℕ, zero, suc, ◌+◌, ◌*◌, ◌<◌, ◌≤◌, true, false, List, [], ◌∷◌, ◌++◌, Option, Some, None, length, take, drop, map, ap, sym, ◌∙◌, refl, subst, arith, inl, inr}
+use Rattle.std.proofs.Common.{◌≡◌, ℕ, zero, suc, ◌+◌, ◌*◌, ◌<◌, ◌≤◌, true, false, List, [], ◌∷◌, Option, Some, None, length, take, drop, map, ap, sym, ◌∙◌, refl, subst, arith, inl, inr}
 use Rattle.std.specs.Prelude.{◌-◌, Bool, ◌==◌, Contains, IsSome, option_and_then, if◌then◌else◌}
 use Rattle.std.proofs.lemmas.Bool.{cases_Bool, cond-false, cond-true}
 use Rattle.std.proofs.lemmas.Nat.{mul-le}
@@ -36,7 +36,7 @@ use Rattle.round_spec.proofs.OwnItems.{IsItem, is-member, own-submission, sent-p
 use Rattle.round_spec.proofs.OwnLengths.{own_content_is_short}
 use Rattle.round_spec.proofs.SealedBytes.{all-map, prefixed-bytes}
 use Rattle.round_spec.proofs.Turns.{submit-late}
-use Rattle.group_laws.proofs.Changes.{head-bytes, rest-bytes, text-bytes}
+use Rattle.group_laws.proofs.Changes.{head-bytes, rest-bytes}
 
 -- bytes that are as many as in a descriptor of the group
 abbrev pub IsOwn : Configuration → List ℕ → Type 0

@@ -1,20 +1,17 @@
 -- The honest members of a script's group stand among their runs, so each that is done has every honest message.
-use Rattle.std.proofs.Common.{◌≡◌, ℕ, zero, suc, ◌+◌, ◌<◌, ◌≤◌, Bool, true, false, List, [], ◌∷◌, Option, Some, None, length, map, ap, sym, ◌∙◌, refl, subst, arith, inl, inr}
+use Rattle.std.proofs.Common.{◌≡◌, ℕ, zero, suc, ◌+◌, ◌<◌, Bool, true, false, List, [], ◌∷◌, Option, Some, length, map, ap, sym, ◌∙◌, refl, subst, arith}
 use Rattle.std.specs.Prelude.{All, AllPairs, Contains, IfSome, filter, not, slice_index_or}
 use Rattle.std.specs.List.{range_with_len}
 use Rattle.std.proofs.lemmas.Bool.{false≢true}
 use Rattle.std.proofs.lemmas.List.Elements.{All-cons, All-map}
 use Rattle.std.proofs.lemmas.List.Kept.{AllPairs-cons, AllPairs-filter}
 use Rattle.std.proofs.lemmas.Option.{none-some}
-use Rattle.wire_core.specs.Bytes.{IsBytes}
 use Rattle.bulk_descriptor.specs.declared.slot_state.SlotState.{SlotState}
 use Rattle.transcript_form.specs.declared.claim.Claim.{Claim}
 use Rattle.round_spec.specs.Result.{Outcome, Waiting as WaitingFor, Blamed as BlamedBy, DoneWith, result_of}
-use Rattle.round_spec.specs.Runs.{AreApart, HonestRun, IsFaulty, Run, run_after}
-use Rattle.round_spec.proofs.Contained.{contains-cases, contains-filter, contains-filter-from, contains-here, contains-later, contains-map, contains-map-from}
+use Rattle.round_spec.specs.Runs.{AreApart, HonestRun, IsFaulty, Run}
+use Rattle.round_spec.proofs.Contained.{contains-filter, contains-filter-from, contains-here, contains-later, contains-map, contains-map-from}
 use Rattle.round_spec.proofs.Honesty.{run_after_is_honest}
-use Rattle.accountability.specs.Messages.{HasEachMessage}
-use Rattle.member_spec.specs.declared.state.State.{State}
 use Rattle.member_spec.specs.declared.state.State.TheVariants.{Blamed}
 use Rattle.member_spec.specs.Outcomes.{slots_shown}
 use Rattle.member_core.specs.Promises.{HoldsMessages, IsEvidence, IsOneList}
@@ -24,7 +21,7 @@ use Rattle.group_spec.specs.Driver.{MemberShown, group_end, shown_of}
 use Rattle.group_spec.specs.Scripts.{script_end, script_members, script_roster, script_seat}
 use Rattle.group_spec.specs.World.{Seat}
 use Rattle.group_laws.specs.Forging.{BlamedAreFaulty, DoneMembersAgree, HonestMembersAreServed, HonestStandAmong, RunsAreHonest, honest_runs, run_shown}
-use Rattle.group_laws.specs.Promises.{IsHonestIn, KeepsItsPromise, config_shown}
+use Rattle.group_laws.specs.Promises.{IsHonestIn, config_shown}
 use Rattle.group_laws.proofs.Entering.{configured}
 use Rattle.group_laws.proofs.Forging.{nothing_is_forged}
 use Rattle.group_laws.proofs.Kept.{members_keep_their_promise}
@@ -65,7 +62,6 @@ map-same [] = refl
 map-same (x ∷ xs) = ap (λ ys. x ∷ ys) (map-same xs)
 
 -- ---- the runs
-
 
 -- the numbers of the members rise
 numbers-are : (script : Script) → IsScript script → map (λ (s : Seat). s.config.number) (last_seats script) ≡ script_members script

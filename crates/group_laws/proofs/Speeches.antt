@@ -1,7 +1,6 @@
 -- What a member of any fault says where it stands: bytes of its slot, not too long, and embedding nothing but its past.
-use Rattle.std.proofs.Common.{◌≡◌, ◌≢◌, ◌⊎◌, ℕ, zero, suc, ◌+◌, ◌*◌, ◌<◌, ◌≤◌, true, false, List, [], ◌∷◌, ◌++◌, Option, Some, None, length, ap, sym, ◌∙◌, refl, subst, arith, inl, inr}
-use Rattle.std.specs.Prelude.{Bool, ◌==◌, Contains, IsSome, Result, Ok, Err, is_ok, option_and_then, slice_index_or, if◌then◌else◌}
-use Rattle.std.specs.List.{slice_set}
+use Rattle.std.proofs.Common.{◌≡◌, ◌≢◌, ◌⊎◌, ℕ, ◌≤◌, true, List, [], ◌∷◌, ◌++◌, Option, Some, None, length, ap, sym, ◌∙◌, refl, subst, arith, inl, inr}
+use Rattle.std.specs.Prelude.{◌==◌, Contains, IsSome, Result, Ok, Err, option_and_then}
 use Rattle.std.proofs.lemmas.Bool.{false≢true}
 use Rattle.wire_core.specs.Bytes.{IsBytes}
 use Rattle.wire_core.specs.declared.cursor.Short.{Short}
@@ -14,8 +13,8 @@ use Rattle.phase_message.specs.declared.offence.Offence.{Offence}
 use Rattle.phase_message.specs.declared.post.Post.{Post}
 use Rattle.phase_message.specs.declared.stage.Slot.{Slot}
 use Rattle.phase_message.specs.declared.stage.StageKind.{StageKind}
-use Rattle.phase_message.specs.declared.stage.StageKind.TheVariants.{Final as AtFinal, Go as AtGo, Keys as AtKeys, Pad as AtPad, Shuffle as AtShuffle, Submit as AtSubmit}
-use Rattle.phase_message.specs.Grammar.{BeginsWith, HasWidths, IsHeader, OfGrammar, body_text, content_text, header_text, kind_number}
+use Rattle.phase_message.specs.declared.stage.StageKind.TheVariants.{Go as AtGo, Keys as AtKeys, Pad as AtPad, Shuffle as AtShuffle, Submit as AtSubmit}
+use Rattle.phase_message.specs.Grammar.{HasWidths, IsHeader, OfGrammar, body_text, content_text, header_text, kind_number}
 use Rattle.phase_message.specs.Header.{header_of}
 use Rattle.phase_message.specs.Offence.{content_read}
 use Rattle.phase_message.specs.Post.{post_spelling}
@@ -28,7 +27,7 @@ use Rattle.shuffle_blame.specs.Replay.{body_of, ciphertext_of}
 use Rattle.round_spec.specs.Embedded.{slot_named}
 use Rattle.round_spec.specs.OwnRows.{CanSay}
 use Rattle.round_spec.specs.Runs.{AllGo, ReadsIn}
-use Rattle.round_spec.specs.Say.{Configuration, content_with, own_header, shape_in}
+use Rattle.round_spec.specs.Say.{Configuration, content_with, shape_in}
 use Rattle.round_spec.proofs.Contained.{contains-cases, contains-here, contains-later}
 use Rattle.round_spec.proofs.OwnGrammar.{row_of_grammar}
 use Rattle.round_spec.proofs.OwnItems.{is-member}
@@ -45,7 +44,7 @@ use Rattle.faulty_member.proofs.Changes.{length-bit}
 use Rattle.faulty_member.proofs.Forms.{altered-is_body}
 use Rattle.faulty_member.proofs.Lengths.{altered-long, text-long}
 use Rattle.group_laws.proofs.Changes.{altered-bytes, pads-bytes, text-bytes, view-bytes}
-use Rattle.group_laws.proofs.Rows.{IsOwn, kind-there, not-closed, open-short, row-body, row-embeds, row-head, row-header, row-short}
+use Rattle.group_laws.proofs.Rows.{IsOwn, not-closed, open-short, row-body, row-embeds, row-head, row-header, row-short}
 
 -- ---- what is said
 
@@ -120,7 +119,6 @@ open-good c Known stage h body kind some few widths named head bytes at none = r
         ap (λ (y : Header). kind_of_stage (shape_in c) y.stage) same ∙ ap (λ (s : Slot). kind_of_stage (shape_in c) s.stage) named ∙ at
 
 -- ---- kinds
-
 
 keys-open : (o : Option StageKind) → is_altered_at Malformed o ≡ true → (kind : StageKind) × (o ≡ Some kind) × (vote_of kind ≡ None)
 keys-open (Some AtKeys) is = (AtKeys, refl, refl)

@@ -1,9 +1,9 @@
 -- Posts with one spelling, and those of which the last bit was changed, have one content.
-use Rattle.std.proofs.Common.{◌≡◌, ◌⊎◌, ℕ, zero, suc, ◌+◌, ◌<◌, ◌≤◌, ◌^◌, List, [], ◌∷◌, ◌++◌, length, take, drop, ap, sym, ◌∙◌, refl, subst, arith, inl, inr, length-append, append_assoc}
+use Rattle.std.proofs.Common.{◌≡◌, ℕ, zero, suc, ◌<◌, ◌≤◌, ◌^◌, List, [], ◌∷◌, ◌++◌, length, take, drop, ap, sym, ◌∙◌, refl, arith, length-append}
 use Rattle.std.specs.Prelude.{◌-◌, slice_index_or}
 use Rattle.std.specs.Int.{to_be_bytes, w32}
 use Rattle.std.specs.List.{slice_set}
-use Rattle.std.proofs.lemmas.List.{length-set, take-append-drop}
+use Rattle.std.proofs.lemmas.List.{take-append-drop}
 use Rattle.wire_core.specs.Bytes.{prefixed}
 use Rattle.wire_core.proofs.Hashed.{prefixed-front}
 use Rattle.phase_message.specs.declared.post.Post.{Post}
@@ -76,5 +76,11 @@ valid-some key message sig v =
     let kind : List ℕ = u32str (tree_number key.lms_type) in
     let whole = ap (λ (s : List ℕ). length s) v.parts in
     let first = length-u32str v.q in
-    omega (arith, whole, first, length-append (u32str v.q ++ v.ots ++ kind) v.path, length-append (u32str v.q ++ v.ots) kind,
-    length-append (u32str v.q) v.ots)
+    omega (
+      arith,
+      whole,
+      first,
+      length-append (u32str v.q ++ v.ots ++ kind) v.path,
+      length-append (u32str v.q ++ v.ots) kind,
+      length-append (u32str v.q) v.ots,
+    )

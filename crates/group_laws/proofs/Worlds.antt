@@ -1,9 +1,9 @@
 -- In the group of a script members keep what they began with, and all that is delivered is bytes.
-use Rattle.std.proofs.Common.{◌≡◌, ◌⊎◌, ℕ, zero, suc, ◌+◌, ◌<◌, ◌≤◌, Bool, true, false, List, [], ◌∷◌, ◌++◌, Option, Some, None, length, drop, map, ap, sym, ◌∙◌, refl, subst, arith, inl, inr}
-use Rattle.std.specs.Prelude.{◌-◌, All, Contains, Result, Ok, Err, not, replicate, unwrap_or, if◌then◌else◌}
+use Rattle.std.proofs.Common.{◌≡◌, ◌⊎◌, ℕ, zero, suc, ◌+◌, ◌<◌, Bool, true, false, List, [], ◌∷◌, ◌++◌, Option, Some, None, length, drop, map, ap, sym, ◌∙◌, refl, subst, arith, inl, inr}
+use Rattle.std.specs.Prelude.{◌-◌, All, Contains, Result, Ok, Err, not, replicate}
 use Rattle.std.specs.Fn.{iterate}
 use Rattle.std.specs.Int.{to_be_bytes, w32}
-use Rattle.std.specs.List.{AllByRecursion, flat_map, range_with_len, slice_get}
+use Rattle.std.specs.List.{AllByRecursion, flat_map}
 use Rattle.std.proofs.lemmas.Bool.{cases_Bool, cond-false, cond-true}
 use Rattle.std.proofs.lemmas.List.Elements.{Contains-append_cases}
 use Rattle.std.proofs.lemmas.List.FromFn.{length-range_with_len}
@@ -13,7 +13,6 @@ use Rattle.wire_core.proofs.ByteLists.{IsBytes-append, IsBytes-cons, IsBytes-nil
 use Rattle.phase_message.specs.declared.content.Body.{Body}
 use Rattle.phase_message.specs.declared.content.Body.TheVariants.{Go}
 use Rattle.phase_message.specs.declared.content.Content.{Content}
-use Rattle.phase_message.specs.declared.header.Header.{Header}
 use Rattle.phase_message.specs.declared.offence.Offence.{Offence}
 use Rattle.phase_message.specs.declared.post.Post.{Post}
 use Rattle.phase_message.specs.Grammar.{content_text, flag_text}
@@ -33,12 +32,12 @@ use Rattle.round_script.specs.declared.fault.Fault.TheVariants.{TwoVotes}
 use Rattle.round_script.specs.declared.script.Script.{Script}
 use Rattle.round_script.specs.Script.{IsScript}
 use Rattle.group_spec.specs.Driver.{MemberShown, group_end, shown_of}
-use Rattle.group_spec.specs.Scripts.{script_carriage, script_configuration, script_end, script_members, script_seat}
+use Rattle.group_spec.specs.Scripts.{script_carriage, script_end, script_members, script_seat}
 use Rattle.group_spec.specs.World.{Carriage, Entry, Seat, World, actor_of, entries_behind, entries_beyond, entries_of, entries_with, first_world, greatest_steps, is_dropped, is_first_vote, is_for, last_world, other_vote, seat_behind, second_content, signed_with, with_other_vote, world_behind_entry, world_behind_queue, world_behind_step}
 use Rattle.group_spec.proofs.Made.{choose}
 use Rattle.group_laws.specs.Entering.{IsMemberOf}
 use Rattle.group_laws.specs.Promises.{DeliveriesAreBytes}
-use Rattle.group_laws.proofs.Actors.{IsMade, IsSober, contains-place, member-is-sober}
+use Rattle.group_laws.proofs.Actors.{contains-place, member-is-sober}
 use Rattle.group_laws.proofs.Changes.{head-bytes, text-bytes}
 use Rattle.group_laws.proofs.Entering.{can-enter}
 
@@ -265,9 +264,9 @@ module _ (script : Script) (is : IsScript script) (carriage : Carriage) where
       = mapped-mapped emptied (seat_behind carriage carried) emptied seats (behind-same carriage carried) ∙ steady.same in
       let bytes : (seat : Seat) → Contains (map (seat_behind carriage carried) seats) seat → AllByRecursion IsBytes seat.delivered
       = λ seat there. (
-        let found = contains-map (seat_behind carriage carried) seats seat there in
-        subst (λ (s : Seat). AllByRecursion IsBytes s.delivered) found.2
-        (behind-bytes carriage carried found.0 carried_bytes (steady.bytes found.0 found.1))) in
+      let found = contains-map (seat_behind carriage carried) seats seat there in
+      subst (λ (s : Seat). AllByRecursion IsBytes s.delivered) found.2
+      (behind-bytes carriage carried found.0 carried_bytes (steady.bytes found.0 found.1))) in
       record {
         same = same;
         bytes = bytes;
@@ -318,14 +317,14 @@ module _ (script : Script) (is : IsScript script) (carriage : Carriage) where
       = mapped-mapped emptied (script_seat script) (script_seat script) (script_members script) (λ m. refl) in
       let bytes : (seat : Seat) → Contains (map (script_seat script) (script_members script)) seat → AllByRecursion IsBytes seat.delivered
       = λ seat there. (
-        let found = contains-map (script_seat script) (script_members script) seat there in
-        subst (λ (s : Seat). AllByRecursion IsBytes s.delivered) found.2 tt) in
+      let found = contains-map (script_seat script) (script_members script) seat there in
+      subst (λ (s : Seat). AllByRecursion IsBytes s.delivered) found.2 tt) in
       record {
         same = same;
         bytes = bytes;
         entries = λ entry there. (
-          let found = contains-flat (entries_beyond 0) seats entry there in
-          seat-entries script found.0 0 entry is (seat-of script seats found.0 same found.1) (bytes found.0 found.1) found.2);
+            let found = contains-flat (entries_beyond 0) seats entry there in
+            seat-entries script found.0 0 entry is (seat-of script seats found.0 same found.1) (bytes found.0 found.1) found.2);
       }
 
 -- the members of a script when all is carried

@@ -1,5 +1,5 @@
 -- What is promised to each honest member of the group of a script.
-use Rattle.std.specs.Prelude.{◌≡◌, ◌≢◌, ◌↔◌, ℕ, Bool, false, List, All, Contains, IfSome, IsSome}
+use Rattle.std.specs.Prelude.{◌≡◌, ◌≢◌, ◌↔◌, false, All, Contains, IfSome, IsSome}
 use Rattle.wire_core.specs.Bytes.{IsBytes}
 use Rattle.member_spec.specs.declared.state.State.TheVariants.{Done, Stopped}
 use Rattle.member_spec.specs.Outcomes.{evidence_shown, slots_shown, state_of}

@@ -3,4 +3,6 @@
 
 mod laws;
 
-pub use laws::{honest_members_are_served, members_keep_their_promise, nothing_is_forged, scripts_enter};
+pub use laws::{
+    honest_members_are_served, members_keep_their_promise, nothing_is_forged, scripts_enter,
+};
