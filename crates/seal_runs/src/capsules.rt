@@ -2,7 +2,8 @@
 
 use anyhow::{Context, Result, ensure};
 use ring_encrypt::{
-    CoefficientTooLarge, KeySeed, is_key_of, open_seed, public_of, read_capsule, read_key, seal_seed,
+    CoefficientTooLarge, KeySeed, is_key_of, open_seed, public_of, read_capsule, read_key,
+    seal_seed,
 };
 
 // A first coefficient of 12289.
