@@ -16,6 +16,7 @@ use Rattle.phase_message.specs.Shape.{Shape, IsShape}
 use Rattle.phase_message.specs.Slots.{senders_of, slot_at, slot_number, slots_before}
 use Rattle.phase_message.specs.Stages.{is_member, is_sender, is_slot, kind_of_stage, speaks}
 use Rattle.phase_message.proofs.BodyKinds.{bodies_are_of_kinds}
+use Rattle.phase_message.proofs.Counts.{slots_next}
 use Rattle.phase_message.proofs.StageCounts.{before-pads}
 use Rattle.phase_message.proofs.SlotLists.{past-stage, slot_at-number, slot_number-within, slots_before-rises}
 use Rattle.phase_message.proofs.Table.{final_a_is, keys_is, turn_a}

@@ -226,7 +226,6 @@ pub fn which_votes_are_unanimous(alloc: Global) -> Result<()> {
         let log = log_before(alloc, 5, second)?;
         let Some(votes) = votes_at(alloc, &log, 4)? else {
             bail!("no votes");
-            return Ok(());
         };
         ensure!(are_votes(&votes, second));
         ensure!(unanimous(&votes) == expected);

@@ -73,7 +73,6 @@ pub fn bodies_are_said_in_the_drawn_order(alloc: Global) -> Result<()> {
     ensure!(are_short(&list));
     let Body::Shuffled { list: bodies } = turn(alloc, &order_seed, &list)? else {
         bail!("eight layers");
-        return Ok(());
     };
     ensure!(bodies.items().len() == 8);
     for place in 0..8 {

@@ -77,35 +77,50 @@ fn is_front(bytes: &[u8], content: &[u8; 9196], length: usize) -> bool
     bytes == &content[..length]
 }
 
-fn offence(alloc: Global, content: &[u8; 9196], length: usize) -> Option<DecodeRefusal>
-    requires { length ≤ 9196 }
-{
-    read(alloc, content, length).err()
+fn put(content: &mut [u8], place: usize, byte: u8) {
+    if place < content.len() {
+        content[place] = byte;
+    }
 }
 
-// One content of a group of three for each rule, in the order in which they are tested.
+// A content of a group of three for each rule, in the order in which they are tested: stage, sender and kind, bytes
+// that are changed, how many bytes are read, and the offset and the rule of the first offence.
+const OFFENCES: [([u8; 3], &[(usize, u8)], usize, (u32, u32)); 9] = [
+    ([0, 1, 1], &[], 75, (75, 7)),
+    ([0, 1, 1], &[(0, 2)], 9196, (0, 8)),
+    ([0, 0, 1], &[], 9196, (41, 9)),
+    ([0, 1, 2], &[], 9196, (75, 1)),
+    ([0, 1, 1], &[], 9195, (7372, 2)),
+    ([0, 1, 1], &[(108, 0x01), (109, 0x30)], 9196, (108, 4)),
+    ([5, 1, 5], &[(76, 2)], 77, (76, 5)),
+    ([7, 1, 8], &[(77, 1), (79, 1)], 80, (76, 6)),
+    ([5, 1, 5], &[], 78, (77, 3)),
+];
+
+// A content with changed bytes.
+fn changed(first: [u8; 3], changes: &[(usize, u8)]) -> [u8; 9196] {
+    let [stage, sender, kind] = first;
+    let mut content = begun(stage, sender, kind);
+    for &(place, byte) in changes {
+        put(&mut content, place, byte);
+    }
+    content
+}
+
+// Whether the first bytes of a content are refused, by this rule at this place.
+fn is_refused(alloc: Global, content: &[u8; 9196], length: usize, at: u32, rule: u32) -> bool {
+    length <= 9196
+        && read(alloc, content, length).err() == Some(DecodeRefusal::Malformed { at, rule })
+}
+
 pub fn the_first_offence_is_named(alloc: Global) -> Result<()> {
-    let keys = begun(0, 1, 1);
-    let mut version = keys;
-    version[0] = 2;
-    let mut large = keys;
-    large[108] = 0x01;
-    large[109] = 0x30;
-    let mut flag = begun(5, 1, 5);
-    flag[76] = 2;
-    let mut pad = begun(7, 1, 8);
-    pad[77] = 1;
-    pad[79] = 1;
-    let malformed = |at: u32, rule: u32| Some(DecodeRefusal::Malformed { at, rule });
-    ensure!(offence(alloc, &keys, 75) == malformed(75, 7));
-    ensure!(offence(alloc, &version, 9196) == malformed(0, 8));
-    ensure!(offence(alloc, &begun(0, 0, 1), 9196) == malformed(41, 9));
-    ensure!(offence(alloc, &begun(0, 1, 2), 9196) == malformed(75, 1));
-    ensure!(offence(alloc, &keys, 9195) == malformed(7372, 2));
-    ensure!(offence(alloc, &large, 9196) == malformed(108, 4));
-    ensure!(offence(alloc, &flag, 77) == malformed(76, 5));
-    ensure!(offence(alloc, &pad, 80) == malformed(76, 6));
-    ensure!(offence(alloc, &begun(5, 1, 5), 78) == malformed(77, 3));
+    for (first, changes, length, (at, rule)) in OFFENCES {
+        let content = changed(first, changes);
+        ensure!(
+            is_refused(alloc, &content, length, at, rule),
+            "rule {rule} at {at}"
+        );
+    }
     Ok(())
 }
 
