@@ -1,6 +1,6 @@
 -- What a link tells: the frames that have still to come, and the calls that were made. What is said of them is said of
 -- links that tell them; a link that tells nothing goes on to tell nothing.
-use Rattle.std.specs.Prelude.{◌≡◌, ◌⊎◌, ℕ, List, [], ◌∷◌, ◌++◌, Option, Some, None}
+use Rattle.std.specs.Prelude.{◌≡◌, ◌⊎◌, ℕ, List, [], ◌∷◌, ◌++◌, take, slice_get, Option, Some, None}
 use Rattle.outside.specs.Faults.{counted}
 use Rattle.round_link.specs.declared.link.Arrival.{Arrival}
 use Rattle.round_link.specs.declared.link.Arrival.TheVariants.{Frame, End, Failed, OutOfMemory}
@@ -25,6 +25,10 @@ abbrev pub posts_in : List LinkCall → List (List ℕ)
 posts_in [] = []
 posts_in (Posted bytes ∷ calls) = bytes ∷ posts_in calls
 posts_in (call ∷ calls) = posts_in calls
+
+-- at each `recv` of some calls, what was called before it has P
+abbrev pub AtEachRecv : List LinkCall → (List LinkCall → Type 0) → Type 0
+AtEachRecv calls P = (place : ℕ) (frame : Option (List ℕ)) → slice_get calls place ≡ Some (Received frame) → P (take place calls)
 
 -- ---- a call
 
@@ -77,3 +81,17 @@ frames_after arrival count = count
 abbrev pub ends_after : Arrival → ℕ → ℕ
 ends_after End count = counted count
 ends_after arrival count = count
+
+-- ---- a link at a moment
+
+-- what a link shows: how often a call has failed, how many frames it gave and how often it answered End, and its traffic,
+-- where it tells it
+pub record Shown : Type 0 where
+  pub faults : ℕ
+  pub frames : ℕ
+  pub ends : ℕ
+  pub traffic : Option Traffic
+
+abbrev pub shown_by : {L : Type 0} → (faults frames ends : L → ℕ) → (told : L → Option Traffic) → L → Shown
+shown_by faults frames ends told link =
+    record { faults = faults link; frames = frames link; ends = ends link; traffic = told link }
