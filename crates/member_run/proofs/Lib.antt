@@ -1,3 +1,4 @@
 mod Growing
 mod Exchanges
 mod Going
+mod Ending

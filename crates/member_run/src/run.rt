@@ -1,8 +1,8 @@
 //! The run of a member over a link.
-ghost use Rattle.std.specs.Prelude.{◌≡◌, ◌×◌, ◌<◌, ◌↔◌, ℕ, List, [], ◌∷◌, ◌++◌, IfErr, IfOk, IsTrue, OnOk, length};
+ghost use Rattle.std.specs.Prelude.{◌≡◌, ◌<◌, ◌↔◌, false, ℕ, List, [], ◌∷◌, ◌++◌, IfErr, IfOk, IsTrue, OnOk, length};
 ghost use Rattle.round_link.specs.Traffic.{shown_by};
 ghost use Rattle.round_spec.specs.Say.{Configuration};
-ghost use Rattle.member_core.specs.Membership.{HasEnded, IsOutOfMemory};
+ghost use Rattle.member_core.specs.Membership.{HasEnded, IsOpen, IsOutOfMemory, IsRunning};
 ghost use Rattle.member_core.specs.Promises.{IsPlainMember};
 ghost use Rattle.member_run.specs.Begun.{Begun, Going};
 ghost use Rattle.member_run.specs.Ran.{Ran};
@@ -24,14 +24,9 @@ pub fn run_member<L: Link>(alloc: Global, member: &mut Member<Honest>, link: &mu
             return end;
         }
     }
-    match hand_out(alloc, member, link) {
-        Ok(()) => end_of(member),
-        Err(end) => end,
+    if let Err(end) = hand_out(alloc, member, link) {
+        return end;
     }
-}
-
-// How the run ends where all frames were taken that it takes.
-fn end_of(member: &Member<Honest>) -> RunEnd {
     if has_ended(member) {
         return RunEnd::Ended;
     }
@@ -40,7 +35,8 @@ fn end_of(member: &Member<Honest>) -> RunEnd {
 
 // Whether the round has ended for a member.
 fn has_ended(member: &Member<Honest>) -> bool
-    ensures { IsTrue result ↔ HasEnded member.now.holds.ending }
+    ensures value { IsTrue result ↔ HasEnded member.now.holds.ending }
+    ensures open { IsRunning member.now.holds.ending → result ≡ false → IsOpen member.now.holds.ending }
 {
     matches!(member.state(), State::Done | State::Blamed { .. })
 }
