@@ -7,8 +7,9 @@ use Rattle.round_spec.specs.Say.{Configuration}
 use Rattle.member_spec.specs.Replies.{Replies}
 use Rattle.member_core.specs.Membership.{HasEnded, IsOpen, IsOutOfMemory, Membership}
 use Rattle.member_core.specs.Promises.{IsPlainMember}
+use Rattle.round_link.specs.declared.link.LinkAnswer.TheVariants.{Failed as PostFailed, OutOfMemory as PostOutOfMemory}
 use Rattle.round_link.specs.declared.link_call.LinkCall.TheVariants.{Received}
-use Rattle.round_link.specs.Traffic.{IsExhausted, Shown, TakesFirst, TakesNone, Traffic, posts_in, with_call}
+use Rattle.round_link.specs.Traffic.{Makes, Shown, TakesFirst, TakesNone, Traffic, posts_in, with_call}
 use Rattle.round_link.proofs.Calls.{posts_in-append}
 use Rattle.member_run.specs.declared.run_end.RunEnd.{RunEnd}
 use Rattle.member_run.specs.declared.run_end.RunEnd.TheVariants.{Ended, Waiting, LinkFault, Flooded, OutOfMemory}
@@ -73,8 +74,25 @@ all-is-enough Ended made due is = is
 all-is-enough Waiting made due is = is
 all-is-enough Flooded made due is = is
 
-no-rise : (before now : ℕ) (end : RunEnd) → now ≡ before → before < now → end ≡ Waiting
+pub no-rise : (before now : ℕ) (end : RunEnd) → now ≡ before → before < now → end ≡ Waiting
 no-rise before now end same lt = absurd (omega (arith, same, lt))
+
+-- a post that was not made
+pub failed-unmade : (old now : Option Traffic) (bytes : List ℕ) → Makes old now bytes PostFailed → now ≡ old
+failed-unmade None now bytes made = made
+failed-unmade (Some t) now bytes made = made
+
+pub memory-unmade : (old now : Option Traffic) (bytes : List ℕ) → Makes old now bytes PostOutOfMemory → now ≡ old
+memory-unmade None now bytes made = made
+memory-unmade (Some t) now bytes made = made
+
+-- a count of faults that rose in a call rose since the run began
+pub rose-since : (begun before now : ℕ) → begun ≤ before → Rose before now → Rose begun now
+rose-since begun before now le rose = omega (arith, le, rose)
+
+-- a count that was as where the run began, and went on by one, rose since
+pub end-rose : (begun before now : ℕ) → before ≡ begun → now ≡ counted before → Rose begun now
+end-rose begun before now same is = omega (arith, same, is)
 
 -- a call failed, or memory ran out, and nothing more was told
 pub hindered : {A : Type 0} (replies_of : A → Replies) (b : Begun A) (frames : List (List ℕ)) (m m' : Membership A) (s s' : Shown) (end : RunEnd)

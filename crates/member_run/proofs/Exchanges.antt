@@ -21,6 +21,9 @@ no_exchange c delivered handed t = record {
   at_recv = no_recv (MadeAll c delivered handed);
 }
 
+pub post-is-no-recv : (bytes : List ℕ) (frame : Option (List ℕ)) → Posted bytes ≡ Received frame → ⊥
+post-is-no-recv bytes frame is = cc
+
 -- of a post
 abbrev pub with_post : (c : Configuration) (delivered : List (List ℕ)) (handed : ℕ) (frames : List (List ℕ)) (before now : Traffic)
     (bytes : List ℕ)
@@ -31,7 +34,7 @@ with_post c delivered handed frames before now bytes x = record {
   made = ap (λ (l : List LinkCall). l ++ Posted bytes ∷ []) x.made ∙ append_assoc before.calls x.calls (Posted bytes ∷ []);
   taken = frames_in-append x.calls (Posted bytes ∷ []) ∙ append-nil (frames_in x.calls) ∙ x.taken;
   left = x.left;
-  at_recv = recv-push (MadeAll c delivered handed) x.calls (Posted bytes) x.at_recv (λ frame is. absurd cc);
+  at_recv = recv-push (MadeAll c delivered handed) x.calls (Posted bytes) x.at_recv (λ frame is. absurd (post-is-no-recv bytes frame is));
 }
 
 -- of a `recv` that takes none

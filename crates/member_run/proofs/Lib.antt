@@ -2,3 +2,5 @@ mod Growing
 mod Exchanges
 mod Going
 mod Ending
+mod Handing
+mod Answers

@@ -1,5 +1,6 @@
 //! The run of a member over a link.
 ghost use Rattle.std.specs.Prelude.{◌≡◌, ◌<◌, ◌↔◌, false, ℕ, List, [], ◌∷◌, ◌++◌, IfErr, IfOk, IsTrue, OnOk, length};
+ghost use Rattle.wire_core.specs.Bytes.{IsBytes};
 ghost use Rattle.round_link.specs.Traffic.{shown_by};
 ghost use Rattle.round_spec.specs.Say.{Configuration};
 ghost use Rattle.member_core.specs.Membership.{HasEnded, IsOpen, IsOutOfMemory, IsRunning};
@@ -70,6 +71,7 @@ fn take(alloc: Global, member: &mut Member<Honest>, frame: &[u8]) -> Result<(), 
         IsPlainMember ⟦<Honest as Conduct>⟧.replies c (delivered ++ frame.now ∷ []) member.new) }
     ensures handed { OnOk result (member.new.holds.handed ≡ member.old.holds.handed) }
     ensures err { IfErr result (λ end. (end ≡ RunEnd.OutOfMemory) × IsOutOfMemory member.new.holds.ending) }
+    ensures bytes { IsBytes frame.now }
 {
     match member.deliver(alloc, frame) {
         Ok(_) => Ok(()),
