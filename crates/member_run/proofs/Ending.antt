@@ -101,9 +101,9 @@ pub hindered : {A : Type 0} (replies_of : A → Replies) (b : Begun A) (frames :
     → Ran replies_of b.member m' b.link s' end
 hindered replies_of b frames m m' s s' end g most counts ends same is so comes =
     ends-with replies_of b frames m m' s s' end g most counts so (no-rise b.link.ends s'.ends end (ends ∙ g.ends)) comes
-        (λ c delivered plain told. told-on (OnWay c delivered frames b.member.holds.handed m.holds.handed)
-        (EndsWay end c delivered frames b.member.holds.handed) b.link.traffic s.traffic s'.traffic
-        (λ u e. (u, same ∙ e, λ t way. (way.0, begins-is-enough end _ _ is (way-begins c delivered frames b.member.holds.handed m.holds.handed t u way)))) told)
+    (λ c delivered plain told. told-on (OnWay c delivered frames b.member.holds.handed m.holds.handed)
+    (EndsWay end c delivered frames b.member.holds.handed) b.link.traffic s.traffic s'.traffic
+    (λ u e. (u, same ∙ e, λ t way. (way.0, begins-is-enough end _ _ is (way-begins c delivered frames b.member.holds.handed m.holds.handed t u way)))) told)
 
 -- all posts were handed out, and nothing more was called
 pub stops : {A : Type 0} (replies_of : A → Replies) (b : Begun A) (frames : List (List ℕ)) (m : Membership A) (s : Shown) (end : RunEnd)
@@ -111,10 +111,17 @@ pub stops : {A : Type 0} (replies_of : A → Replies) (b : Begun A) (frames : Li
     → EndsSo m.holds (length frames) b.link s end → Ran replies_of b.member m b.link s end
 stops replies_of b frames m s end g most all so =
     ends-with replies_of b frames m m s s end g most refl so (no-rise b.link.ends s.ends end g.ends) (λ c delivered is. inl is)
-        (λ c delivered plain told. told-on (OnWay c delivered frames b.member.holds.handed m.holds.handed)
-        (EndsWay end c delivered frames b.member.holds.handed) b.link.traffic s.traffic s.traffic
-        (λ u e. (u, e, λ t way. (way.0, all-is-enough end _ _ (all-made c delivered frames b.member.holds.handed m.holds.handed t u
-        (none-due replies_of c (delivered ++ frames) m plain all) way)))) told)
+    (λ c delivered plain told. told-on (OnWay c delivered frames b.member.holds.handed m.holds.handed)
+    (EndsWay end c delivered frames b.member.holds.handed) b.link.traffic s.traffic s.traffic
+    (λ u e. (
+      u,
+      e,
+      λ t way. (
+        way.0,
+        all-is-enough end _ _ (all-made c delivered frames b.member.holds.handed m.holds.handed t u
+            (none-due replies_of c (delivered ++ frames) m plain all) way),
+      ),
+    )) told)
 
 -- all posts were handed out, and a `recv` took no frame; it may be untold only where it is one that the link need not tell
 pub received-none : {A : Type 0} (replies_of : A → Replies) (b : Begun A) (frames : List (List ℕ)) (m : Membership A) (s s' : Shown) (end : RunEnd)
@@ -123,9 +130,9 @@ pub received-none : {A : Type 0} (replies_of : A → Replies) (b : Begun A) (fra
     → EndsSo m.holds (length frames) b.link s' end → (b.link.ends < s'.ends → end ≡ Waiting) → Ran replies_of b.member m b.link s' end
 received-none replies_of b frames m s s' end g most all counts takes so at_end =
     ends-with replies_of b frames m m s s' end g most counts so at_end (λ c delivered is. inl is)
-        (λ c delivered plain told. told-on (OnWay c delivered frames b.member.holds.handed m.holds.handed)
-        (EndsWay end c delivered frames b.member.holds.handed) b.link.traffic s.traffic s'.traffic
-        (λ u e. step c delivered (none-due replies_of c (delivered ++ frames) m plain all) u e takes) told)
+    (λ c delivered plain told. told-on (OnWay c delivered frames b.member.holds.handed m.holds.handed)
+    (EndsWay end c delivered frames b.member.holds.handed) b.link.traffic s.traffic s'.traffic
+    (λ u e. step c delivered (none-due replies_of c (delivered ++ frames) m plain all) u e takes) told)
   where
     handed : ℕ
     handed = b.member.holds.handed
@@ -184,7 +191,7 @@ not-delivered replies_of b frames frame m m' s s' g less all takes counts ends a
           (
             more.0,
             more.1 b.member.holds.handed (let before = g.handed in omega arith)
-            ∙ ap (λ (l : List (List ℕ)). l ++ more.0)
+                ∙ ap (λ (l : List (List ℕ)). l ++ more.0)
                 (sym (posts_in-append way.0.calls (Received (Some frame) ∷ []) ∙ append-nil (posts_in way.0.calls) ∙ made)),
           ),
         )

@@ -47,7 +47,7 @@ fn turn<L: Link>(alloc: Global, member: &mut Member<Honest>, link: &mut L) -> Re
     ensures ok { IfOk result (λ _. (begun : Begun Honest) (frames : List (List ℕ)) →
         Going ⟦<Honest as Conduct>⟧.replies begun frames member.old (shown_by L.faults L.frames L.ends L.told link.old) →
         (frame : List ℕ) × Going ⟦<Honest as Conduct>⟧.replies begun (frames ++ frame ∷ []) member.new
-            (shown_by L.faults L.frames L.ends L.told link.new)) }
+        (shown_by L.faults L.frames L.ends L.told link.new)) }
     ensures err { IfErr result (λ end. (begun : Begun Honest) (frames : List (List ℕ)) → length frames < FRAME_LIMIT →
         Going ⟦<Honest as Conduct>⟧.replies begun frames member.old (shown_by L.faults L.frames L.ends L.told link.old) →
         Ran ⟦<Honest as Conduct>⟧.replies begun.member member.new begun.link (shown_by L.faults L.frames L.ends L.told link.new) end) }

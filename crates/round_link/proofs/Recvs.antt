@@ -26,7 +26,7 @@ pub recv-push : (P : List LinkCall → Type 0) (calls : List LinkCall) (call : L
     → ((frame : Option (List ℕ)) → call ≡ Received frame → P calls) → AtEachRecv (calls ++ call ∷ []) P
 recv-push P calls call each last place frame is =
     ⊎_elim (λ lt. before lt) (λ le. ⊎_elim (λ lt. absurd (behind lt)) (λ le'. here (omega (arith, le, le'))) (cases_lt (length calls) place))
-        (cases_lt place (length calls))
+    (cases_lt place (length calls))
   where
     before : place < length calls → P (take place (calls ++ call ∷ []))
     before lt =
