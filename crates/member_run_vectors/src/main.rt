@@ -52,8 +52,9 @@ fn print_end<R: Runtime>(rt: &R, ran: &Ran) -> Result<()> {
     Ok(())
 }
 
-// Prints the posts of a run.
-fn print_posts<R: Runtime>(rt: &R, alloc: Global, ran: &Ran) -> Result<()> {
+// Prints how a run ends, and its posts.
+fn print_whole<R: Runtime>(rt: &R, alloc: Global, ran: &Ran) -> Result<()> {
+    print_end(rt, ran)?;
     for post in &ran.posts {
         let line = shown(alloc, post.items())?;
         println!(rt; "{line}")?;
@@ -99,9 +100,6 @@ fn main(rt: HostRuntime) -> Result<()> {
     for post in 0..8 {
         print_run(&rt, alloc, &second.posts, 2 * post + 1)?;
     }
-    for ran in [&first, &second] {
-        print_end(&rt, ran)?;
-        print_posts(&rt, alloc, ran)?;
-    }
-    Ok(())
+    print_whole(&rt, alloc, &first)?;
+    print_whole(&rt, alloc, &second)
 }
