@@ -434,7 +434,7 @@ pad-not c delivered runs stage posts t among distinct all end e claim = by_case
     by_case (GoesOn agree work goes) = convicts-not t (verdict_of (closing_of c posts stage)) (inl goes) (sym e)
     by_case (Ends agree done ends) = convicts-not t (verdict_of (closing_of c posts stage)) (inr ends) (sym e)
 
-pub not-blamed : (c : Configuration) (delivered : List (List ℕ)) (runs : List Run) (t : Transcript) → IsAmong c delivered runs
+not-blamed : (c : Configuration) (delivered : List (List ℕ)) (runs : List Run) (t : Transcript) → IsAmong c delivered runs
     → NoRunsCollide runs → AllHaveRuns c runs
     → result_of c delivered ≡ Blamed t → ⊥
 not-blamed c delivered runs t among distinct all e = elim (ending-cases c part (Convicts t) blame.ends) [

@@ -3,7 +3,7 @@ use Rattle.std.proofs.Common.{◌≡◌, ◌≢◌, ◌⊎◌, ℕ, zero, suc, �
 use Rattle.std.specs.Prelude.{◌&&◌, ◌==◌, All, Contains, IfSome, IsSome, nat_le, not, unwrap_or}
 use Rattle.std.specs.List.{AllByRecursion, range_with_len, slice_get}
 use Rattle.std.proofs.lemmas.Bool.{cases_Bool, cases_lt, cond-false, cond-true}
-use Rattle.std.proofs.lemmas.List.Elements.{All-contains}
+use Rattle.std.proofs.lemmas.List.Elements.{All-contains, All-take}
 use Rattle.std.proofs.lemmas.Option.{none-some}
 use Rattle.wire_core.specs.Bytes.{IsBytes}
 use Rattle.wire_core.proofs.AnswerLemmas.{first_below-found}
@@ -20,26 +20,38 @@ use Rattle.stage_log.specs.Table.{IsLog, Log, first_incomplete_of, incomplete_st
 use Rattle.stage_log.proofs.Fronts.{before-complete}
 use Rattle.stage_log.proofs.Pasts.{some_of}
 use Rattle.bulk_descriptor.specs.declared.slot_state.SlotState.{SlotState}
+use Rattle.transcript_form.specs.declared.claim.Claim.{Claim}
+use Rattle.transcript_form.specs.declared.claim.Claim.TheVariants.{Pad}
 use Rattle.transcript_form.specs.declared.transcript.Transcript.{Transcript}
 use Rattle.group_roster.specs.Roster.{Roster, shape_of_roster}
 use Rattle.signed_post.proofs.Frames.{framed-found}
 use Rattle.conviction.proofs.OwnRows.{in-range}
+use Rattle.round_spec.specs.Cases.{ByBadLog, ByBadPad, ByEquivocation, ByReplay, ByWrongSeed, Case, Ends, GoesOn}
+use Rattle.round_spec.specs.Course.{closing_of, course_of}
 use Rattle.round_spec.specs.Justified.{IsPostOf}
 use Rattle.round_spec.specs.Premises.{NoRunsCollide}
-use Rattle.round_spec.specs.Result.{Outcome, Waiting, Blamed, DoneWith, log_after, result_of}
+use Rattle.round_spec.specs.Result.{Outcome, Waiting, Blamed, DoneWith, first_posts, log_after, result_of}
 use Rattle.round_spec.specs.Rows.{IsRunOf}
 use Rattle.round_spec.specs.Runs.{ChecksIn, HasNumber, HonestRun, Run, own_slot, posts_said, run_after}
 use Rattle.round_spec.specs.Say.{Configuration, shape_in}
+use Rattle.round_spec.specs.Slots.{final_stage}
+use Rattle.round_spec.specs.Verdict.{Convicts, Goes, Verdict, verdict_of}
 use Rattle.round_spec.proofs.Contained.{contains-flat-from, contains-here, contains-map, contains-map-from}
 use Rattle.round_spec.proofs.GoLists.{there as slot-there}
 use Rattle.round_spec.proofs.Honesty.{run_after_is_honest}
 use Rattle.round_spec.proofs.Rows.{checks-parts}
+use Rattle.round_spec.proofs.Verdicts.{verdict_cases}
 use Rattle.accountability.specs.AllHonest.{AllDelivered, AllHaveRuns}
 use Rattle.accountability.specs.Faulty.{IsAmong}
 use Rattle.accountability.specs.Naming.{IsMissed, IsUnheard, NamesMissed}
-use Rattle.accountability.proofs.AllDone.{all_honest, not-blamed}
-use Rattle.accountability.proofs.Kept.{checks-header}
-use Rattle.accountability.proofs.Messages.{done-end, work-late}
+use Rattle.accountability.specs.Evidence.{IsKeptEnd}
+use Rattle.accountability.proofs.AllDone.{all_honest}
+use Rattle.accountability.proofs.AllHonest.{nothing_but_pads}
+use Rattle.accountability.proofs.Endings.{ending-cases}
+use Rattle.accountability.proofs.Evidence.{convicts-not, firsts-check, stand-closed}
+use Rattle.accountability.proofs.Faulty.{IsBlame, blame-of}
+use Rattle.accountability.proofs.Kept.{checks-header, transcript-same, whole-end}
+use Rattle.accountability.proofs.Messages.{done-end, second-end, work-late}
 use Rattle.accountability.proofs.Naming.{open_names}
 use Rattle.accountability.proofs.Unheard.{file-heard}
 use Rattle.member_spec.specs.Outcomes.{slots_shown, state_of}
@@ -110,6 +122,10 @@ file-of c slot post is = record {
   named = is.named;
 }
 
+-- a transcript of one claim is none of another
+claim-not : (t other : Transcript) (v : Verdict) → v ≡ Convicts other → Convicts t ≡ v → t.claim ≡ Pad → (other.claim ≡ Pad → ⊥) → ⊥
+claim-not t other v is same its apart = apart (sym (ap (λ (x : Transcript). x.claim) (transcript-same t other (same ∙ is))) ∙ its)
+
 is-for : (member sender last : ℕ) → member ≢ sender → 1 ≤ member → member ≤ last
     → (not (member == sender) && (nat_le 1 member && nat_le member last)) ≡ true
 is-for member sender last apart least most = search rules
@@ -125,9 +141,9 @@ fault-none (line ∷ lines) member none = choose (λ (f : Fault). f ≡ Honest) 
 
 -- ---- a group without faults
 
-module _ (script : Script) (is : IsScript script) (no : IsUndisturbed script) where
+module _ (script : Script) (is : IsScript script) (calm : IsUndisturbed script) where
   seat-honest : (seat : Seat) → Contains (last_seats script) seat → seat.fault ≡ Honest
-  seat-honest seat there = fault-is script seat (seat-there script seat is there) ∙ fault-none script.faults seat.config.number no.faults
+  seat-honest seat there = fault-is script seat (seat-there script seat is there) ∙ fault-none script.faults seat.config.number calm.faults
 
   -- each member has its place
   seat-at : (member : ℕ) → IsMemberOf script member → (seat : Seat) × Contains (last_seats script) seat × (seat.config.number ≡ member)
@@ -202,7 +218,7 @@ module _ (script : Script) (is : IsScript script) (no : IsUndisturbed script) wh
       let many = members-many script in
       let same : (shape_in sender.config).members ≡ length (script_roster script).keys
       = ap (λ (c : Configuration). (shape_in c).members) (config-is script sender (seat-there script sender is there)) in
-      all-carried (script_carriage script) (repeat-some script.repeat is.repeat) no.drops (map (script_seat script) (script_members script))
+      all-carried (script_carriage script) (repeat-some script.repeat is.repeat) calm.drops (map (script_seat script) (script_members script))
       sender receiver entry there others posted
       (is-for receiver.config.number sender.config.number (shape_in sender.config).members apart (omega (arith, number, first))
       (omega (arith, number, last, many, same)))
@@ -229,18 +245,17 @@ module _ (script : Script) (is : IsScript script) (no : IsUndisturbed script) wh
       (subst (λ (n : ℕ). IsPostOf receiver.config.roster n slot (post_spelling post) post) round
       (subst (λ (r : Roster). IsPostOf r sender.config.round slot (post_spelling post) post) roster file)) unheard
 
-  -- who waits behind the closing of the checks heard all before
-  late-heard : (seat : Seat) (stage : ℕ) → Contains (last_seats script) seat
-      → first_incomplete_of (log_after seat.config seat.delivered) ≡ Some stage → (shape_in seat.config).members + 6 < stage
+  -- who kept all posts up to the closing of the checks heard those of the others
+  past-heard : (seat : Seat) (later : ℕ) (past : List Post) → Contains (last_seats script) seat
+      → before (log_after seat.config seat.delivered) later ≡ Some past → (shape_in seat.config).members + 6 < later
       → AllDelivered seat.config seat.delivered
-  late-heard seat stage there first late at member speaks early other =
+  past-heard seat later past there kept_all late at member speaks early other =
       let c : Configuration = seat.config in
       let log : Log = log_after seat.config seat.delivered in
       let slot : Slot = record { stage = at; sender = member } in
       let among = seat-among seat there in
       let honest = run_after_is_honest seat.config seat.delivered among.config among.bytes in
-      let past = before-first log stage first in
-      let kept = kept-before log stage past.0 slot honest.log past.1
+      let kept = kept-before log later past slot honest.log kept_all
       (ap (λ (s : Shape). is_slot s at member) honest.shape ∙ speaks) (omega (arith, late, early)) in
       let given = kept-delivered seat.config seat.delivered slot kept.0 among.bytes other kept.1 in
       let spelled = (framed-found given.0 kept.0 (All-contains IsBytes seat.delivered given.0 among.bytes given.1) given.2).1 in
@@ -251,23 +266,82 @@ module _ (script : Script) (is : IsScript script) (no : IsUndisturbed script) wh
         subst (λ (b : List ℕ). IsPostOf seat.config.roster seat.config.round slot b kept.0) (sym spelled) file,
       )
 
+  -- so it is done
+  past-done : (seat : Seat) (later : ℕ) (past : List Post) → NoRunsCollide (honest_runs script) → Contains (last_seats script) seat
+      → before (log_after seat.config seat.delivered) later ≡ Some past → (shape_in seat.config).members + 6 < later
+      → (slots : List SlotState) × (result_of seat.config seat.delivered ≡ DoneWith slots)
+  past-done seat later past distinct there kept late =
+      let done = all_honest seat.config seat.delivered (honest_runs script) (seat-among seat there) distinct (seat-all seat there)
+      (past-heard seat later past there kept late) in
+      (done.0, done.1)
+
+  -- nobody is blamed: a bad pad shows behind the closing of the checks
+  pad-not : (seat : Seat) (stage : ℕ) (posts : List Post) (t : Transcript) → NoRunsCollide (honest_runs script)
+      → Contains (last_seats script) seat → IsKeptEnd (run_after seat.config seat.delivered) stage posts
+      → verdict_of (closing_of seat.config posts stage) ≡ Convicts t → t.claim ≡ Pad → result_of seat.config seat.delivered ≡ Blamed t → ⊥
+  pad-not seat stage posts t distinct there end e claim blamed =
+      by_case (verdict_cases (closing_of seat.config posts stage) (whole-end (run_after seat.config seat.delivered) stage posts end))
+    where
+      done-not : (o : Outcome) (slots : List SlotState) → o ≡ DoneWith slots → o ≡ Blamed t → ⊥
+      done-not o slots first second = (let both = sym first ∙ second in cc)
+
+      by_case : Case (closing_of seat.config posts stage) (verdict_of (closing_of seat.config posts stage)) → ⊥
+      by_case (ByBadPad is_it) =
+          let at = (second-end (shape_in seat.config) stage is_it.shuffle is_it.kind is_it.second).1 in
+          let final : final_stage (shape_in seat.config) 2 ≡ (shape_in seat.config).members + 7 + ((shape_in seat.config).members + 2) = refl in
+          let done = past-done seat (stage + 1) posts distinct there end.kept (omega (arith, at, final)) in
+          done-not (result_of seat.config seat.delivered) done.0 done.1 blamed
+      by_case (ByBadLog is_it) = claim-not t _ _ is_it.verdict_is (sym e) claim (λ same. absurd cc)
+      by_case (ByEquivocation is_it) = claim-not t _ _ is_it.verdict_is (sym e) claim (λ same. absurd cc)
+      by_case (ByWrongSeed is_it) = claim-not t _ _ is_it.verdict_is (sym e) claim (λ same. absurd cc)
+      by_case (ByReplay is_it) = claim-not t _ _ is_it.verdict_is (sym e) claim (λ same. absurd cc)
+      by_case (GoesOn agree work goes) = convicts-not t (verdict_of (closing_of seat.config posts stage)) (inl goes) (sym e)
+      by_case (Ends agree done ends) = convicts-not t (verdict_of (closing_of seat.config posts stage)) (inr ends) (sym e)
+
+  blamed-not : (seat : Seat) (t : Transcript) → NoRunsCollide (honest_runs script) → Contains (last_seats script) seat
+      → result_of seat.config seat.delivered ≡ Blamed t → ⊥
+  blamed-not seat t distinct there e = elim (ending-cases seat.config part (Convicts t) blame.ends) [
+    | inl last ↦ elim last.shows [
+      | inl malformed ↦ claim-not t _ _ malformed.verdict_is refl claim (λ same. absurd cc)
+      | inr other ↦ claim-not t _ _ other.verdict_is refl claim (λ same. absurd cc)
+    ]
+    | inr course ↦
+        let closed = stand-closed seat.config (first_posts seat.config part) (Convicts t) among.config (firsts-check seat.config part part_bytes)
+        course.1 (λ goes. convicts-not t Goes (inl refl) goes) in
+        pad-not seat closed.0 (course_of seat.config (first_posts seat.config part)).past t distinct there
+        (subst (λ (run : Run). IsKeptEnd run closed.0 (course_of seat.config (first_posts seat.config part)).past) (sym blame.run_is)
+        closed.1.kept)
+        closed.1.verdict_is claim e
+  ]
+    where
+      among : IsAmong seat.config seat.delivered (honest_runs script)
+      among = seat-among seat there
+
+      blame : IsBlame seat.config seat.delivered t
+      blame = blame-of seat.config seat.delivered t e
+
+      part : List (List ℕ)
+      part = take blame.count seat.delivered
+
+      part_bytes : All IsBytes part
+      part_bytes = All-take IsBytes blame.count seat.delivered among.bytes
+
+      claim : t.claim ≡ Pad
+      claim = nothing_but_pads seat.config seat.delivered (honest_runs script) t among distinct (seat-all seat there) e
+
   -- nobody waits: the one that is missed at a stage has said its post there
   waits-not : (bound : ℕ) (seat : Seat) (stage : ℕ) (named : List ℕ) → NoRunsCollide (honest_runs script) → Contains (last_seats script) seat
       → stage < bound → result_of seat.config seat.delivered ≡ Waiting stage named → ⊥
   waits-not zero seat stage named distinct there lt e = absurd (omega (arith, lt))
   waits-not (suc bound) seat stage named distinct there lt e = elim (cases_lt ((shape_in seat.config).members + 6) stage) [
     | inl late ↦
-        let done = all_honest seat.config seat.delivered (honest_runs script) among distinct all (late-heard seat stage there names.first late) in
+        let past = before-first (log_after seat.config seat.delivered) stage names.first in
+        let done = past-done seat stage past.0 distinct there past.1 late in
         done-waits done.0 stage named (sym done.1 ∙ e)
-    | inr early ↦ by_other (result_of other.config other.delivered) refl early
+    | inr early ↦ by_other (λ at others sooner is_it. waits-not bound other at others distinct place.1 (omega (arith, sooner, lt)) is_it)
+        (result_of other.config other.delivered) refl early
   ]
     where
-      among : IsAmong seat.config seat.delivered (honest_runs script)
-      among = seat-among seat there
-
-      all : AllHaveRuns seat.config (honest_runs script)
-      all = seat-all seat there
-
       names : NamesMissed seat.config seat.delivered stage named
       names = open_names seat.config seat.delivered stage named (seat-among seat there).config.enter (seat-among seat there).bytes e
 
@@ -276,8 +350,8 @@ module _ (script : Script) (is : IsScript script) (no : IsUndisturbed script) wh
 
       place : (s : Seat) × Contains (last_seats script) s × (s.config.number ≡ names.somebody.0)
       place = (
-        let bounds = slot-bounds (shape_in seat.config) stage names.somebody.0 missed.speaks in
-        seat-at names.somebody.0 (member-of seat names.somebody.0 there bounds.1 bounds.2))
+          let bounds = slot-bounds (shape_in seat.config) stage names.somebody.0 missed.speaks in
+          seat-at names.somebody.0 (member-of seat names.somebody.0 there bounds.1 bounds.2))
 
       other : Seat
       other = place.0
@@ -309,21 +383,21 @@ module _ (script : Script) (is : IsScript script) (no : IsUndisturbed script) wh
           (ap (λ (s : Shape). is_slot s stage other.config.number) others-honest.shape ∙ speaks) lt in
           heard found.0 found.1
 
-      by_other : (o : Outcome) → result_of other.config other.delivered ≡ o → stage ≤ (shape_in seat.config).members + 6 → ⊥
-      by_other (Blamed t) is_it early = not-blamed other.config other.delivered (honest_runs script) t (seat-among other place.1) distinct
-          (seat-all other place.1) is_it
-      by_other (DoneWith slots) is_it early =
+      by_other : ((at : ℕ) (others : List ℕ) → at < stage → result_of other.config other.delivered ≡ Waiting at others → ⊥)
+          → (o : Outcome) → result_of other.config other.delivered ≡ o → stage ≤ (shape_in seat.config).members + 6 → ⊥
+      by_other again (Blamed t) is_it early = blamed-not other t distinct place.1 is_it
+      by_other again (DoneWith slots) is_it early =
           let done = done-end other.config other.delivered slots (seat-among other place.1).config (seat-among other place.1).bytes is_it in
           let late = work-late _ done.work in
           let same : (shape_in other.config).members ≡ (shape_in seat.config).members
           = ap (λ (c : Configuration). (shape_in c).members) (config-is script other (seat-there script other is place.1))
           ∙ sym (ap (λ (c : Configuration). (shape_in c).members) (config-is script seat (seat-there script seat is there))) in
           behind (done.stage + 1) done.posts done.kept.kept (omega (arith, late, early, same))
-      by_other (Waiting at others) is_it early =
+      by_other again (Waiting at others) is_it early =
           let theirs = open_names other.config other.delivered at others (seat-among other place.1).config.enter
           (seat-among other place.1).bytes is_it in
           elim (cases_lt at stage) [
-            | inl sooner ↦ waits-not bound other at others distinct place.1 (omega (arith, sooner, lt)) is_it
+            | inl sooner ↦ again at others sooner is_it
             | inr not_sooner ↦ elim (cases_lt stage at) [
               | inl later ↦
                   let past = before-first (log_after other.config other.delivered) at theirs.first in
@@ -346,20 +420,19 @@ module _ (script : Script) (is : IsScript script) (no : IsUndisturbed script) wh
           → (slots : List SlotState) × (result_of seat.config seat.delivered ≡ DoneWith slots)
       by_result (DoneWith slots) e = (slots, e)
       by_result (Waiting stage named) e = absurd (waits-not (suc stage) seat stage named distinct there (omega arith) e)
-      by_result (Blamed t) e = absurd (not-blamed seat.config seat.delivered (honest_runs script) t (seat-among seat there) distinct
-          (seat-all seat there) e)
+      by_result (Blamed t) e = absurd (blamed-not seat t distinct there e)
 
 pub undisturbed_groups_are_done : UndisturbedGroupsAreDone
-undisturbed_groups_are_done script shown is no distinct listed =
+undisturbed_groups_are_done script shown is calm distinct listed =
     let at = shown-at script shown is listed in
     let honest : shown.faulty ≡ false = sym (ap (λ (s : MemberShown). s.faulty) at.is) ∙ shown-faulty at.seat
-    ∙ ap is_faulty (seat-honest script is no at.seat at.there) in
+    ∙ ap is_faulty (seat-honest script is calm at.seat at.there) in
     let in_it : IsHonestIn script shown = record { listed = listed; honest = honest } in
     let keeps = members_keep_their_promise script shown is in_it in
-    let done = seat-done script is no at.seat distinct at.there in
+    let done = seat-done script is calm at.seat distinct at.there in
     let same : result_of (config_shown script shown) shown.delivered ≡ DoneWith done.0
     = sym (ap (λ (s : MemberShown). result_of (config_shown script s) s.delivered) at.is)
-    ∙ ap (λ (c : Configuration). result_of c (shown_of at.seat).delivered) (seat-config script is no at.seat at.there)
+    ∙ ap (λ (c : Configuration). result_of c (shown_of at.seat).delivered) (seat-config script is calm at.seat at.there)
     ∙ ap (result_of at.seat.config) (shown-delivered at.seat) ∙ done.1 in
     let shows : shown.slots ≡ Some done.0 = keeps.slots_are ∙ ap slots_shown same in
     record {
@@ -369,9 +442,9 @@ undisturbed_groups_are_done script shown is no distinct listed =
       shows = shows;
       messages = honest_members_are_served script shown done.0 is distinct in_it shows;
       all = λ member of. (
-          let found = seat-at script is no member of in (
+          let found = seat-at script is calm member of in (
             run_after found.0.config found.0.delivered,
-            run-there script found.0 is found.1 (seat-honest script is no found.0 found.1),
+            run-there script found.0 is found.1 (seat-honest script is calm found.0 found.1),
             found.2,
           ));
     }
