@@ -60,21 +60,21 @@ use Rattle.group_laws.proofs.Worlds.{IsEntryOf, IsOtherVote, IsSeatOf, all-told,
 
 -- ---- members by their numbers
 
-config-is : (script : Script) (seat : Seat) → IsSeatOf script seat → seat.config ≡ script_configuration script seat.config.number
+pub config-is : (script : Script) (seat : Seat) → IsSeatOf script seat → seat.config ≡ script_configuration script seat.config.number
 config-is script seat of =
     let config : seat.config ≡ script_configuration script of.member = ap (λ (s : Seat). s.config) of.same in
     config ∙ ap (script_configuration script) (sym (ap (λ (c : Configuration). c.number) config))
 
-fault-is : (script : Script) (seat : Seat) → IsSeatOf script seat → seat.fault ≡ fault_in script.faults seat.config.number
+pub fault-is : (script : Script) (seat : Seat) → IsSeatOf script seat → seat.fault ≡ fault_in script.faults seat.config.number
 fault-is script seat of =
     ap (λ (s : Seat). s.fault) of.same
     ∙ ap (fault_in script.faults) (sym (ap (λ (s : Seat). s.config.number) of.same))
 
-shown-number : (seat : Seat) → (shown_of seat).number ≡ seat.config.number
+pub shown-number : (seat : Seat) → (shown_of seat).number ≡ seat.config.number
 unfolding shown_of
 shown-number seat = refl
 
-seat-there : (script : Script) (seat : Seat) → IsScript script → Contains (last_seats script) seat → IsSeatOf script seat
+pub seat-there : (script : Script) (seat : Seat) → IsScript script → Contains (last_seats script) seat → IsSeatOf script seat
 seat-there script seat is there = seat-of script (last_seats script) seat (last-steady script is).same there
 
 seat-bytes : (script : Script) (seat : Seat) → IsScript script → Contains (last_seats script) seat → All IsBytes seat.delivered
@@ -100,7 +100,7 @@ number-honest script number is (run, there, same) =
 -- ---- what an honest member sent
 
 -- its run is one of the runs
-run-there : (script : Script) (seat : Seat) → IsScript script → Contains (last_seats script) seat → seat.fault ≡ Honest
+pub run-there : (script : Script) (seat : Seat) → IsScript script → Contains (last_seats script) seat → seat.fault ≡ Honest
     → Contains (honest_runs script) (run_after seat.config seat.delivered)
 unfolding honest_runs script_end group_end
 run-there script seat is there honest =
@@ -127,7 +127,7 @@ sent-by script seat post is there honest said =
     post.content own (contains-map-from (λ (p : Post). p.content) (posts_said run) post said)
 
 -- what it made is what its run said
-made-same : (script : Script) (seat : Seat) → IsScript script → Contains (last_seats script) seat → seat.fault ≡ Honest
+pub made-same : (script : Script) (seat : Seat) → IsScript script → Contains (last_seats script) seat → seat.fault ≡ Honest
     → (actor_of seat).made ≡ posts_said (run_after seat.config seat.delivered)
 made-same script seat is there honest =
     let of = seat-there script seat is there in

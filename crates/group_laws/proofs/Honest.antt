@@ -1,9 +1,9 @@
 -- What an honest run kept was said by its member or delivered to it, and it embeds nothing else.
-use Rattle.std.proofs.Common.{◌≡◌, ◌⊎◌, ℕ, true, List, Option, Some, None, length, take, map, ap, sym, ◌∙◌, refl, subst, arith, inl, inr}
+use Rattle.std.proofs.Common.{◌≡◌, ◌≢◌, ◌⊎◌, ℕ, true, false, List, Option, Some, None, length, take, map, ap, sym, ◌∙◌, refl, subst, arith, inl, inr}
 use Rattle.std.specs.Prelude.{All, ◌==◌, Contains, IsSome, Ok, option_and_then, option_map, if◌then◌else◌}
 use Rattle.std.specs.List.{range_with_len, slice_get}
 use Rattle.std.specs.Option.{option_flatten}
-use Rattle.std.proofs.lemmas.Bool.{cases_Bool, cond-false, cond-true, eqb-true}
+use Rattle.std.proofs.lemmas.Bool.{cases_Bool, cond-false, cond-true, eqb-true, false_from_ne_true}
 use Rattle.std.proofs.lemmas.List.{length-map, length-take-le}
 use Rattle.std.proofs.lemmas.Option.{none-some, slice_get-map, slice_get_within}
 use Rattle.wire_core.specs.Bytes.{IsBytes}
@@ -56,7 +56,7 @@ kept-speaks log slot post e = elim (cases_Bool (is_slot log.shape slot.stage slo
 ]
 
 -- an own one was said
-said-own : (run : Run) (stage : ℕ) (post : Post) → kept_in run.log (own_slot run stage) ≡ Some post → Contains (posts_said run) post
+pub said-own : (run : Run) (stage : ℕ) (post : Post) → kept_in run.log (own_slot run stage) ≡ Some post → Contains (posts_said run) post
 said-own run stage post e =
     let speaks = kept-speaks run.log (own_slot run stage) post e in
     let bounds = slot-bounds run.log.shape stage run.config.number speaks in
@@ -97,10 +97,28 @@ kept-cases c delivered slot post are e =
           inr (given.bytes, counted-listed delivered (least_ending c delivered) given.bytes given.listed, given.spelled)
     ]
 
+-- what it kept of another was delivered
+pub kept-delivered : (c : Configuration) (delivered : List (List ℕ)) (slot : Slot) (post : Post) → All IsBytes delivered
+    → slot.sender ≢ c.number → kept_in (log_after c delivered) slot ≡ Some post
+    → (bytes : List ℕ) × Contains delivered bytes × (frame_of bytes ≡ Ok post)
+unfolding log_after post_settled
+kept-delivered c delivered slot post are apart e =
+    let part : List (List ℕ) = delivered_counted c delivered in
+    let others : Others = first_posts c part in
+    let speaks : is_slot (shape_in c) slot.stage slot.sender ≡ true
+    = sym (ap (λ (s : Shape). is_slot s slot.stage slot.sender) (log-shape c delivered)) ∙ kept-speaks (log_after c delivered) slot post e in
+    let settled : (if slot.sender == c.number then own_post_at c (course_of c others) slot.stage else others slot) ≡ Some post
+    = sym (settled-kept c others slot speaks) ∙ e in
+    let other : (slot.sender == c.number) ≡ false
+    = false_from_ne_true (slot.sender == c.number) (λ same. apart (eqb-true slot.sender c.number same)) in
+    let given = first_posts_delivered c part slot post (counted-bytes c delivered are)
+    (sym (cond-false (slot.sender == c.number) (own_post_at c (course_of c others) slot.stage) (others slot) other) ∙ settled) in
+    (given.bytes, counted-listed delivered (least_ending c delivered) given.bytes given.listed, given.spelled)
+
 -- ---- a past
 
 -- what stands at a number of the posts before a stage is kept in the slot of the number
-past-kept : (log : Log) (stage number : ℕ) (past : List Post) (slot : Slot) (post : Post) → before log stage ≡ Some past
+pub past-kept : (log : Log) (stage number : ℕ) (past : List Post) (slot : Slot) (post : Post) → before log stage ≡ Some past
     → slot_at log.shape number ≡ Some slot → slice_get past number ≡ Some post → kept_in log slot ≡ Some post
 past-kept log stage number past slot post e at stands =
     let n : ℕ = slots_before log.shape stage in
@@ -114,7 +132,7 @@ past-kept log stage number past slot post e at stands =
     None its.0
     ∙ ap (λ (k : ℕ). option_flatten (slice_get log.posts k)) its.1 ∙ ap option_flatten entry
 
-past-long : (log : Log) (stage : ℕ) (past : List Post) → IsLog log → before log stage ≡ Some past → length past ≡ slots_before log.shape stage
+pub past-long : (log : Log) (stage : ℕ) (past : List Post) → IsLog log → before log stage ≡ Some past → length past ≡ slots_before log.shape stage
 past-long log stage past form e =
     let n : ℕ = slots_before log.shape stage in
     let some : Post → Option Post = λ p. Some p in

@@ -9,3 +9,5 @@ pub mod Spellings
 pub mod Honest
 pub mod Forging
 pub mod Served
+pub mod Carried
+pub mod Undisturbed

@@ -128,7 +128,7 @@ pub record IsEntryOf (seat : Seat) (entry : Entry) : Type 0 where
   pub is : (entry.post ≡ post) ⊎ ((content : List ℕ) × IsOtherVote (shape_in seat.config) post content
       × (second_content seat.fault (shape_in seat.config) post ≡ Some content) × (entry.post ≡ signed_with seat.spare content))
 
-abbrev whole-entry : Seat → Post → Entry
+abbrev pub whole-entry : Seat → Post → Entry
 whole-entry seat post = record { sender = seat.config.number; post = post; first = 1; last = (shape_in seat.config).members }
 
 abbrev lower-entry : Seat → Post → Entry

@@ -1,5 +1,6 @@
 //! Laws of the groups of scripts. Nobody calls these functions: the contract of each states a law.
 
+ghost use Rattle.group_laws.specs.AllHonest.{UndisturbedGroupsAreDone};
 ghost use Rattle.group_laws.specs.Entering.{ScriptsEnter};
 ghost use Rattle.group_laws.specs.Forging.{
   BlamedAreFaulty,
@@ -38,4 +39,10 @@ pub fn honest_members_are_served()
     ensures served { HonestMembersAreServed }
     ensures one_list { DoneMembersAgree }
     ensures faulty { BlamedAreFaulty }
+{}
+
+/// In the group of a script that names no fault and no post that does not arrive, every member is done with the message of
+/// each, where no two strings of their runs have one hash.
+pub fn undisturbed_groups_are_done()
+    ensures { UndisturbedGroupsAreDone }
 {}
