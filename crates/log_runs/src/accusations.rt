@@ -54,7 +54,9 @@ fn judged(alloc: Global, accusation: &Accusation, sent: u8) -> Mem<Result<(), Ac
 }
 
 pub fn a_pad_that_was_flipped(alloc: Global) -> Result<()> {
-    let sent = pad(alloc, &SEEDS[1], 1)?.pop().context("a pad of one byte")?;
+    let sent = pad(alloc, &SEEDS[1], 1)?
+        .pop()
+        .context("a pad of one byte")?;
     let accusation = Accusation {
         slot: 1,
         member: 2,

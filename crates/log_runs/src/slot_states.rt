@@ -64,13 +64,13 @@ pub fn the_four_states(alloc: Global) -> Result<()> {
         other => bail!("{other:?}"),
     }
     ensure!(matches!(
-            state(alloc, descriptor(alloc, MESSAGE_HASH)?, 0x6f)?,
-            Some(SlotState::Bad { first: 2 })
-        ));
+        state(alloc, descriptor(alloc, MESSAGE_HASH)?, 0x6f)?,
+        Some(SlotState::Bad { first: 2 })
+    ));
     ensure!(matches!(
-            state(alloc, descriptor(alloc, PAD_HASHES[0])?, 0x6e)?,
-            Some(SlotState::Mismatched)
-        ));
+        state(alloc, descriptor(alloc, PAD_HASHES[0])?, 0x6e)?,
+        Some(SlotState::Mismatched)
+    ));
     ensure!(matches!(state(alloc, None, 0x6e)?, Some(SlotState::Empty)));
     Ok(())
 }
