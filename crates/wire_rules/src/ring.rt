@@ -11,12 +11,17 @@ const TOO_LARGE: CoefficientTooLarge = CoefficientTooLarge {
     value: 12289,
 };
 
-pub fn packs_four_coefficients_in_seven_bytes() -> Result<()> {
+// The polynomial that begins with 12288, 0, 1 and 12288, behind which all coefficients are 0.
+fn four_coefficients() -> Poly {
     let mut coefficients = [0; 1024];
     coefficients[0] = 12288;
     coefficients[2] = 1;
     coefficients[3] = 12288;
-    let bytes = pack(&Poly::of(coefficients));
+    Poly::of(coefficients)
+}
+
+pub fn packs_four_coefficients_in_seven_bytes() -> Result<()> {
+    let bytes = pack(&four_coefficients());
     let expected = [0x00, 0x30, 0x00, 0x10, 0x00, 0x00, 0xc0];
     for place in 0..1792 {
         let byte = if place < 7 { expected[place] } else { 0 };
