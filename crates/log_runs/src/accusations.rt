@@ -3,11 +3,11 @@
 ghost use Rattle.std.specs.Prelude.{◌≡◌, length, vec_len, IfOk, IfSome};
 
 use accusation::{Accusation, AccusationRefusal, holds, own_item};
-use anyhow::{Context, Result, ensure};
 use bulk_descriptor::{List, Mem, PadTable, PublicKey, SlotState, decode, make};
 use pad_stream::pad;
 use ring_encrypt::public_of;
 use std::alloc::Global;
+use std::test::Fail;
 
 const SEEDS: [[u8; 32]; 2] = [[0x10; 32], [0x20; 32]];
 
@@ -53,41 +53,58 @@ fn judged(alloc: Global, accusation: &Accusation, sent: u8) -> Mem<Result<(), Ac
     Ok(holds(accusation, &descriptors, &pads, &keys))
 }
 
-pub fn a_pad_that_was_flipped(alloc: Global) -> Result<()> {
-    let sent = pad(alloc, &SEEDS[1], 1)?
-        .pop()
-        .context("a pad of one byte")?;
+#[test]
+fn a_pad_that_was_flipped(rt: HostRuntime) -> Result<(), Fail> {
+    let alloc = rt.alloc();
+    let sent = pad(alloc, &SEEDS[1], 1)?.pop().ok_or("a pad of one byte")?;
     let accusation = Accusation {
         slot: 1,
         member: 2,
         seed: SEEDS[1],
     };
-    ensure!(judged(alloc, &accusation, sent ^ 1)? == Ok(()));
-    ensure!(judged(alloc, &accusation, sent)? == Err(AccusationRefusal::PadSent));
-    let empty = Accusation::decode(&[0; 34]).context("34 bytes")?;
-    ensure!(judged(alloc, &empty, sent ^ 1)? == Err(AccusationRefusal::Slot));
+    assert_eq!(rt; judged(alloc, &accusation, sent ^ 1)?, Ok(()));
+    assert_eq!(rt;
+        judged(alloc, &accusation, sent)?,
+        Err(AccusationRefusal::PadSent)
+    );
+    let empty = Accusation::decode(&[0; 34]).ok_or("34 bytes")?;
+    assert_eq!(rt;
+        judged(alloc, &empty, sent ^ 1)?,
+        Err(AccusationRefusal::Slot)
+    );
     let mut seed = SEEDS[1];
     seed[0] ^= 0x80;
     let changed = Accusation { seed, ..accusation };
-    ensure!(judged(alloc, &changed, sent ^ 1)? == Err(AccusationRefusal::Capsule));
+    assert_eq!(rt;
+        judged(alloc, &changed, sent ^ 1)?,
+        Err(AccusationRefusal::Capsule)
+    );
     let nobody = Accusation {
         member: 3,
         ..accusation
     };
-    ensure!(judged(alloc, &nobody, sent ^ 1)? == Err(AccusationRefusal::Member));
+    assert_eq!(rt;
+        judged(alloc, &nobody, sent ^ 1)?,
+        Err(AccusationRefusal::Member)
+    );
     // The maker's own seed was sealed, and its pad is another.
     let maker = Accusation {
         slot: 1,
         member: 1,
         seed: SEEDS[0],
     };
-    ensure!(judged(alloc, &maker, sent)? == Err(AccusationRefusal::PadHash));
+    assert_eq!(rt;
+        judged(alloc, &maker, sent)?,
+        Err(AccusationRefusal::PadHash)
+    );
     Ok(())
 }
 
-pub fn the_item_of_a_maker(alloc: Global) -> Result<()> {
+#[test]
+fn the_item_of_a_maker(rt: HostRuntime) -> Result<(), Fail> {
+    let alloc = rt.alloc();
     let seeds = SEEDS.to_vec(alloc)?;
-    ensure!(seeds.len() == 2);
+    assert_eq!(rt; seeds.len(), 2);
     let own = own(alloc)?;
     let opened = vec![in alloc; None, Some(List::of(own.clone()?))]?;
     let states = vec![in alloc; SlotState::Empty, SlotState::Bad { first: 2 }]?;
@@ -96,7 +113,10 @@ pub fn the_item_of_a_maker(alloc: Global) -> Result<()> {
         member: 2,
         seed: SEEDS[1],
     };
-    ensure!(own_item(&own, &opened, &states, &seeds) == accusation.encode());
-    ensure!(own_item(b"another's", &opened, &states, &seeds) == [0; 34]);
+    assert_eq!(rt;
+        own_item(&own, &opened, &states, &seeds),
+        accusation.encode()
+    );
+    assert_eq!(rt; own_item(b"another's", &opened, &states, &seeds), [0; 34]);
     Ok(())
 }

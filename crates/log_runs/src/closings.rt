@@ -6,11 +6,11 @@ ghost use Rattle.phase_message.specs.Stages.{shape_of};
 ghost use Rattle.go_nogo.specs.Stands.{IsVoteStage, StandAll};
 
 use crate::whole::{TWO, is_whole};
-use anyhow::{Result, bail, ensure};
 use go_nogo::{Content, Vote, compare_logs, justified, unanimous, votes_of};
 use phase_message::{Body, Header, Post, Shape, Slot, StageKind, decode, stage_kind};
 use stage_log::StageLog;
 use std::alloc::Global;
+use std::test::Fail;
 use wire_core::{List, Mem, put_bytes, put_u8, put_u64};
 
 // Stages 4 and 7 have votes, which stages 5 and 8 close.
@@ -188,7 +188,9 @@ fn closing(alloc: Global, kind: u8, view: [u8; 32]) -> Content {
 }
 
 // A Reveal and a Confirm where the two agree, a Dispute and a Differ under the view of the log where they don't.
-pub fn which_closings_are_justified(alloc: Global) -> Result<()> {
+#[test]
+fn which_closings_are_justified(rt: HostRuntime) -> Result<(), Fail> {
+    let alloc = rt.alloc();
     let table = [
         (6, AGREES, true, true),
         (6, SAYS_NO, true, false),
@@ -211,7 +213,7 @@ pub fn which_closings_are_justified(alloc: Global) -> Result<()> {
             [1; 32]
         };
         let said = closing(alloc, kind, view);
-        ensure!(
+        assert!(rt;
             answer(alloc, &said, &log)? == Some(expected),
             "{kind} {second:?}"
         );
@@ -220,15 +222,18 @@ pub fn which_closings_are_justified(alloc: Global) -> Result<()> {
 }
 
 // The votes of a stage as the two said them, and whether they are unanimous.
-pub fn which_votes_are_unanimous(alloc: Global) -> Result<()> {
+#[test]
+fn which_votes_are_unanimous(rt: HostRuntime) -> Result<(), Fail> {
+    let alloc = rt.alloc();
     let table = [(AGREES, true), (SAYS_NO, false), (OTHER_VIEW, false)];
     for (second, expected) in table {
         let log = log_before(alloc, 5, second)?;
         let Some(votes) = votes_at(alloc, &log, 4)? else {
-            bail!("no votes");
+            assert!(rt; false, "no votes");
+            return Ok(());
         };
-        ensure!(are_votes(&votes, second));
-        ensure!(unanimous(&votes) == expected);
+        assert!(rt; are_votes(&votes, second));
+        assert!(rt; unanimous(&votes) == expected);
     }
     Ok(())
 }
@@ -246,7 +251,9 @@ fn is_vote(vote: &Vote, (flag, view): Second) -> bool {
 }
 
 // Another vote of member 2 is the first difference; signatures are none, and neither is a slot that one log alone keeps.
-pub fn the_first_difference_of_two_logs(alloc: Global) -> Result<()> {
+#[test]
+fn the_first_difference_of_two_logs(rt: HostRuntime) -> Result<(), Fail> {
+    let alloc = rt.alloc();
     let log = log_before(alloc, 5, AGREES)?;
     let mut signed = StageLog::new(alloc, TWO)?;
     put_stage(alloc, &mut signed, 4, AGREES, b"signed")?;
@@ -254,9 +261,9 @@ pub fn the_first_difference_of_two_logs(alloc: Global) -> Result<()> {
         stage: 4,
         sender: 2,
     });
-    ensure!(compare_logs(&log, &log).is_none());
-    ensure!(compare_logs(&log, &log_before(alloc, 5, SAYS_NO)?) == second);
-    ensure!(compare_logs(&log_before(alloc, 8, OTHER_VIEW)?, &log) == second);
-    ensure!(compare_logs(&log, &signed).is_none());
+    assert!(rt; compare_logs(&log, &log).is_none());
+    assert!(rt; compare_logs(&log, &log_before(alloc, 5, SAYS_NO)?) == second);
+    assert!(rt; compare_logs(&log_before(alloc, 8, OTHER_VIEW)?, &log) == second);
+    assert!(rt; compare_logs(&log, &signed).is_none());
     Ok(())
 }

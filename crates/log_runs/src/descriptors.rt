@@ -1,9 +1,9 @@
 //! Descriptors for two members, and an own pad that another program computed.
 
-use anyhow::{Context, Result, ensure};
 use bulk_descriptor::{KeySeed, List, decode, make, sent_pad};
 use ring_encrypt::public_of;
 use std::alloc::{AllocError, Global};
+use std::test::Fail;
 
 // What a member of a group of two finds in the bytes of a descriptor by the seed of its key.
 fn pad_in(alloc: Global, bytes: &[u8], seed: [u8; 32]) -> Result<Option<List<u8>>, AllocError> {
@@ -19,22 +19,24 @@ fn pad_in(alloc: Global, bytes: &[u8], seed: [u8; 32]) -> Result<Option<List<u8>
     found
 }
 
-pub fn a_descriptor_of_no_bytes_for_two(alloc: Global) -> Result<()> {
+#[test]
+fn a_descriptor_of_no_bytes_for_two(rt: HostRuntime) -> Result<(), Fail> {
+    let alloc = rt.alloc();
     let keys = vec![in alloc; public_of(&[1; 32]), public_of(&[2; 32])]?;
     let seeds = vec![in alloc; [10; 32], [20; 32]]?;
     let made = make(alloc, &keys, &seeds, 1, b"")?;
-    ensure!(made.own_pad.items().len() == 0);
+    assert_eq!(rt; made.own_pad.items().len(), 0);
     let mut bytes = made.descriptor.encode(alloc)?;
-    ensure!(bytes.len() == 4580);
+    assert_eq!(rt; bytes.len(), 4580);
     let mut cut = made.descriptor.encode(alloc)?;
     let _ = cut.pop();
-    ensure!(decode(alloc, 2, &cut)?.is_none());
-    let found = pad_in(alloc, &bytes, [2; 32])?.context("the other's pad")?;
-    ensure!(found.items().len() == 0);
-    ensure!(pad_in(alloc, &bytes, [1; 32])?.is_none());
+    assert!(rt; decode(alloc, 2, &cut)?.is_none());
+    let found = pad_in(alloc, &bytes, [2; 32])?.ok_or("the other's pad")?;
+    assert_eq!(rt; found.items().len(), 0);
+    assert!(rt; pad_in(alloc, &bytes, [1; 32])?.is_none());
     // The hash of the second pad stands behind the head and the first one.
     bytes[68] ^= 1;
-    ensure!(pad_in(alloc, &bytes, [2; 32])?.is_none());
+    assert!(rt; pad_in(alloc, &bytes, [2; 32])?.is_none());
     Ok(())
 }
 
@@ -49,14 +51,16 @@ const PAD_SEEDS: [&[u8; 32]; 2] = [
     b"\xcc\xd8\x1a\x76\x8e\xae\x72\x1f\x4d\x8e\xa5\x93\xb7\xfd\x9e\xe1\xa8\xe9\x62\x4a\x29\xcf\xe3\x9a\x80\xc7\x5c\x5f\xe7\x26\xb6\x54",
 ];
 
-pub fn the_own_pad_of_a_maker(alloc: Global) -> Result<()> {
+#[test]
+fn the_own_pad_of_a_maker(rt: HostRuntime) -> Result<(), Fail> {
+    let alloc = rt.alloc();
     let keys = vec![in alloc; public_of(KEY_SEEDS[0]), public_of(KEY_SEEDS[1])]?;
     let seeds = vec![in alloc; *PAD_SEEDS[0], *PAD_SEEDS[1]]?;
     let made = make(alloc, &keys, &seeds, 2, b"\x8d")?;
-    ensure!(made.own_pad.items().as_slice() == [0x48].as_slice());
-    ensure!(made.descriptor.pad_hashes.items().len() == 2);
-    ensure!(made.descriptor.fits(2, &[0x48]));
-    ensure!(!made.descriptor.fits(1, &[0x48]));
+    assert_eq!(rt; made.own_pad.items().as_slice(), [0x48].as_slice());
+    assert!(rt; made.descriptor.pad_hashes.items().len() == 2);
+    assert!(rt; made.descriptor.fits(2, &[0x48]));
+    assert!(rt; !made.descriptor.fits(1, &[0x48]));
     let own = made.descriptor.encode(alloc)?;
     let key = KeySeed::new(*KEY_SEEDS[1]);
     let sent = sent_pad(alloc, 2, &own, made.own_pad.items(), 2, &key, &own);
@@ -70,7 +74,7 @@ pub fn the_own_pad_of_a_maker(alloc: Global) -> Result<()> {
         b"no descriptor",
     );
     key.destroy();
-    ensure!(sent?.items().as_slice() == [0x48].as_slice());
-    ensure!(other?.items().len() == 0);
+    assert_eq!(rt; sent?.items().as_slice(), [0x48].as_slice());
+    assert_eq!(rt; other?.items().len(), 0);
     Ok(())
 }

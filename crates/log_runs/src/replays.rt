@@ -5,13 +5,13 @@ ghost use Rattle.phase_message.specs.declared.stage.StageKind.TheVariants.{Final
 ghost use Rattle.phase_message.specs.Stages.{kind_of_stage, shape_of};
 
 use crate::whole::{TWO, is_whole};
-use anyhow::{Result, ensure};
 use layer_cipher::seal;
 use phase_message::{Post, Shape, Slot, StageKind, is_slot, stage_kind};
 use ring_encrypt::public_of;
 use shuffle_blame::{Cause, Fault, Shown, replay};
 use stage_log::{RunningView, StageLog};
 use std::alloc::Global;
+use std::test::Fail;
 use wire_core::{List, Mem, put_bytes, put_u8, put_u64};
 
 const ROUND: u64 = 98;
@@ -200,28 +200,33 @@ fn of(member: u8, cause: Cause) -> Option<Option<Fault>> {
     Some(Some(Fault { member, cause }))
 }
 
-pub fn a_round_as_it_should_be_blames_nobody(alloc: Global) -> Result<()> {
-    let log = log_of(alloc, NOTHING)?;
-    let found = blamed(alloc, &log, shown_by(1), shown_by(2))?;
-    ensure!(found == Some(None));
+#[test]
+fn a_round_as_it_should_be_blames_nobody(rt: HostRuntime) -> Result<(), Fail> {
+    let log = log_of(rt.alloc(), NOTHING)?;
+    let found = blamed(rt.alloc(), &log, shown_by(1), shown_by(2))?;
+    assert!(rt; found == Some(None));
     Ok(())
 }
 
-pub fn what_is_shown_decides(alloc: Global) -> Result<()> {
+#[test]
+fn what_is_shown_decides(rt: HostRuntime) -> Result<(), Fail> {
+    let alloc = rt.alloc();
     let log = log_of(alloc, NOTHING)?;
     let mut other = shown_by(1);
     other.outer_seed[0] = 0x7a;
-    ensure!(blamed(alloc, &log, other, shown_by(2))? == of(1, Cause::OuterSeed));
+    assert!(rt; blamed(alloc, &log, other, shown_by(2))? == of(1, Cause::OuterSeed));
     let mut other = shown_by(2);
     other.outer_opening[0] = 0xd3;
-    ensure!(blamed(alloc, &log, shown_by(1), other)? == of(2, Cause::Submission { layer: 1 }));
+    assert!(rt; blamed(alloc, &log, shown_by(1), other)? == of(2, Cause::Submission { layer: 1 }));
     Ok(())
 }
 
-pub fn a_wrong_list_and_a_no_are_blamed(alloc: Global) -> Result<()> {
+#[test]
+fn a_wrong_list_and_a_no_are_blamed(rt: HostRuntime) -> Result<(), Fail> {
+    let alloc = rt.alloc();
     let log = log_of(alloc, Change { vote: 0, first: 1 })?;
-    ensure!(blamed(alloc, &log, shown_by(1), shown_by(2))? == of(2, Cause::FalseNoGo));
+    assert!(rt; blamed(alloc, &log, shown_by(1), shown_by(2))? == of(2, Cause::FalseNoGo));
     let log = log_of(alloc, Change { vote: 0, first: 2 })?;
-    ensure!(blamed(alloc, &log, shown_by(1), shown_by(2))? == of(2, Cause::Shuffle));
+    assert!(rt; blamed(alloc, &log, shown_by(1), shown_by(2))? == of(2, Cause::Shuffle));
     Ok(())
 }

@@ -2,10 +2,10 @@
 
 ghost use Rattle.std.specs.Prelude.{◌≡◌, length, IfOk, IfSome};
 
-use anyhow::{Result, bail, ensure};
 use bulk_descriptor::{Descriptor, PadTable, SlotState, decode};
 use bulk_recovery::recover;
 use std::alloc::{AllocError, Global};
+use std::test::Fail;
 use wire_core::List;
 
 // The hash of the message 61, and those of the pads 0f and 6e.
@@ -58,19 +58,28 @@ fn state(
     Ok(states.pop())
 }
 
-pub fn the_four_states(alloc: Global) -> Result<()> {
+#[test]
+fn the_four_states(rt: HostRuntime) -> Result<(), Fail> {
+    let alloc = rt.alloc();
     match state(alloc, descriptor(alloc, MESSAGE_HASH)?, 0x6e)? {
-        Some(SlotState::Message(bytes)) => ensure!(bytes.items().as_slice() == [0x61].as_slice()),
-        other => bail!("{other:?}"),
+        Some(SlotState::Message(bytes)) => assert_eq!(rt;
+            bytes.items().as_slice(),
+            [0x61].as_slice()
+        ),
+        other => assert!(rt; false, "{other:?}"),
     }
-    ensure!(matches!(
-        state(alloc, descriptor(alloc, MESSAGE_HASH)?, 0x6f)?,
-        Some(SlotState::Bad { first: 2 })
-    ));
-    ensure!(matches!(
-        state(alloc, descriptor(alloc, PAD_HASHES[0])?, 0x6e)?,
-        Some(SlotState::Mismatched)
-    ));
-    ensure!(matches!(state(alloc, None, 0x6e)?, Some(SlotState::Empty)));
+    assert!(rt;
+        matches!(
+            state(alloc, descriptor(alloc, MESSAGE_HASH)?, 0x6f)?,
+            Some(SlotState::Bad { first: 2 })
+        )
+    );
+    assert!(rt;
+        matches!(
+            state(alloc, descriptor(alloc, PAD_HASHES[0])?, 0x6e)?,
+            Some(SlotState::Mismatched)
+        )
+    );
+    assert!(rt; matches!(state(alloc, None, 0x6e)?, Some(SlotState::Empty)));
     Ok(())
 }

@@ -2,7 +2,6 @@
 
 ghost use Rattle.std.specs.Prelude.{◌<◌, ◌^◌, ◌↔◌, All, IsTrue, length};
 
-use anyhow::{Context, Result, bail, ensure};
 use layer_cipher::seal;
 use ring_encrypt::public_of;
 use shuffle_core::{
@@ -10,16 +9,18 @@ use shuffle_core::{
     submission,
 };
 use std::alloc::Global;
+use std::test::Fail;
 use wire_core::Mem;
 
-pub fn layers_are_numbered_from_one(alloc: Global) -> Result<()> {
+#[test]
+fn layers_are_numbered_from_one(rt: HostRuntime) -> Result<(), Fail> {
     let opening = [
         0xa3, 0x4d, 0xb8, 0xe0, 0xaf, 0xf0, 0x3f, 0x6d, 0x0c, 0xdc, 0xfa, 0x56, 0xd0, 0x6a, 0x64,
         0xe9, 0x18, 0x35, 0xad, 0x5f, 0x20, 0xf9, 0x7c, 0x7b, 0x2f, 0x87, 0x7e, 0xa3, 0x9c, 0x26,
         0xc3, 0x12,
     ];
-    let seeds = layer_seeds(alloc, &opening, 4294967296, 1, 1, 1, 2)?;
-    ensure!(seeds.len() == 2);
+    let seeds = layer_seeds(rt.alloc(), &opening, 4294967296, 1, 1, 1, 2)?;
+    assert_eq!(rt; seeds.len(), 2);
     let first = [
         0x8a, 0xd7, 0x98, 0xcd, 0x1e, 0xf6, 0xd9, 0xd1, 0x6d, 0x4d, 0xa5, 0x59, 0x5b, 0xa8, 0x84,
         0xe1, 0x04, 0x4b, 0xd2, 0x2e, 0x35, 0x56, 0x3c, 0xe6, 0x9a, 0x98, 0xd6, 0x7c, 0x67, 0x38,
@@ -30,8 +31,8 @@ pub fn layers_are_numbered_from_one(alloc: Global) -> Result<()> {
         0xf9, 0x2e, 0x53, 0x11, 0xef, 0xd3, 0x44, 0xbf, 0x9d, 0x89, 0x05, 0xa3, 0x3d, 0x47, 0xfd,
         0x32, 0x3b,
     ];
-    ensure!(seeds[0] == first);
-    ensure!(seeds[1] == second);
+    assert_eq!(rt; seeds[0], first);
+    assert_eq!(rt; seeds[1], second);
     Ok(())
 }
 
@@ -62,7 +63,9 @@ fn turn(alloc: Global, order_seed: &[u8; 32], list: &Vec<List<u8>>) -> Mem<Body>
     body
 }
 
-pub fn bodies_are_said_in_the_drawn_order(alloc: Global) -> Result<()> {
+#[test]
+fn bodies_are_said_in_the_drawn_order(rt: HostRuntime) -> Result<(), Fail> {
+    let alloc = rt.alloc();
     let order_seed = [
         0xf1, 0x1c, 0x02, 0x47, 0xb6, 0x7f, 0xc6, 0x59, 0x63, 0x2a, 0xb5, 0xf2, 0x31, 0x5d, 0xe9,
         0x4d, 0x59, 0x8d, 0x74, 0x0d, 0xa9, 0xcc, 0xf1, 0xbd, 0x40, 0x6a, 0x9f, 0x8b, 0x32, 0x93,
@@ -70,29 +73,35 @@ pub fn bodies_are_said_in_the_drawn_order(alloc: Global) -> Result<()> {
     ];
     let order = [7, 0, 5, 2, 4, 1, 6, 3];
     let list = layers(alloc, 8)?;
-    ensure!(are_short(&list));
+    assert!(rt; are_short(&list));
     let Body::Shuffled { list: bodies } = turn(alloc, &order_seed, &list)? else {
-        bail!("eight layers");
+        assert!(rt; false, "eight layers");
+        return Ok(());
     };
-    ensure!(bodies.items().len() == 8);
+    assert_eq!(rt; bodies.items().len(), 8);
     for place in 0..8 {
-        ensure!(bodies.items()[place].items().as_slice() == [order[place]].as_slice());
+        assert_eq!(rt;
+            bodies.items()[place].items().as_slice(),
+            [order[place]].as_slice()
+        );
     }
     Ok(())
 }
 
-pub fn equal_entries_and_no_layers_abort(alloc: Global) -> Result<()> {
+#[test]
+fn equal_entries_and_no_layers_abort(rt: HostRuntime) -> Result<(), Fail> {
+    let alloc = rt.alloc();
     let mut equal = layers(alloc, 2)?;
-    ensure!(equal.len() == 2);
+    assert_eq!(rt; equal.len(), 2);
     equal.push(List::of(equal[0].items().clone()?))?;
-    ensure!(are_short(&equal));
+    assert!(rt; are_short(&equal));
     let twice = turn(alloc, &[1; 32], &equal)?;
     let mut other = layers(alloc, 2)?;
     other.push(List::of(vec![in alloc; 0; 2272]?))?;
-    ensure!(are_short(&other));
+    assert!(rt; are_short(&other));
     let open = turn(alloc, &[1; 32], &other)?;
-    ensure!(matches!(twice, Body::Abort));
-    ensure!(matches!(open, Body::Abort));
+    assert!(rt; matches!(twice, Body::Abort));
+    assert!(rt; matches!(open, Body::Abort));
     Ok(())
 }
 
@@ -107,19 +116,21 @@ fn submitted(alloc: Global, item: &[u8]) -> Mem<Submission>
     submission(alloc, &inner, &outer, &inner_seeds, &outer_seeds, item)
 }
 
-pub fn a_submission_is_found_and_opened(alloc: Global) -> Result<()> {
+#[test]
+fn a_submission_is_found_and_opened(rt: HostRuntime) -> Result<(), Fail> {
+    let alloc = rt.alloc();
     let Submission {
         inner_ciphertext,
         ciphertext,
     } = submitted(alloc, b"item")?;
     let list = vec![in alloc; inner_ciphertext, ciphertext]?;
-    ensure!(are_short(&list));
-    ensure!(own_place(&list, b"item") == None);
+    assert!(rt; are_short(&list));
+    assert_eq!(rt; own_place(&list, b"item"), None);
     let key_seeds = vec![in alloc; [1; 32], [2; 32], [3; 32], [4; 32]]?;
     let mut opened = open_final(alloc, &key_seeds, &list)?.into_iter();
-    ensure!(matches!(opened.next(), Some(None)));
-    let item = opened.next().flatten().context("four layers")?;
-    ensure!(item.items().as_slice() == b"item".as_slice());
-    ensure!(own_place(&list, list[1].items()) == Some(1));
+    assert!(rt; matches!(opened.next(), Some(None)));
+    let item = opened.next().flatten().ok_or("four layers")?;
+    assert_eq!(rt; item.items().as_slice(), b"item".as_slice());
+    assert_eq!(rt; own_place(&list, list[1].items()), Some(1));
     Ok(())
 }

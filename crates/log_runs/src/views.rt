@@ -1,10 +1,10 @@
 //! What a log of two members keeps of a slot, and its views, of which another program computed the expected ones.
 
 use crate::whole::{TWO, is_whole};
-use anyhow::{Result, ensure};
 use phase_message::is_slot;
 use stage_log::{Post, Put, RunningView, Seen, Slot, StageLog};
 use std::alloc::{AllocError, Global};
+use std::test::Fail;
 use wire_core::{List, put_bytes, put_u8, put_u64};
 
 // The view at stage 0: the hash under its tag of no pieces. The views at stages 1 and 2 of the log below.
@@ -100,7 +100,9 @@ fn places(log: &StageLog) -> (u32, bool, Option<u8>) {
 }
 
 // One slot of two members: the first post stays, whatever is put behind it.
-pub fn a_slot_keeps_its_first_post(alloc: Global) -> Result<()> {
+#[test]
+fn a_slot_keeps_its_first_post(rt: HostRuntime) -> Result<(), Fail> {
+    let alloc = rt.alloc();
     let mut log = StageLog::new(alloc, TWO)?;
     let slot = Slot {
         stage: 0,
@@ -108,12 +110,12 @@ pub fn a_slot_keeps_its_first_post(alloc: Global) -> Result<()> {
     };
     let said = content(alloc, slot, &view_at(0), b"said")?;
     let other = content(alloc, slot, &view_at(0), b"other")?;
-    ensure!(put(alloc, &mut log, slot, &said, b"one")? == "stored");
-    ensure!(put(alloc, &mut log, slot, &said, b"two")? == "same");
-    ensure!(put(alloc, &mut log, slot, &other, b"three")? == "other");
-    ensure!(has_signature(log.kept(slot), b"one"));
-    ensure!(places(&log) == (2, false, Some(0)));
-    ensure!(views(&log, 0) == Some((view_at(0), None)));
+    assert!(rt; put(alloc, &mut log, slot, &said, b"one")? == "stored");
+    assert!(rt; put(alloc, &mut log, slot, &said, b"two")? == "same");
+    assert!(rt; put(alloc, &mut log, slot, &other, b"three")? == "other");
+    assert!(rt; has_signature(log.kept(slot), b"one"));
+    assert!(rt; places(&log) == (2, false, Some(0)));
+    assert!(rt; views(&log, 0) == Some((view_at(0), None)));
     Ok(())
 }
 
@@ -131,7 +133,9 @@ fn carried(log: &StageLog) -> [u8; 32] {
 }
 
 // The posts of all keys and submissions of two members. Another header of the last one is the first wrong view.
-pub fn views_of_two(alloc: Global) -> Result<()> {
+#[test]
+fn views_of_two(rt: HostRuntime) -> Result<(), Fail> {
+    let alloc = rt.alloc();
     let mut log = StageLog::new(alloc, TWO)?;
     let mut wrong = StageLog::new(alloc, TWO)?;
     let said = [
@@ -147,20 +151,20 @@ pub fn views_of_two(alloc: Global) -> Result<()> {
         put(alloc, &mut log, slot, &right, b"")?;
         put(alloc, &mut wrong, slot, &first, b"")?;
     }
-    ensure!(views(&log, 0) == Some((view_at(0), None)));
-    ensure!(views(&log, 1) == Some((view_at(1), None)));
-    ensure!(views(&log, 2) == Some((view_at(2), None)));
-    ensure!(views(&log, 3).is_none());
-    ensure!(log.first_incomplete() == Some(2));
-    ensure!(carried(&log) == view_at(2));
-    ensure!(seen(&log, 2) == Some((view_at(2), true)));
-    ensure!(seen(&log, 3).is_none());
-    ensure!(seen(&wrong, 1) == Some((view_at(1), true)));
-    ensure!(seen(&wrong, 2).is_some_and(|(_, right)| !right));
+    assert!(rt; views(&log, 0) == Some((view_at(0), None)));
+    assert!(rt; views(&log, 1) == Some((view_at(1), None)));
+    assert!(rt; views(&log, 2) == Some((view_at(2), None)));
+    assert!(rt; views(&log, 3).is_none());
+    assert!(rt; log.first_incomplete() == Some(2));
+    assert!(rt; carried(&log) == view_at(2));
+    assert!(rt; seen(&log, 2) == Some((view_at(2), true)));
+    assert!(rt; seen(&log, 3).is_none());
+    assert!(rt; seen(&wrong, 1) == Some((view_at(1), true)));
+    assert!(rt; seen(&wrong, 2).is_some_and(|(_, right)| !right));
     let last = Some(Slot {
         stage: 1,
         sender: 1,
     });
-    ensure!(views(&wrong, 2).is_some_and(|(_, slot)| slot == last));
+    assert!(rt; views(&wrong, 2).is_some_and(|(_, slot)| slot == last));
     Ok(())
 }

@@ -3,10 +3,10 @@
 ghost use Rattle.std.specs.Prelude.{◌≡◌, replicate};
 ghost use Rattle.key_store.specs.Store.{IsCurrent};
 
-use anyhow::{Result, bail, ensure};
 use key_store::{Disk, DiskAnswer, KeyFile, MemoryDisk, Pick, StoreRefusal, create};
 use lms_tree::{MadeHeight, OtsType};
 use std::alloc::Global;
+use std::test::Fail;
 
 const MASTER: [u8; 32] = [7; 32];
 
@@ -63,7 +63,7 @@ fn choose<D: Disk>(disk: &mut D, name: &String, fresh: bool) -> DiskAnswer {
 }
 
 // A disk on which a fresh file is chosen.
-fn chosen(alloc: Global, failing: Vec<u64>) -> Result<MemoryDisk> {
+fn chosen(alloc: Global, failing: Vec<u64>) -> Result<MemoryDisk, Fail> {
     let mut disk = MemoryDisk::new(alloc, 40, failing)?;
     let name = String::from_str(alloc, "key")?;
     choose(&mut disk, &name, true);
@@ -86,10 +86,12 @@ fn two_rounds<D: Disk>(alloc: Global, disk: &mut D) -> Result<(), StoreRefusal> 
     Ok(())
 }
 
-pub fn what_was_begun_is_kept(alloc: Global) -> Result<()> {
+#[test]
+fn what_was_begun_is_kept(rt: HostRuntime) -> Result<(), Fail> {
+    let alloc = rt.alloc();
     // Of the fourth row the second call fails, the sync behind the closing of slot 0.
     let mut disk = chosen(alloc, vec![in alloc; 22]?)?;
-    ensure!(made(alloc, &mut disk, OtsType::W4) == Ok(true));
+    assert!(rt; made(alloc, &mut disk, OtsType::W4) == Ok(true));
     let old = Err(StoreRefusal::OldRound { kept: 1 });
     let few = Err(StoreRefusal::Exhausted { next: 12 });
     let fault = Err(StoreRefusal::DiskFault);
@@ -108,39 +110,45 @@ pub fn what_was_begun_is_kept(alloc: Global) -> Result<()> {
         ),
     ] {
         let answers = begun_twice(alloc, &mut disk, round, leaves);
-        ensure!(answers == Ok((first, again)));
-        ensure!(gates(&disk) == (Some(gate), Some(1)));
+        assert!(rt; answers == Ok((first, again)));
+        assert_eq!(rt; gates(&disk), (Some(gate), Some(1)));
     }
     Ok(())
 }
 
-pub fn leaves_are_handed_out_to_the_last(alloc: Global) -> Result<()> {
+#[test]
+fn leaves_are_handed_out_to_the_last(rt: HostRuntime) -> Result<(), Fail> {
+    let alloc = rt.alloc();
     for (used, answer) in [
         (21, Err(StoreRefusal::Exhausted { next: 21 })),
         (20, Ok((20, 12))),
     ] {
         let mut disk = chosen(alloc, Vec::new(alloc))?;
-        ensure!(made(alloc, &mut disk, OtsType::W1) == Ok(true));
-        ensure!(begun_twice(alloc, &mut disk, 1, used).is_ok());
+        assert!(rt; made(alloc, &mut disk, OtsType::W1) == Ok(true));
+        assert!(rt; begun_twice(alloc, &mut disk, 1, used).is_ok());
         let answers = begun_twice(alloc, &mut disk, 2, 12);
-        ensure!(matches!(answers, Ok((first, _)) if first == answer));
+        assert!(rt; matches!(answers, Ok((first, _)) if first == answer));
     }
     Ok(())
 }
 
 // A disk that stops after this number of calls, of which two rounds need 17.
-fn stopped(alloc: Global, calls: u32) -> Result<MemoryDisk> {
+fn stopped(alloc: Global, calls: u32) -> Result<MemoryDisk, Fail> {
     let mut disk = chosen(alloc, Vec::new(alloc))?;
     disk.stop_after(calls);
     let ended = two_rounds(alloc, &mut disk);
     if ended.is_ok() != (calls >= 17) {
-        bail!("ended too early or too late");
+        return Err(Fail::from("ended too early or too late"));
     }
     Ok(disk)
 }
 
 // What the key file stands for after a crash.
-fn left(alloc: Global, disk: &MemoryDisk, pick: Pick) -> Result<Result<(u64, u32), StoreRefusal>> {
+fn left(
+    alloc: Global,
+    disk: &MemoryDisk,
+    pick: Pick,
+) -> Result<Result<(u64, u32), StoreRefusal>, Fail> {
     let mut after = disk.crash(alloc, pick)?;
     Ok(standing(alloc, &mut after))
 }
@@ -161,12 +169,15 @@ fn stands_for(calls: u32, pick: Pick) -> Result<(u64, u32), StoreRefusal> {
     }
 }
 
-pub fn a_crash_at_any_call_leaves_what_was_begun(alloc: Global) -> Result<()> {
+#[test]
+fn a_crash_at_any_call_leaves_what_was_begun(rt: HostRuntime) -> Result<(), Fail> {
+    let alloc = rt.alloc();
     for calls in [0, 1, 2, 3, 4, 10, 11, 12, 13, 14, 15, 16, 17] {
         let disk = stopped(alloc, calls)?;
         for pick in [Pick::Old, Pick::New, Pick::Ones] {
-            ensure!(
-                left(alloc, &disk, pick)? == stands_for(calls, pick),
+            assert_eq!(rt;
+                left(alloc, &disk, pick)?,
+                stands_for(calls, pick),
                 "after {calls}"
             );
         }
@@ -195,7 +206,7 @@ fn file_with(head: &[u8], slots: [(u8, u8, u8); 2]) -> [u8; 128] {
 }
 
 // A disk that held zeros, of which this call of two rounds fails; they make 17.
-fn failed(alloc: Global, failing: u64) -> Result<MemoryDisk> {
+fn failed(alloc: Global, failing: u64) -> Result<MemoryDisk, Fail> {
     let mut disk = MemoryDisk::holding(alloc, b"key", &[0; 128], 40, vec![in alloc; failing]?)?;
     let ended = two_rounds(alloc, &mut disk);
     let expected = if failing > 17 {
@@ -204,12 +215,14 @@ fn failed(alloc: Global, failing: u64) -> Result<MemoryDisk> {
         Err(StoreRefusal::DiskFault)
     };
     if ended != expected || disk.calls() != failing.min(17) {
-        bail!("ended too early or too late");
+        return Err(Fail::from("ended too early or too late"));
     }
     Ok(disk)
 }
 
-pub fn a_fault_of_any_call_leaves_what_was_written_before(alloc: Global) -> Result<()> {
+#[test]
+fn a_fault_of_any_call_leaves_what_was_written_before(rt: HostRuntime) -> Result<(), Fail> {
+    let alloc = rt.alloc();
     let whole = failed(alloc, 18)?;
     // The call that fails, how many bytes of the head are written, and both slots: gate, round, next leaf.
     for (failing, head, slots) in [
@@ -234,8 +247,9 @@ pub fn a_fault_of_any_call_leaves_what_was_written_before(alloc: Global) -> Resu
     ] {
         let disk = failed(alloc, failing)?;
         let head = whole.file().get(..head).unwrap_or(&[]);
-        ensure!(
-            disk.file() == file_with(head, slots).as_slice(),
+        assert_eq!(rt;
+            disk.file(),
+            file_with(head, slots).as_slice(),
             "at {failing}"
         );
     }
@@ -246,7 +260,7 @@ pub fn a_fault_of_any_call_leaves_what_was_written_before(alloc: Global) -> Resu
 const HEAD: [u8; 13] = [68, 83, 75, 70, 1, 0, 0, 0, 5, 0, 0, 0, 3];
 
 // Where 128 bytes that begin with a changed head are refused.
-fn changed(alloc: Global, place: usize, size: usize) -> Result<Option<StoreRefusal>> {
+fn changed(alloc: Global, place: usize, size: usize) -> Result<Option<StoreRefusal>, Fail> {
     let mut bytes = [0; 128];
     bytes[..13].copy_from_slice(&HEAD);
     if place < 128 {
@@ -262,7 +276,9 @@ fn changed(alloc: Global, place: usize, size: usize) -> Result<Option<StoreRefus
     Ok(KeyFile::load(alloc, &mut disk).err())
 }
 
-pub fn the_first_place_that_is_wrong_is_told(alloc: Global) -> Result<()> {
+#[test]
+fn the_first_place_that_is_wrong_is_told(rt: HostRuntime) -> Result<(), Fail> {
+    let alloc = rt.alloc();
     // A place that is changed, the bytes of the file, and where it is refused.
     for (place, size, at) in [
         (0, 128, 0),
@@ -275,9 +291,9 @@ pub fn the_first_place_that_is_wrong_is_told(alloc: Global) -> Result<()> {
         (20, 127, 127),
         (64, 128, 64),
     ] {
-        ensure!(changed(alloc, place, size)? == Some(StoreRefusal::NotKeyFile { at }));
+        assert!(rt; changed(alloc, place, size)? == Some(StoreRefusal::NotKeyFile { at }));
     }
     let mut zeros = MemoryDisk::holding(alloc, b"key", &[0; 128], 40, Vec::new(alloc))?;
-    ensure!(standing(alloc, &mut zeros) == Err(StoreRefusal::NotKeyFile { at: 0 }));
+    assert!(rt; standing(alloc, &mut zeros) == Err(StoreRefusal::NotKeyFile { at: 0 }));
     Ok(())
 }

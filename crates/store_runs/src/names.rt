@@ -1,8 +1,7 @@
 //! Names that are chosen on a disk in memory.
 
-use anyhow::{Result, ensure};
 use crash_disk::{Disk, DiskAnswer, MemoryDisk};
-use std::alloc::Global;
+use std::test::Fail;
 
 fn choose<D: Disk>(disk: &mut D, name: &String, fresh: bool) -> DiskAnswer {
     disk.choose(name, fresh)
@@ -12,7 +11,9 @@ fn write<D: Disk>(disk: &mut D) -> DiskAnswer {
     disk.write_at(0, b"x")
 }
 
-pub fn one_name_is_chosen(alloc: Global) -> Result<()> {
+#[test]
+fn one_name_is_chosen(rt: HostRuntime) -> Result<(), Fail> {
+    let alloc = rt.alloc();
     let mut disk = MemoryDisk::new(alloc, 40, Vec::new(alloc))?;
     // A name, whether it is to be fresh, and the answer to its choice, and then to a write.
     for (name, fresh, answer) in [
@@ -24,9 +25,9 @@ pub fn one_name_is_chosen(alloc: Global) -> Result<()> {
         ("key", false, DiskAnswer::Done),
     ] {
         let name = String::from_str(alloc, name)?;
-        ensure!(choose(&mut disk, &name, fresh) == answer);
-        ensure!(write(&mut disk) == answer);
+        assert_eq!(rt; choose(&mut disk, &name, fresh), answer);
+        assert_eq!(rt; write(&mut disk), answer);
     }
-    ensure!(disk.file() == b"x".as_slice());
+    assert_eq!(rt; disk.file(), b"x".as_slice());
     Ok(())
 }

@@ -1,13 +1,14 @@
 //! A plan of failing calls.
 
-use anyhow::{Result, ensure};
 use outside::FaultPlan;
-use std::alloc::Global;
+use std::test::Fail;
 
-pub fn the_calls_of_the_plan_fail(alloc: Global) -> Result<()> {
+#[test]
+fn the_calls_of_the_plan_fail(rt: HostRuntime) -> Result<(), Fail> {
+    let alloc = rt.alloc();
     let mut plan = FaultPlan::new(vec![in alloc; 2, 4]?);
     for expected in [false, true, false, true, false] {
-        ensure!(plan.fails() == expected);
+        assert_eq!(rt; plan.fails(), expected);
     }
     Ok(())
 }

@@ -3,12 +3,12 @@
 ghost use Rattle.std.specs.Prelude.{◌≤◌, IfOk};
 ghost use Rattle.phase_message.specs.Grammar.{OfGrammar};
 
-use anyhow::{Context, Result, bail, ensure};
 use phase_message::{
     Body, Content, DecodeRefusal, Shape, Slot, StageKind, decode, encode, is_slot, length_rule,
     slot_number, slots_before, stage_kind,
 };
 use std::alloc::{AllocError, Global};
+use std::test::Fail;
 use wire_core::{put_bytes, put_u8};
 
 // A round of two members, one of three and one of eight.
@@ -28,7 +28,8 @@ const EIGHT: Shape = Shape {
 };
 
 // The table of stages of a group of three.
-pub fn stages_of_three() -> Result<()> {
+#[test]
+fn stages_of_three(rt: HostRuntime) {
     let want = [
         (0, Some(StageKind::Keys)),
         (1, Some(StageKind::Submit { shuffle: 1 })),
@@ -47,9 +48,8 @@ pub fn stages_of_three() -> Result<()> {
         (16, None),
     ];
     for (stage, kind) in want {
-        ensure!(stage_kind(THREE, stage) == kind, "at {stage}");
+        assert!(rt; stage_kind(THREE, stage) == kind, "at {stage}");
     }
-    Ok(())
 }
 
 // The first 76 bytes of a content, behind which all bytes are 0.
@@ -113,48 +113,49 @@ fn is_refused(alloc: Global, content: &[u8; 9196], length: usize, at: u32, rule:
         && read(alloc, content, length).err() == Some(DecodeRefusal::Malformed { at, rule })
 }
 
-pub fn the_first_offence_is_named(alloc: Global) -> Result<()> {
+#[test]
+fn the_first_offence_is_named(rt: HostRuntime) {
     for (first, changes, length, (at, rule)) in OFFENCES {
         let content = changed(first, changes);
-        ensure!(
-            is_refused(alloc, &content, length, at, rule),
+        assert!(rt;
+            is_refused(rt.alloc(), &content, length, at, rule),
             "rule {rule} at {at}"
         );
     }
-    Ok(())
 }
 
 // The greatest coefficient, a vote, three pads.
-pub fn contents_are_read(alloc: Global) -> Result<()> {
+#[test]
+fn contents_are_read(rt: HostRuntime) -> Result<(), Fail> {
+    let alloc = rt.alloc();
     let mut keys = begun(0, 1, 1);
     keys[109] = 0x30;
-    let said = read(alloc, &keys, 9196)
-        .ok()
-        .context("a content is refused")?;
-    ensure!(matches!(&said.body, Body::Keys { .. }));
+    let said = read(alloc, &keys, 9196)?;
+    assert!(rt; matches!(&said.body, Body::Keys { .. }));
     let mut go = begun(5, 2, 5);
     go[76] = 1;
-    let said = read(alloc, &go, 77).ok().context("a content is refused")?;
-    ensure!(said.header.sender == 2);
-    ensure!(matches!(&said.body, Body::Go { yes: true }));
+    let said = read(alloc, &go, 77)?;
+    assert!(rt; said.header.sender == 2);
+    assert!(rt; matches!(&said.body, Body::Go { yes: true }));
     let written = encode(alloc, THREE, &said)?;
-    ensure!(is_front(&written, &go, 77));
+    assert!(rt; is_front(&written, &go, 77));
     let mut pads = begun(7, 1, 8);
     pads[79] = 1;
     pads[80] = 7;
-    let said = read(alloc, &pads, 89).ok().context("a content is refused")?;
+    let said = read(alloc, &pads, 89)?;
     match &said.body {
         Body::Pads { pads } => {
-            ensure!(pads.items().len() == 3);
-            ensure!(pads.items()[0].items().as_slice() == [7].as_slice());
+            assert!(rt; pads.items().len() == 3);
+            assert!(rt; pads.items()[0].items().as_slice() == [7].as_slice());
         }
-        _ => bail!("another answer"),
+        _ => assert!(rt; false),
     }
     Ok(())
 }
 
 // The shapes of version 1, and the least and greatest numbers outside.
-pub fn shapes_are_of_version_1() -> Result<()> {
+#[test]
+fn shapes_are_of_version_1(rt: HostRuntime) {
     let want = [
         (1, 1, false),
         (1, 2, true),
@@ -165,30 +166,29 @@ pub fn shapes_are_of_version_1() -> Result<()> {
     ];
     for (version, members, given) in want {
         let shape = Shape::new(version, members);
-        ensure!(
+        assert!(rt;
             shape.is_some() == given,
             "version {version}, {members} members"
         );
     }
-    ensure!(Shape::new(1, 3) == Some(THREE));
-    Ok(())
+    assert!(rt; Shape::new(1, 3) == Some(THREE));
 }
 
 // The last slot of three members, and the lengths of keys, submissions and votes of eight.
-pub fn slots_and_lengths() -> Result<()> {
-    ensure!(slots_before(THREE, 15) == 33);
+#[test]
+fn slots_and_lengths(rt: HostRuntime) {
+    assert!(rt; slots_before(THREE, 15) == 33);
     let last = Slot {
         stage: 15,
         sender: 3,
     };
-    ensure!(is_slot(THREE, last));
-    ensure!(slot_number(THREE, last) == 35);
-    ensure!(length_rule(EIGHT, StageKind::Keys) == 9120);
-    ensure!(length_rule(EIGHT, StageKind::Submit { shuffle: 1 }) == 54_564);
-    ensure!(length_rule(EIGHT, StageKind::Submit { shuffle: 2 }) == 36_386);
-    ensure!(length_rule(EIGHT, StageKind::Go { shuffle: 1 }) == 1);
-    ensure!(length_rule(EIGHT, StageKind::Pad) == 0);
-    Ok(())
+    assert!(rt; is_slot(THREE, last));
+    assert!(rt; slot_number(THREE, last) == 35);
+    assert!(rt; length_rule(EIGHT, StageKind::Keys) == 9120);
+    assert!(rt; length_rule(EIGHT, StageKind::Submit { shuffle: 1 }) == 54_564);
+    assert!(rt; length_rule(EIGHT, StageKind::Submit { shuffle: 2 }) == 36_386);
+    assert!(rt; length_rule(EIGHT, StageKind::Go { shuffle: 1 }) == 1);
+    assert!(rt; length_rule(EIGHT, StageKind::Pad) == 0);
 }
 
 // A content of so many bytes, all 0 but for the version, the stage, the sender and the kind.
@@ -223,7 +223,9 @@ fn is_read_and_written(alloc: Global, bytes: &[u8]) -> Result<bool, AllocError> 
 
 // Each kind of each stage of two members with the number of its bytes: the keys and the entries have all theirs,
 // posts and pads none. A byte more or less is refused.
-pub fn contents_of_each_stage(alloc: Global) -> Result<()> {
+#[test]
+fn contents_of_each_stage(rt: HostRuntime) -> Result<(), Fail> {
+    let alloc = rt.alloc();
     let kinds = [
         (0, 1, 1, 9196),
         (1, 2, 2, 13_744),
@@ -249,15 +251,15 @@ pub fn contents_of_each_stage(alloc: Global) -> Result<()> {
         let bytes = plain(alloc, stage, sender, kind, length)?;
         let more = plain(alloc, stage, sender, kind, length.saturating_add(1))?;
         let less = plain(alloc, stage, sender, kind, length.saturating_sub(1))?;
-        ensure!(
+        assert!(rt;
             is_read_and_written(alloc, &bytes)?,
             "stage {stage} kind {kind}"
         );
-        ensure!(
+        assert!(rt;
             !is_read_and_written(alloc, &more)?,
             "stage {stage} kind {kind}"
         );
-        ensure!(
+        assert!(rt;
             !is_read_and_written(alloc, &less)?,
             "stage {stage} kind {kind}"
         );

@@ -1,8 +1,7 @@
 //! Hashed strings, numbers and lists of wire_core.
 
-use anyhow::{Context, Result, ensure};
 use sha2::{Digest, Sha256};
-use std::alloc::Global;
+use std::test::Fail;
 use wire_core::{Cursor, List, Register, Short, Tag, put_bytes, put_u8, put_u16, put_u32, put_u64};
 
 // Tags, pieces and hashes that another program computed. The last two rows are a member's pad
@@ -65,46 +64,50 @@ fn hash_of(tag: Tag, pieces: &[&[u8]]) -> [u8; 32] {
     register.end()
 }
 
-pub fn a_tag_and_its_pieces_are_hashed_as_one_string() -> Result<()> {
+#[test]
+fn a_tag_and_its_pieces_are_hashed_as_one_string(rt: HostRuntime) {
     let string = [0x44, 0x53, 0x4e, 0x54, 0x31, 9, 0, 0, 0, 1, 0x61];
-    ensure!(hash_of(Tag::Message, &[b"a"]) == Sha256::digest(string.as_slice()));
+    assert_eq!(rt;
+        hash_of(Tag::Message, &[b"a"]),
+        Sha256::digest(string.as_slice())
+    );
     for (tag, pieces, hash) in HASHES {
-        ensure!(hash_of(tag, pieces).as_slice() == hash, "at {tag:?}");
+        assert_eq!(rt; hash_of(tag, pieces).as_slice(), hash, "at {tag:?}");
     }
-    Ok(())
 }
 
-pub fn a_refused_read_leaves_the_cursor() -> Result<()> {
+#[test]
+fn a_refused_read_leaves_the_cursor(rt: HostRuntime) {
     let mut cursor = Cursor::new(&[0, 1, 2]);
     let short = Short {
         at: 0,
         need: 4,
         have: 3,
     };
-    ensure!(cursor.u32() == Err(short));
-    ensure!(cursor.u16() == Ok(1));
-    ensure!(cursor.place() == 2);
-    ensure!(cursor.left() == 1);
-    Ok(())
+    assert_eq!(rt; cursor.u32(), Err(short));
+    assert_eq!(rt; cursor.u16(), Ok(1));
+    assert_eq!(rt; cursor.place(), 2);
+    assert_eq!(rt; cursor.left(), 1);
 }
 
-pub fn what_is_put_is_read(alloc: Global) -> Result<()> {
-    let mut out = Vec::new(alloc);
+#[test]
+fn what_is_put_is_read(rt: HostRuntime) -> Result<(), Fail> {
+    let mut out = Vec::new(rt.alloc());
     put_u32(&mut out, 258)?;
-    ensure!(out.as_slice() == [0, 0, 1, 2].as_slice());
+    assert_eq!(rt; out.as_slice(), [0, 0, 1, 2].as_slice());
     put_u8(&mut out, 3)?;
     put_u16(&mut out, 4)?;
     put_u64(&mut out, 5)?;
     put_bytes(&mut out, b"six")?;
-    ensure!(out.len() == 18);
+    assert_eq!(rt; out.len(), 18);
     let mut cursor = Cursor::new(&out);
-    ensure!(cursor.u32() == Ok(258));
-    ensure!(cursor.u8() == Ok(3));
-    ensure!(cursor.u16() == Ok(4));
-    ensure!(cursor.u64() == Ok(5));
-    let rest = cursor.bytes(3).ok().context("three bytes are left")?;
-    ensure!(rest == b"six".as_slice());
-    ensure!(cursor.left() == 0);
+    assert_eq!(rt; cursor.u32(), Ok(258));
+    assert_eq!(rt; cursor.u8(), Ok(3));
+    assert_eq!(rt; cursor.u16(), Ok(4));
+    assert_eq!(rt; cursor.u64(), Ok(5));
+    let rest = cursor.bytes(3).ok().ok_or("three bytes are left")?;
+    assert_eq!(rt; rest, b"six".as_slice());
+    assert_eq!(rt; cursor.left(), 0);
     Ok(())
 }
 
@@ -119,21 +122,25 @@ enum Held {
     Words(List<u32>),
 }
 
-pub fn a_list_stands_in_a_field_a_variant_and_another_list(alloc: Global) -> Result<()> {
-    let row = List::of([1, 2].to_vec(alloc)?);
-    let mut rows = Vec::new(alloc);
+#[test]
+fn a_list_stands_in_a_field_a_variant_and_another_list(rt: HostRuntime) -> Result<(), Fail> {
+    let row = List::of([1, 2].to_vec(rt.alloc())?);
+    let mut rows = Vec::new(rt.alloc());
     rows.push(row)?;
     let shelf = Shelf {
         rows: List::of(rows),
     };
     for row in shelf.rows.items() {
-        ensure!(row.items().as_slice() == [1, 2].as_slice());
+        assert_eq!(rt; row.items().as_slice(), [1, 2].as_slice());
     }
-    ensure!(shelf.rows.into_items().len() == 1);
-    for held in [Held::Nothing, Held::Words(List::of([7].to_vec(alloc)?))] {
+    assert_eq!(rt; shelf.rows.into_items().len(), 1);
+    for held in [
+        Held::Nothing,
+        Held::Words(List::of([7].to_vec(rt.alloc())?)),
+    ] {
         match held {
             Held::Nothing => {}
-            Held::Words(words) => ensure!(words.into_items().as_slice() == [7].as_slice()),
+            Held::Words(words) => assert_eq!(rt; words.into_items().as_slice(), [7].as_slice()),
         }
     }
     Ok(())

@@ -1,6 +1,6 @@
 use Rattle.std.proofs.Common.{ℕ, ◌<◌, List, set, replicate, arith}
 use Rattle.std.proofs.lemmas.List.Elements.{All-set, All-replicate}
-use Rattle.wire_rules.proofs.ring.four_coefficients.Goals as goal
+use Rattle.wire_rules.proofs.ring.packs_four_coefficients_in_seven_bytes.Goals as goal
 
 pub of-requires : goal.of-requires
 of-requires g c =
