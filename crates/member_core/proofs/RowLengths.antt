@@ -360,7 +360,8 @@ posts-first : (log : Log) (stage number : ℕ) → IsClosedBy log stage number �
 posts-first log stage number is at =
     let n : ℕ = slots_before log.shape stage in
     let few = is.few in
-    let count : n ≡ 4 * log.shape.members = ap (slots_before log.shape) at ∙ before-end log.shape in
+    let ends : final_stage log.shape 1 ≡ log.shape.members + 3 = omega arith in
+    let count : n ≡ 4 * log.shape.members = ap (slots_before log.shape) at ∙ ap (slots_before log.shape) ends ∙ before-end log.shape in
     let same = ap (slots_before log.shape) at in
     let own = first-behind log.shape number is.first is.last in
     let later = checks-behind log.shape number is.first is.last in
