@@ -1,5 +1,5 @@
 -- What is known of a key file, from what its image was read as.
-use Rattle.std.proofs.Common.{◌≡◌, ℕ, ◌+◌, ◌-◌, ◌^◌, ◌<◌, ◌≤◌, Bool, false, List, length, take, Result, Ok, Err, sym, ap, ◌∙◌, subst, arith}
+use Rattle.std.proofs.Common.{◌≡◌, ℕ, ◌+◌, ◌-◌, ◌^◌, ◌<◌, ◌≤◌, Bool, false, List, length, take, Result, Ok, Err, IfOk, sym, ap, ◌∙◌, subst, arith}
 use Rattle.std.proofs.lemmas.List.{length-take, take_all}
 use Rattle.lms_tree.specs.declared.secrets.MadeHeight.{MadeHeight}
 use Rattle.lms_tree.specs.declared.secrets.MadeHeight.TheVariants.{H5, H10}
@@ -116,6 +116,16 @@ has_begun key image secret content at round n now after of whole read slot small
       kept = ap (λ (s : SecretState). stands (leaves s.parts) now) secret_now ∙ kept_read now c again
           ∙ ap (λ (k : ℕ). let s : Standing = record { round = round; next = k + n } in s) (sym of.next);
     }
+
+-- so what was read before tells what is read then
+pub says_raised : (key : KeyState) (image now : List ℕ) (secret : SecretState) (failed : Bool) (content : KeyContent) (round n : ℕ)
+    → ◌≡◌ {A = KeyState} record { parts = secret.parts; image = image; failed = failed } key → key_read image ≡ Ok content
+    → key_read now ≡ Ok record content { kept = record { round = round; next = content.kept.next + n } }
+    → IfOk (key_read key.image) (λ content. key_read now ≡ Ok record content { kept = record { round = round; next = content.kept.next + n } })
+says_raised key image now secret failed content round n view read again =
+    subst (λ (r : Result KeyContent ℕ). IfOk r (λ content. key_read now
+        ≡ Ok record content { kept = record { round = round; next = content.kept.next + n } }))
+    (sym (ap key_read (sym (ap (λ (k : KeyState). k.image) view)) ∙ read)) again
 
 -- the key file as its callers see it then
 pub raised_state : (key : KeyState) (image now : List ℕ) (secret after : SecretState) (failed : Bool) (content : KeyContent)

@@ -146,7 +146,7 @@ impl Model for KeyFile {
 }
 
 impl KeyFile {
-    ghost use Rattle.std.specs.Prelude.{◌≡◌, ◌≢◌, ◌⊎◌, ℕ, ◌+◌, ◌<◌, ◌≤◌, IsTrue, false, IfOk, IfErr, IsSome, IfSome, None, take, Err};
+    ghost use Rattle.std.specs.Prelude.{◌≡◌, ◌≢◌, ◌⊎◌, ℕ, ◌+◌, ◌<◌, ◌≤◌, IsTrue, false, IfOk, IfErr, IsSome, IfSome, None, Ok, take, Err};
     ghost use Rattle.lms_tree.specs.Secret.{own_public};
     ghost use Rattle.key_store.specs.declared.layout.KeyContent.{KeyContent};
     ghost use Rattle.key_store.specs.declared.refusals.StoreRefusal.TheVariants.{DiskFault, Exhausted, Memory, NotKeyFile, OldRound};
@@ -164,6 +164,8 @@ impl KeyFile {
             IsLoaded (key_read (take 128 file)) (take 128 file) key)) }
         ensures current { IfOk result (λ key. IsCurrent key (D.file disk.new) (D.may_leave disk.new)) }
         ensures works { IfOk result (λ key. key.failed ≡ false) }
+        // Whether the disk tells its file or not, the key is of the bytes that were read.
+        ensures says { IfOk result (λ key. IsLoaded (key_read key.image) key.image key) }
         ensures refused { IfErr result (λ e.
             LoadRefused e (D.file disk.old) (D.faults disk.old) (D.faults disk.new)) }
         ensures kept { D.file disk.new ≡ D.file disk.old }
@@ -224,6 +226,8 @@ impl KeyFile {
         }) }
         ensures stands { IfOk result (λ _.
             kept_by self.new ≡ record { round = round; next = (kept_by self.old).next + leaves }) }
+        ensures says { IfOk result (λ _. IfOk (key_read self.old.image) (λ content. key_read self.new.image
+            ≡ Ok record content { kept = record { round = round; next = content.kept.next + leaves } })) }
         ensures current { IsCurrent self.new (D.file disk.new) (D.may_leave disk.new) }
         ensures stopped { IsTrue self.old.failed
             → (result ≡ Err DiskFault) × (self.new ≡ self.old) × (disk.new ≡ disk.old) }

@@ -23,7 +23,7 @@ use Rattle.transcript_form.specs.Refusals.{Failure}
 use Rattle.judge_core.specs.Checks.{printed_judgement_of}
 use Rattle.transcript_form.specs.Claim.{claim_name}
 use Rattle.offline_commands.specs.Show.{file_checked, shown_line}
-use Rattle.offline_commands.specs.Status.{line_of}
+use Rattle.group_report.specs.Report.{line_of}
 
 -- ---- files that are read
 

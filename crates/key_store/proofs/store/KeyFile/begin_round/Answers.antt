@@ -1,5 +1,5 @@
 use Rattle.std.proofs.Common.{ℕ, ◌+◌, sym, refl, subst, arith}
-use Rattle.key_store.proofs.Keys.{HasBegun, IsOf, enough_left, has_begun, raised_state, reserved_run, is_of, not_enough, not_later, not_old, not_short, same_exhausted, same_old}
+use Rattle.key_store.proofs.Keys.{HasBegun, IsOf, enough_left, has_begun, raised_state, reserved_run, is_of, not_enough, not_later, not_old, not_short, same_exhausted, same_old, says_raised}
 use Rattle.key_store.specs.Crashes.{IsMidway, IsPaired, IsRise}
 use Rattle.crash_disk.specs.Disk.{IsTorn, LeavesOf}
 use Rattle.key_store.proofs.Begun.{begun_paired, raised_midway, slot_is_chosen, still_midway}
@@ -150,6 +150,22 @@ returns-in-Done-clause-stands g c =
     c.in-Ok.ensures.within)
     (c.in-Done.ensures.image refl) c.in-Ok-reserve.ensures.risen in
     has.kept
+
+pub returns-in-Done-clause-says : goal.returns-in-Done-clause-says
+returns-in-Done-clause-says g c =
+    let of : IsOf c.args.self.now c.self.inside.secret c.in-Ok.content =
+    is_of c.args.self.now c.self.inside.image c.self.inside.secret c.self.inside.failed c.in-Ok.content c.self.view_is
+    (c.self.invariant c.if-self.false) (sym c.in-Ok.ensures.value) in
+    let has : HasBegun c.args.self.now c.self.inside.image c.self.inside.secret c.in-Ok.content c.chosen-at.result c.args.round
+    c.args.leaves c.raise.new.image c.reserve.new.self =
+    has_begun c.args.self.now c.self.inside.image c.self.inside.secret c.in-Ok.content c.chosen-at.result c.args.round c.args.leaves
+    c.raise.new.image c.reserve.new.self
+    of c.in-Ok.ensures.whole (sym c.in-Ok.ensures.value) c.chosen-at.ensures.slot (omega (arith, c.ranges.round.fits)) c.if-round-kept.false
+    (enough_left c.args.leaves c.leaves-total.result _ c.in-Ok.content.kept.next c.if-leaves-total.false c.leaves-total.ensures
+    c.in-Ok.ensures.within)
+    (c.in-Done.ensures.image refl) c.in-Ok-reserve.ensures.risen in
+    says_raised c.args.self.now c.self.inside.image c.raise.new.image c.self.inside.secret c.self.inside.failed c.in-Ok.content
+    c.args.round c.args.leaves c.self.view_is (sym c.in-Ok.ensures.value) has.read
 
 pub returns-then-round-kept-clause-moments : goal.returns-then-round-kept-clause-moments
 returns-then-round-kept-clause-moments g c = λ works some.

@@ -1,0 +1,5 @@
+pub mod Entering
+
+pub mod TakingPart
+pub mod Steps
+pub mod Promise

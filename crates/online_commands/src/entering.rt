@@ -1,0 +1,106 @@
+//! What a member enters a round with: its group, its message and its key file are read, and the round is begun.
+ghost use Rattle.outside.specs.Changes.{change_of};
+ghost use Rattle.offline_commands.specs.Outside.{telling};
+ghost use Rattle.std.specs.Prelude.{◌≡◌, IfOk, string_bytes};
+ghost use Rattle.group_roster.specs.Given.{roster_of};
+ghost use Rattle.crash_disk.specs.Names.{StaysBeside};
+ghost use Rattle.key_store.specs.declared.layout.KeyContent.{KeyContent};
+ghost use Rattle.key_store.specs.Store.{IsCurrent};
+ghost use Rattle.online_commands.specs.Entering.{number_in};
+ghost use Rattle.online_commands.specs.Steps.{Begins, Enters, IsOpen, Opens};
+
+use crate::member_command::MemberCommand;
+use bulk_descriptor::MESSAGE_LIMIT;
+use crash_disk::{Disk, DiskAnswer};
+use group_roster::{Roster, decode};
+use key_store::{KeyFile, StoreRefusal};
+use lms_tree::LeafRun;
+use offline_commands::{Files, ROSTER_LIMIT, Status, read_within};
+use std::alloc::Global;
+
+// How many leaves a round takes.
+const ROUND_LEAVES: u32 = 12;
+
+// What a member comes with.
+pub(crate) struct Entrant {
+    pub roster: Roster,
+    pub number: u8,
+    pub message: Vec<u8>,
+    pub key: KeyFile,
+}
+
+// Reads the roster, the message and the key file, in this order, and finds the member's number.
+pub(crate) fn enter<F: Files, D: Disk>(
+    alloc: Global,
+    command: &MemberCommand,
+    files: &mut F,
+    disk: &mut D,
+) -> Result<Entrant, Status>
+    ensures { Enters
+        (change_of F.faults F.told files.old files.new)
+        (change_of D.faults (telling D.file D.names) disk.old disk.new)
+        command.now
+        result }
+    ensures current { IfOk result (λ e. IsCurrent e.key (D.file disk.new) (D.may_leave disk.new)) }
+{
+    let bytes = read_within(files, &command.roster, ROSTER_LIMIT)?;
+    let roster = decode(alloc, &bytes)?;
+    if command.addresses.len() != usize::from(roster.members()) {
+        return Err(Status::Usage);
+    }
+    let message = read_within(files, &command.message, MESSAGE_LIMIT)?;
+    let key = open_key(alloc, &command.key, disk)?;
+    match number_in(&roster, &key.public().bytes()) {
+        Some(number) => Ok(Entrant { roster, number, message, key }),
+        None => Err(Status::NotMember),
+    }
+}
+
+// Reads the key file of a name.
+fn open_key<D: Disk>(alloc: Global, name: &String, disk: &mut D) -> Result<KeyFile, Status>
+    ensures opened { Opens (change_of D.faults (telling D.file D.names) disk.old disk.new) (string_bytes name.now) result }
+    ensures current { IfOk result (λ key. IsCurrent key (D.file disk.new) (D.may_leave disk.new)) }
+{
+    match disk.choose(name, false) {
+        DiskAnswer::Done => {}
+        DiskAnswer::Failed => return Err(Status::DiskFault),
+    }
+    match KeyFile::load(alloc, disk) {
+        Ok(key) => Ok(key),
+        Err(StoreRefusal::NotKeyFile { at }) => Err(Status::BadKeyFile { at }),
+        Err(StoreRefusal::Memory) => Err(Status::OutOfMemory),
+        Err(_) => Err(Status::DiskFault),
+    }
+}
+
+// The number of a member by its key.
+fn number_in(roster: &Roster, key: &[u8; 56]) -> Option<u8>
+    ensures { result ≡ number_in (roster_of roster.now) key.now }
+{
+    let place = roster.keys.items().iter().position(|k| k == key)?;
+    Some(place as u8 + 1)
+}
+
+// Raises the key file for a round, and takes its leaves.
+pub(crate) fn begin_round<D: Disk>(
+    alloc: Global,
+    key: &mut KeyFile,
+    disk: &mut D,
+    round: u64,
+) -> Result<LeafRun, Status>
+    requires { IsCurrent key.old (D.file disk.old) (D.may_leave disk.old) }
+    ensures { (content : KeyContent) → IsOpen key.old content →
+        Begins (change_of D.faults (telling D.file D.names) disk.old disk.new) round content key.new result }
+    ensures beside { StaysBeside (D.names disk.old) (D.names disk.new) }
+{
+    match key.begin_round(alloc, disk, round, ROUND_LEAVES) {
+        Ok(leaves) => Ok(leaves),
+        Err(StoreRefusal::OldRound { kept }) => Err(Status::OldRound { kept }),
+        Err(StoreRefusal::Exhausted { next }) => Err(Status::Exhausted {
+            next,
+            height: key.public().height(),
+        }),
+        Err(StoreRefusal::Memory) => Err(Status::OutOfMemory),
+        Err(_) => Err(Status::DiskFault),
+    }
+}
