@@ -1,7 +1,7 @@
 -- What the program prints, and the numbers that it ends with.
 use Rattle.std.specs.Prelude.{ℕ, List, [], ◌∷◌, ◌++◌, codes, decimal}
 use Rattle.offline_commands.specs.declared.status.Status.{Status}
-use Rattle.offline_commands.specs.declared.status.Status.TheVariants.{Done, Usage, Refused, ReadFault, WriteFault, DiskFault, BadRoster, TooLong, OutOfMemory}
+use Rattle.offline_commands.specs.declared.status.Status.TheVariants.{Done, Usage, Refused, ReadFault, WriteFault, DiskFault, BadRoster, TooLong, BadScript, OutOfMemory}
 
 -- the exit status
 abbrev pub status_number : Status → ℕ
@@ -13,6 +13,7 @@ status_number WriteFault = 6
 status_number DiskFault = 8
 status_number (BadRoster at rule) = 11
 status_number (TooLong limit) = 13
+status_number (BadScript line) = 15
 status_number OutOfMemory = 16
 
 -- texts one after the other, and a line feed
@@ -31,4 +32,5 @@ status_line WriteFault = []
 status_line DiskFault = line_of (codes "disk fault" ∷ [])
 status_line (BadRoster at rule) = line_of (codes "bad roster at " ∷ decimal at ∷ codes " rule " ∷ decimal rule ∷ [])
 status_line (TooLong limit) = line_of (codes "too long limit " ∷ decimal limit ∷ [])
+status_line (BadScript line) = line_of (codes "bad script line " ∷ decimal line ∷ [])
 status_line OutOfMemory = line_of (codes "out of memory" ∷ [])

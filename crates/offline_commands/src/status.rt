@@ -1,10 +1,11 @@
 //! How a command ends: its status with the number and the line that tell it.
 ghost use Rattle.std.specs.Prelude.{◌≡◌, IfOk, string_bytes};
 ghost use Rattle.offline_commands.specs.Status.{status_number, status_line};
-ghost use Rattle.offline_commands.specs.Refusals.{roster_status, judge_status};
+ghost use Rattle.offline_commands.specs.Refusals.{roster_status, script_status, judge_status};
 ghost use Rattle.offline_commands.specs.declared.status.Status.TheVariants.{OutOfMemory};
 
 use group_roster::RosterRefusal;
+use group_threads::ScriptRefusal;
 use std::alloc::{AllocError, Global};
 use transcript_form::Refused;
 
@@ -29,6 +30,8 @@ pub enum Status {
     BadRoster { at: u32, rule: u32 },
     /// A file has more bytes than its limit.
     TooLong { limit: u32 },
+    /// The file is no script: the number of its first line, from 1, that is not of its form.
+    BadScript { line: u64 },
     OutOfMemory,
 }
 
@@ -46,6 +49,7 @@ impl Status {
             Status::DiskFault => 8,
             Status::BadRoster { .. } => 11,
             Status::TooLong { .. } => 13,
+            Status::BadScript { .. } => 15,
             Status::OutOfMemory => 16,
         }
     }
@@ -72,6 +76,7 @@ impl Status {
                 format!(in alloc; "bad roster at {at} rule {rule}\n")
             }
             Status::TooLong { limit } => format!(in alloc; "too long limit {limit}\n"),
+            Status::BadScript { line } => format!(in alloc; "bad script line {line}\n"),
             Status::OutOfMemory => format!(in alloc; "out of memory\n"),
         }
     }
@@ -92,6 +97,17 @@ impl From<RosterRefusal> for Status {
         match refusal {
             RosterRefusal::Bad { at, rule } => Status::BadRoster { at, rule },
             RosterRefusal::Memory => Status::OutOfMemory,
+        }
+    }
+}
+
+impl From<ScriptRefusal> for Status {
+    ghost from_gives = { λ refusal status. status ≡ script_status refusal };
+
+    fn from(refusal: ScriptRefusal) -> Status {
+        match refusal {
+            ScriptRefusal::BadLine { line } => Status::BadScript { line },
+            ScriptRefusal::Memory => Status::OutOfMemory,
         }
     }
 }
