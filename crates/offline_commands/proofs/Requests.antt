@@ -99,3 +99,22 @@ three_values name first second third request n a x b y d z =
     by_tests true true false s = refl
     by_tests true false r s = refl
     by_tests false q r s = refl
+
+-- four options with their values
+pub four_values : (name first second third fourth : List ℕ) (request : List (List ℕ) → Option Request) (n a x b y d z e w : List ℕ)
+    → request_by (n ∷ a ∷ x ∷ b ∷ y ∷ d ∷ z ∷ e ∷ w ∷ [])
+        (record { name = name; options = first ∷ second ∷ third ∷ fourth ∷ []; request = request })
+    ≡ (if are_words (n ∷ a ∷ b ∷ d ∷ e ∷ []) (name ∷ first ∷ second ∷ third ∷ fourth ∷ []) then request (x ∷ y ∷ z ∷ w ∷ []) else None)
+four_values name first second third fourth request n a x b y d z e w =
+    by_tests (bytes_eq n name) (bytes_eq a first) (bytes_eq b second) (bytes_eq d third) (bytes_eq e fourth)
+  where
+    by_tests : (p q r s t : Bool) → (if p then option_and_then request (if q then option_map (λ values. x ∷ values)
+        (if r then option_map (λ values. y ∷ values) (if s then option_map (λ values. z ∷ values)
+        (if t then Some (w ∷ []) else None) else None) else None) else None) else None)
+        ≡ (if p && (q && (r && (s && (t && true)))) then request (x ∷ y ∷ z ∷ w ∷ []) else None)
+    by_tests true true true true true = refl
+    by_tests true true true true false = refl
+    by_tests true true true false t = refl
+    by_tests true true false s t = refl
+    by_tests true false r s t = refl
+    by_tests false q r s t = refl

@@ -75,10 +75,10 @@ fn answer_words<F: Files, D: Disk>(
             Command::Make {
                 number,
                 members,
-                size,
+                bytes,
                 fault,
             },
-        ) => run_make(alloc, number, members, size, fault),
+        ) => run_make(alloc, number, members, bytes, fault),
         None => Err(Status::Usage),
     }
 }

@@ -64,17 +64,17 @@ pub(crate) fn run_make(
     alloc: Global,
     number: u64,
     members: u8,
-    size: u32,
+    bytes: u32,
     fault: Fault,
 ) -> Result<Vec<u8>, Status>
     requires least { 2 ≤ members }
     requires most { members ≤ 8 }
-    requires short { size ≤ MESSAGE_LIMIT }
-    ensures answers { (answer_bytes result ≡ make_outcome number members size fault)
+    requires short { bytes ≤ MESSAGE_LIMIT }
+    ensures answers { (answer_bytes result ≡ make_outcome number members bytes fault)
         ⊎ (answer_bytes result ≡ Err Status.OutOfMemory) }
-    ensures made { OnOutput (IsMadeRun number members size fault) (answer_bytes result) }
+    ensures made { OnOutput (IsMadeRun number members bytes fault) (answer_bytes result) }
 {
-    let script = make_script(alloc, number, members, size, fault)?;
+    let script = make_script(alloc, number, members, bytes, fault)?;
     let end = run_scripted(alloc, &script)?;
     Ok(make_text(alloc, end.members.items())?)
 }

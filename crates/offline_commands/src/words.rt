@@ -44,7 +44,7 @@ pub enum Command<N> {
     Make {
         number: u64,
         members: u8,
-        size: u32,
+        bytes: u32,
         fault: Fault,
     },
 }
@@ -223,7 +223,7 @@ fn make_words(words: &[String]) -> Option<Command<&String>>
         second_option,
         members,
         third_option,
-        size,
+        bytes,
         fourth_option,
         fault,
     ] = words
@@ -237,7 +237,7 @@ fn make_words(words: &[String]) -> Option<Command<&String>>
         third_option,
         fourth_option,
     ) {
-        made_command(number, members, size, fault)
+        made_command(number, members, bytes, fault)
     } else {
         None
     }
@@ -247,21 +247,21 @@ fn make_words(words: &[String]) -> Option<Command<&String>>
 fn made_command<'a>(
     number: &String,
     members: &String,
-    size: &String,
+    bytes: &String,
     fault: &String,
 ) -> Option<Command<&'a String>>
     ensures exact { option_map (λ command. request_of command (λ name. string_bytes name.now)) result
-        ≡ make_form.request (string_bytes number.now ∷ string_bytes members.now ∷ string_bytes size.now ∷ string_bytes fault.now ∷ []) }
+        ≡ make_form.request (string_bytes number.now ∷ string_bytes members.now ∷ string_bytes bytes.now ∷ string_bytes fault.now ∷ []) }
     ensures in_range { IfSome result IsInRange }
 {
     let number = read_whole_number(number)?;
     let members = read_members(members)?;
-    let size = read_size(size)?;
+    let bytes = read_size(bytes)?;
     let fault = Fault::of_name(fault.as_bytes())?;
     Some(Command::Make {
         number,
         members,
-        size,
+        bytes,
         fault,
     })
 }
