@@ -29,10 +29,10 @@ pub(crate) fn run_group<F: Files>(
     let bytes = read_within(files, script, SCRIPT_LIMIT)?;
     let script = parse_script(alloc, &bytes)?;
     let end = run_scripted(alloc, &script)?;
+    let members = end.members.items();
     let spelled = end.roster.encode(alloc)?;
-    let text = group_text(alloc, end.members.items())?;
-    let found = evidence(end.members.items());
-    write_group(files, roster, &spelled, transcript, found)?;
+    let text = group_text(alloc, members)?;
+    write_group(files, roster, &spelled, transcript, evidence(members))?;
     Ok(text)
 }
 

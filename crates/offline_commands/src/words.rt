@@ -55,6 +55,7 @@ pub enum Command<N> {
 /// --fault NAME`. No FILE is empty or begins with `-`; H is `5` or `10`, W is `1`, `2`, `4` or `8`, and NAME is that of a
 /// fault. R is from 1 to 2^64 - 1, K from 0 to 2^64 - 1, N from 2 to 8 and B from 0 to 65,536, in decimal digits without
 /// leading zeros.
+#[tactic(auto, using(crate::proofs::Requests::either_in_range))]
 pub fn read_words(words: &Vec<String>) -> Option<Command<&String>>
     ensures exact { MatchOption result (requested (texts words.now.items) ≡ None)
         (λ command. requested (texts words.now.items) ≡ Some (request_of command (λ name. string_bytes name.now))) }

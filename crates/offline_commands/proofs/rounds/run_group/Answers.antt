@@ -1,5 +1,7 @@
-use Rattle.std.proofs.Common.{refl}
+use Rattle.std.proofs.Common.{refl, ◌∙◌, ap}
 use Rattle.std.proofs.lemmas.Result.{err_from_is_err_and}
+use Rattle.group_roster.specs.Roster.{roster_spelling}
+use Rattle.group_report.specs.Report.{evidence_seen, group_output}
 use Rattle.offline_commands.proofs.Written.{unread, refused_or_memory, bad_script, script_status-not_done, no_memory, unwritten, written, good_script, group_held}
 use Rattle.offline_commands.proofs.rounds.run_group.Goals as goal
 
@@ -40,11 +42,14 @@ returns-in_err-write_group g c =
 
 pub returns : goal.returns
 returns g c =
+    let shown = c.items-members.ensures ∙ c.in_ok-end.ensures.exact.members in
+    let prints = c.in_ok-text.ensures ∙ ap group_output shown in
     written _ _ _ _ _ _ c.in_ok-bytes.bytes.items _ _ _ c.in_ok-bytes.ensures.shown c.in_ok-bytes.ensures.bounded
     (good_script c.in_ok-bytes.bytes.items c.deref.result.now _ c.in_ok-script.script c.deref.ensures.value
-    c.in_ok-script.ensures.exact c.in_ok-text.ensures)
+    c.in_ok-script.ensures.exact prints)
     (group_held _ _ _ _ c.in_ok-bytes.bytes.items c.deref.result.now _ _ _ _ c.in_ok-script.script c.in_ok-bytes.ensures.shown
     c.deref.ensures.value c.in_ok-script.ensures.exact c.in_ok-script.ensures.found c.in_ok-bytes.ensures.kept
-    c.in_ok-write_group.ensures.written c.in_ok-spelled.ensures c.evidence-found.ensures c.in_ok-text.ensures)
+    c.in_ok-write_group.ensures.written (c.in_ok-spelled.ensures ∙ ap roster_spelling c.in_ok-end.ensures.roster)
+    (c.evidence.ensures ∙ ap evidence_seen shown) prints)
     c.in_ok-bytes.ensures.kept c.in_ok-write_group.ensures.others c.in_ok-bytes.ensures.no_fall
     c.in_ok-write_group.ensures.no_fall
