@@ -1,6 +1,6 @@
 -- What words spell, and what words of other numbers ask for.
 use Rattle.std.proofs.Common.{◌≡◌, ◌≢◌, ℕ, ◌+◌, ◌*◌, ◌<◌, ◌^◌, Bool, true, false, ◌&&◌, nat_lt, List, [], ◌∷◌, length, get_or, Some, None, Result, Ok, Err, if◌then◌else◌, refl, sym, ap, ◌∙◌, arith}
-use Rattle.std.specs.Prelude.{slice_index, String, string_bytes, bytes_eq, Option, option_map, option_and_then}
+use Rattle.std.specs.Prelude.{slice_index, String, string_bytes, bytes_eq, Option, IfSome, option_map, option_and_then, option_or}
 use Rattle.std.specs.declared.alloc.Global.{Global}
 use Rattle.std.proofs.lemmas.List.{length-map}
 use Rattle.std.specs.Result.{OkIff, result_ok}
@@ -8,7 +8,8 @@ use Rattle.std.specs.Str.{all_ascii_digits}
 use Rattle.std.specs.Str.Parse.{digits_value, ParsesUnsigned}
 use Rattle.std.proofs.lemmas.Bool.{ltb-true, lt-ltb}
 use Rattle.std.proofs.lemmas.Str.Parse.{IsNumeralModel, numerals_by_value, tells_all_ascii_digits, parse_plain}
-use Rattle.offline_commands.specs.Command.{Request, Form, number_of, values_behind, request_by, are_words, texts}
+use Rattle.offline_commands.specs.declared.words.Command.{Command}
+use Rattle.offline_commands.specs.Command.{Request, Form, IsInRange, number_of, values_behind, request_by, are_words, texts}
 
 own : IsNumeralModel (λ ds. all_ascii_digits ds ≡ true) (digits_value 10)
 own = numerals_by_value _ tells_all_ascii_digits
@@ -99,3 +100,28 @@ three_values name first second third request n a x b y d z =
     by_tests true true false s = refl
     by_tests true false r s = refl
     by_tests false q r s = refl
+
+-- four options with their values
+pub four_values : (name first second third fourth : List ℕ) (request : List (List ℕ) → Option Request) (n a x b y d z e w : List ℕ)
+    → request_by (n ∷ a ∷ x ∷ b ∷ y ∷ d ∷ z ∷ e ∷ w ∷ [])
+    (record { name = name; options = first ∷ second ∷ third ∷ fourth ∷ []; request = request })
+    ≡ (if are_words (n ∷ a ∷ b ∷ d ∷ e ∷ []) (name ∷ first ∷ second ∷ third ∷ fourth ∷ []) then request (x ∷ y ∷ z ∷ w ∷ []) else None)
+four_values name first second third fourth request n a x b y d z e w =
+    by_tests (bytes_eq n name) (bytes_eq a first) (bytes_eq b second) (bytes_eq d third) (bytes_eq e fourth)
+  where
+    by_tests : (p q r s t : Bool) → (if p then option_and_then request (if q then option_map (λ values. x ∷ values)
+        (if r then option_map (λ values. y ∷ values) (if s then option_map (λ values. z ∷ values)
+        (if t then Some (w ∷ []) else None) else None) else None) else None) else None)
+        ≡ (if p && (q && (r && (s && (t && true)))) then request (x ∷ y ∷ z ∷ w ∷ []) else None)
+    by_tests true true true true true = refl
+    by_tests true true true true false = refl
+    by_tests true true true false t = refl
+    by_tests true true false s t = refl
+    by_tests true false r s t = refl
+    by_tests false q r s t = refl
+
+-- the first of two commands that is asked for is in its ranges, if both are
+pub either_in_range : {N : Type 0} (first second : Option (Command N)) → IfSome first IsInRange → IfSome second IsInRange
+    → IfSome (option_or first second) IsInRange
+either_in_range (Some command) second in_range in_range' = in_range
+either_in_range None second in_range in_range' = in_range'

@@ -1,11 +1,12 @@
 //! How a command ends: its status with the number and the line that tell it.
 ghost use Rattle.std.specs.Prelude.{◌≡◌, IfOk, string_bytes};
 ghost use Rattle.offline_commands.specs.Status.{closed_line, status_number, status_line};
-ghost use Rattle.offline_commands.specs.Refusals.{roster_status, judge_status};
+ghost use Rattle.offline_commands.specs.Refusals.{roster_status, script_status, judge_status};
 ghost use Rattle.offline_commands.specs.declared.status.Status.TheVariants.{Open, OutOfMemory};
 
 use group_report::open_text;
 use group_roster::RosterRefusal;
+use group_threads::ScriptRefusal;
 use std::alloc::{AllocError, Global};
 use transcript_form::{Claim, Refused};
 
@@ -45,7 +46,7 @@ pub enum Status {
     TooLong { limit: u32 },
     /// 1,000,000 frames were taken, and the round is open.
     Flooded,
-    /// A script's first bad line, from 1.
+    /// The file is no script: the number of its first line, from 1, that is not of its form.
     BadScript { line: u64 },
     OutOfMemory,
     /// A roster does not hold the key of the key file.
@@ -144,6 +145,17 @@ impl From<RosterRefusal> for Status {
         match refusal {
             RosterRefusal::Bad { at, rule } => Status::BadRoster { at, rule },
             RosterRefusal::Memory => Status::OutOfMemory,
+        }
+    }
+}
+
+impl From<ScriptRefusal> for Status {
+    ghost from_gives = { λ refusal status. status ≡ script_status refusal };
+
+    fn from(refusal: ScriptRefusal) -> Status {
+        match refusal {
+            ScriptRefusal::BadLine { line } => Status::BadScript { line },
+            ScriptRefusal::Memory => Status::OutOfMemory,
         }
     }
 }
