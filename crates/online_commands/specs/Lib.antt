@@ -1,5 +1,2 @@
-pub mod Entering
-
 pub mod TakingPart
-pub mod Steps
 pub mod Promise

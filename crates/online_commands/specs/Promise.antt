@@ -11,17 +11,30 @@ use Rattle.member_core.specs.Promises.{IsAllHonest}
 use Rattle.accountability.specs.Messages.{HasEachMessage}
 use Rattle.bulk_descriptor.specs.declared.slot_state.SlotState.{SlotState}
 use Rattle.dissent_words.specs.Forms.{requested}
-use Rattle.dissent_words.specs.Request.{Text}
+use Rattle.dissent_words.specs.Request.{Request, Text, member}
 use Rattle.offline_commands.specs.declared.status.Status.{Status}
 use Rattle.offline_commands.specs.declared.status.Status.TheVariants.{Done, DiskFault, LinkFault, OutOfMemory, ReadFault, Usage, WriteFault}
 use Rattle.offline_commands.specs.Delivery.{Delivers}
 use Rattle.offline_commands.specs.Outside.{DiskTold, Gains, Held, IsMissing, OthersStay, Shows}
 use Rattle.offline_commands.specs.Promise.{Asked, IsRun}
-use Rattle.online_commands.specs.Entering.{Entrant, Found, IsKeyFile, MemberWords, entrance_by, key_file_told, member_words}
+use Rattle.member_entry.specs.Entering.{Entrant, Found, IsKeyFile, MemberWords, entrance_by, key_file_told}
 use Rattle.online_commands.specs.TakingPart.{IsIdle, Outside, TookPart}
 use Rattle.member_run.specs.declared.run.TheConstants.{FRAME_LIMIT}
 
 -- ---- a member
+
+-- what a request gives, where it is one of `member`
+abbrev pub member_words : Option Request → Option MemberWords
+member_words (Some (member roster key round message transcript wait addresses)) = Some record {
+  roster = roster;
+  key = key;
+  round = round;
+  message = message;
+  transcript = transcript;
+  wait = wait;
+  addresses = addresses;
+}
+member_words request = None
 
 -- what stood where the command read
 pub record WasFound (outside : Outside) (words : MemberWords) (found : Found) : Type 0 where

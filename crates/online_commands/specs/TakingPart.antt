@@ -11,13 +11,15 @@ use Rattle.round_spec.specs.Result.{Blamed as BlamedBy, DoneWith, Outcome, Waiti
 use Rattle.round_spec.specs.Say.{Configuration}
 use Rattle.member_spec.specs.Outcomes.{bits_of, state_of}
 use Rattle.member_core.specs.Promises.{IsOneList, KeepsPromise}
+use Rattle.member_run.specs.declared.run.RunEnd.{RunEnd}
+use Rattle.member_run.specs.declared.run.RunEnd.TheVariants.{Ended, Waiting as RunWaiting, LinkFault as RunLinkFault, Flooded as RunFlooded, OutOfMemory as RunOutOfMemory}
 use Rattle.member_run.specs.declared.run.TheConstants.{FRAME_LIMIT}
 use Rattle.member_run.specs.Ran.{BeginsWith, Exchange, IfTold, count_with, posts_due}
 use Rattle.group_report.specs.Report.{slot_lines}
 use Rattle.offline_commands.specs.declared.status.Status.{Status}
 use Rattle.offline_commands.specs.declared.status.Status.TheVariants.{Blamed, Flooded, LinkFault, Open, OutOfMemory, WriteFault}
 use Rattle.offline_commands.specs.Outside.{DiskTold, Held, HoldsNow}
-use Rattle.online_commands.specs.Entering.{Entrant, MemberWords, key_file_told, raised_to}
+use Rattle.member_entry.specs.Entering.{Entrant, MemberWords, key_file_told, raised_to}
 
 -- the outside over a call, but for what is printed: files, the disk of the key file, and the link to the others
 pub record Outside : Type 0 where
@@ -100,3 +102,11 @@ pub record TookPart (words : MemberWords) (entrant : Entrant) (c : Configuration
     pub promise : KeepsPromise c frames (state_of (result_of c frames))
     pub one_list : IsListOfAll c frames (result_of c frames)
     pub ends : Ends outside.files words.transcript outside.link_before outside.link_now frames (result_of c frames) answer
+
+-- what the end of a run comes to, with what is told of its outcome
+abbrev pub TellsEnd : Change (Option Held) → List ℕ → RunEnd → Outcome → Result (List ℕ) Status → Type 0
+TellsEnd files name Ended outcome answer = Settles files name outcome answer
+TellsEnd files name RunWaiting outcome answer = Settles files name outcome answer
+TellsEnd files name RunLinkFault outcome answer = (answer ≡ Err LinkFault) × (files.now ≡ files.before)
+TellsEnd files name RunFlooded outcome answer = (answer ≡ Err Flooded) × (files.now ≡ files.before)
+TellsEnd files name RunOutOfMemory outcome answer = (answer ≡ Err OutOfMemory) × (files.now ≡ files.before)

@@ -2,8 +2,6 @@
 //! hands all other words on to the commands that wait for nobody.
 #![tactic(auto)]
 
-mod entering;
-mod member_command;
 mod run;
 mod taking_part;
 

@@ -2,16 +2,15 @@
 ghost use Rattle.outside.specs.Changes.{change_of};
 ghost use Rattle.dissent_words.specs.Request.{texts};
 ghost use Rattle.offline_commands.specs.Outside.{telling};
-ghost use Rattle.online_commands.specs.Promise.{IsMemberAnswered, IsWholeRun, is_for_member};
-ghost use Rattle.online_commands.specs.Entering.{member_words};
+ghost use Rattle.online_commands.specs.Promise.{IsMemberAnswered, IsWholeRun, is_for_member, member_words};
 ghost use Rattle.dissent_words.specs.Forms.{requested};
 ghost use Rattle.offline_commands.specs.Delivery.{answer_bytes};
 ghost use Rattle.std.specs.Prelude.{◌≡◌, true};
 ghost use Rattle.round_link.specs.Traffic.{shown_by};
 
-use crate::member_command::MemberCommand;
 use crate::taking_part::take_part;
 use crash_disk::Disk;
+use member_entry::MemberCommand;
 use dissent_words::{Command, WordsRefusal, read_words};
 use offline_commands::{Files, Sink, Status, print, run_offline};
 use round_link::Link;

@@ -8,15 +8,13 @@ ghost use Rattle.outside.specs.Changes.{change_of};
 ghost use Rattle.offline_commands.specs.Delivery.{answer_bytes};
 ghost use Rattle.offline_commands.specs.Outside.{OthersStay, telling};
 ghost use Rattle.online_commands.specs.Promise.{IsMemberAnswered};
-ghost use Rattle.online_commands.specs.Steps.{TellsEnd};
-ghost use Rattle.online_commands.specs.TakingPart.{IsIdle, Settles};
+ghost use Rattle.online_commands.specs.TakingPart.{IsIdle, Settles, TellsEnd};
 ghost use Rattle.round_link.specs.Traffic.{shown_by};
 
-use crate::entering::{Entrant, begin_round, enter};
-use crate::member_command::MemberCommand;
 use crash_disk::Disk;
 use group_report::slots_text;
 use member_core::{Config, Member};
+use member_entry::{Entrant, MemberCommand, begin_round, enter};
 use member_run::{RunEnd, run_member};
 use member_spec::{Honest, State};
 use offline_commands::{Files, Status, write_whole};

@@ -12,12 +12,15 @@ use Rattle.key_store.specs.declared.layout.KeyContent.{KeyContent}
 use Rattle.key_store.specs.KeyFiles.{key_read, parts_in}
 use Rattle.crash_disk.specs.Names.{Names}
 use Rattle.round_spec.specs.Say.{Configuration}
-use Rattle.dissent_words.specs.Request.{Request, Text, member}
 use Rattle.offline_commands.specs.declared.commands.TheConstants.{ROSTER_LIMIT}
 use Rattle.offline_commands.specs.declared.status.Status.{Status}
 use Rattle.offline_commands.specs.declared.status.Status.TheVariants.{BadKeyFile, Exhausted, NotMember, OldRound, Usage}
 use Rattle.offline_commands.specs.Outcome.{or_bad_roster, within}
 use Rattle.offline_commands.specs.Outside.{DiskTold}
+
+-- the bytes of a word
+abbrev pub Text : Type 0
+Text = List ℕ
 
 -- what the words of `member` give: names of files, the round, for how many seconds it waits, and the addresses of all
 pub record MemberWords : Type 0 where
@@ -28,19 +31,6 @@ pub record MemberWords : Type 0 where
   pub transcript : Text
   pub wait : ℕ
   pub addresses : List Text
-
--- what a request gives, where it is one of `member`
-abbrev pub member_words : Option Request → Option MemberWords
-member_words (Some (member roster key round message transcript wait addresses)) = Some record {
-  roster = roster;
-  key = key;
-  round = round;
-  message = message;
-  transcript = transcript;
-  wait = wait;
-  addresses = addresses;
-}
-member_words request = None
 
 -- ---- before the round
 

@@ -5,7 +5,7 @@ use std::marker::Model;
 /// What the words of `member` give: names of files, the round, for how many seconds it waits for the others, and the
 /// addresses of all members, by number.
 #[derive(Debug, Drop)]
-pub(crate) struct MemberCommand {
+pub struct MemberCommand {
     pub roster: String,
     pub key: String,
     pub round: u64,
@@ -16,9 +16,8 @@ pub(crate) struct MemberCommand {
 }
 
 impl Model for MemberCommand {
-    ghost use Rattle.std.specs.Prelude.{string_bytes};
-    ghost use Rattle.dissent_words.specs.Request.{texts};
-    ghost use Rattle.online_commands.specs.Entering.{MemberWords};
+    ghost use Rattle.std.specs.Prelude.{map, string_bytes};
+    ghost use Rattle.member_entry.specs.Entering.{MemberWords};
 
     ghost Value = { MemberWords };
 
@@ -29,6 +28,6 @@ impl Model for MemberCommand {
         message = string_bytes c.message;
         transcript = string_bytes c.transcript;
         wait = c.wait;
-        addresses = texts c.addresses.items;
+        addresses = map (λ word. string_bytes word) c.addresses.items;
     } };
 }

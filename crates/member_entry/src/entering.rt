@@ -6,8 +6,8 @@ ghost use Rattle.group_roster.specs.Given.{roster_of};
 ghost use Rattle.crash_disk.specs.Names.{StaysBeside};
 ghost use Rattle.key_store.specs.declared.layout.KeyContent.{KeyContent};
 ghost use Rattle.key_store.specs.Store.{IsCurrent};
-ghost use Rattle.online_commands.specs.Entering.{number_in};
-ghost use Rattle.online_commands.specs.Steps.{Begins, Enters, IsOpen, Opens};
+ghost use Rattle.member_entry.specs.Entering.{number_in};
+ghost use Rattle.member_entry.specs.Steps.{Begins, Enters, IsOpen, Opens};
 
 use crate::member_command::MemberCommand;
 use bulk_descriptor::MESSAGE_LIMIT;
@@ -21,16 +21,19 @@ use std::alloc::Global;
 // How many leaves a round takes.
 const ROUND_LEAVES: u32 = 12;
 
-// What a member comes with.
-pub(crate) struct Entrant {
+/// What a member comes with: its group, its number in it, its message, and its key file.
+#[derive(Drop)]
+pub struct Entrant {
     pub roster: Roster,
     pub number: u8,
     pub message: Vec<u8>,
     pub key: KeyFile,
 }
 
-// Reads the roster, the message and the key file, in this order, and finds the member's number.
-pub(crate) fn enter<F: Files, D: Disk>(
+/// Reads the roster, of at most 4,096 bytes, the message, of at most 65,536, and the key file, in this order; then finds the
+/// member's number, the place of its key in the roster. `Usage` comes where there is not an address for each member, before
+/// the message is read; `NotMember` where the roster does not have the key.
+pub fn enter<F: Files, D: Disk>(
     alloc: Global,
     command: &MemberCommand,
     files: &mut F,
@@ -81,8 +84,9 @@ fn number_in(roster: &Roster, key: &[u8; 56]) -> Option<u8>
     Some(place as u8 + 1)
 }
 
-// Raises the key file for a round, and takes its leaves.
-pub(crate) fn begin_round<D: Disk>(
+/// Raises the key file for a round, and takes twelve leaves for it. `OldRound` comes exactly where the round is not above
+/// the one that the file keeps, else `Exhausted` exactly where fewer leaves are left; both leave the disk as it is.
+pub fn begin_round<D: Disk>(
     alloc: Global,
     key: &mut KeyFile,
     disk: &mut D,

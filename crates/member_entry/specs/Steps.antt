@@ -1,4 +1,4 @@
--- What the steps of the command `member` come to.
+-- What the steps come to by which a member enters a round.
 use Rattle.std.specs.Prelude.{◌≡◌, ◌≢◌, ◌⊎◌, ℕ, ◌≤◌, List, take, false, Option, Some, None, IfSome, IsSome, IsSomeAnd, Result, Ok, Err, MatchResult}
 use Rattle.outside.specs.Changes.{Change, Failed}
 use Rattle.crash_disk.specs.Names.{Names}
@@ -7,15 +7,11 @@ use Rattle.key_store.specs.KeyFiles.{key_read, parts_in}
 use Rattle.key_store.specs.Store.{KeyState, kept_by}
 use Rattle.key_store.specs.declared.layout.KeyContent.{KeyContent}
 use Rattle.offline_commands.specs.declared.status.Status.{Status}
-use Rattle.offline_commands.specs.declared.status.Status.TheVariants.{DiskFault, Flooded as FloodedStatus, LinkFault as LinkFaultStatus, OutOfMemory, ReadFault}
+use Rattle.offline_commands.specs.declared.status.Status.TheVariants.{DiskFault, OutOfMemory, ReadFault}
 use Rattle.offline_commands.specs.Outside.{DiskTold, Held, Shows}
-use Rattle.online_commands.specs.declared.entering.Entrant.{Entrant as EntrantRead}
-use Rattle.online_commands.specs.Entering.{Entrant, Found, IsKeyFile, MemberWords, ROUND_LEAVES, entrant_by, key_file_told, or_bad_key_file, or_not_begun, raised_to}
-use Rattle.online_commands.specs.TakingPart.{Settles}
+use Rattle.member_entry.specs.declared.entering.Entrant.{Entrant as EntrantRead}
+use Rattle.member_entry.specs.Entering.{Entrant, Found, IsKeyFile, MemberWords, ROUND_LEAVES, entrant_by, key_file_told, or_bad_key_file, or_not_begun, raised_to}
 use Rattle.lms_tree.specs.States.{RunState}
-use Rattle.round_spec.specs.Result.{Outcome}
-use Rattle.member_run.specs.declared.run.RunEnd.{RunEnd}
-use Rattle.member_run.specs.declared.run.RunEnd.TheVariants.{Ended, Waiting, LinkFault, Flooded, OutOfMemory as RunOutOfMemory}
 
 -- a key file that was read, and works: its bytes say this
 pub record IsOpen (key : KeyState) (content : KeyContent) : Type 0 where
@@ -89,11 +85,3 @@ pub record Begins (disk : Change DiskTold) (round : ℕ) (content : KeyContent) 
       (λ status. ((or_not_begun round content ≡ Err status) × (disk.now ≡ disk.before))
           ⊎ (status ≡ OutOfMemory) ⊎ ((status ≡ DiskFault) × Failed disk))
   pub count : disk.faults_before ≤ disk.faults_now
-
--- what the end of a run comes to, with what is told of its outcome
-abbrev pub TellsEnd : Change (Option Held) → List ℕ → RunEnd → Outcome → Result (List ℕ) Status → Type 0
-TellsEnd files name Ended outcome answer = Settles files name outcome answer
-TellsEnd files name Waiting outcome answer = Settles files name outcome answer
-TellsEnd files name LinkFault outcome answer = (answer ≡ Err LinkFaultStatus) × (files.now ≡ files.before)
-TellsEnd files name Flooded outcome answer = (answer ≡ Err FloodedStatus) × (files.now ≡ files.before)
-TellsEnd files name RunOutOfMemory outcome answer = (answer ≡ Err OutOfMemory) × (files.now ≡ files.before)
