@@ -1,0 +1,61 @@
+-- The traffic of a run, with one call more.
+use Rattle.std.proofs.Common.{◌≡◌, ℕ, List, [], ◌∷◌, ◌++◌, Option, Some, None, refl, sym, ap, ◌∙◌, subst, append_assoc, append-nil}
+use Rattle.round_spec.specs.Say.{Configuration}
+use Rattle.round_link.specs.declared.link_call.LinkCall.{LinkCall}
+use Rattle.round_link.specs.declared.link_call.LinkCall.TheVariants.{Received, Posted}
+use Rattle.round_link.specs.Traffic.{Traffic, frames_in, posts_in, with_call}
+use Rattle.round_link.proofs.Calls.{frames_in-append, posts_in-append}
+use Rattle.member_run.specs.Ran.{Exchange, posts_due}
+use Rattle.round_link.proofs.Recvs.{no_recv, recv-push}
+
+-- just the posts that the frames ask for were made in some calls
+abbrev pub MadeAll : Configuration → List (List ℕ) → ℕ → List LinkCall → Type 0
+MadeAll c delivered handed calls = posts_in calls ≡ posts_due c (delivered ++ frames_in calls) handed
+
+pub no_exchange : (c : Configuration) (delivered : List (List ℕ)) (handed : ℕ) (t : Traffic) → Exchange c delivered handed [] t t
+no_exchange c delivered handed t = record {
+  calls = [];
+  made = sym (append-nil t.calls);
+  taken = refl;
+  left = refl;
+  at_recv = no_recv (MadeAll c delivered handed);
+}
+
+-- of a post
+pub with_post : (c : Configuration) (delivered : List (List ℕ)) (handed : ℕ) (frames : List (List ℕ)) (before now : Traffic)
+    (bytes : List ℕ)
+    → Exchange c delivered handed frames before now
+    → Exchange c delivered handed frames before (with_call now (Posted bytes))
+with_post c delivered handed frames before now bytes x = record {
+  calls = x.calls ++ Posted bytes ∷ [];
+  made = ap (λ (l : List LinkCall). l ++ Posted bytes ∷ []) x.made ∙ append_assoc before.calls x.calls (Posted bytes ∷ []);
+  taken = frames_in-append x.calls (Posted bytes ∷ []) ∙ append-nil (frames_in x.calls) ∙ x.taken;
+  left = x.left;
+  at_recv = recv-push (MadeAll c delivered handed) x.calls (Posted bytes) x.at_recv (λ frame is. absurd cc);
+}
+
+-- of a `recv` that takes none
+pub with_none : (c : Configuration) (delivered : List (List ℕ)) (handed : ℕ) (frames : List (List ℕ)) (before now : Traffic)
+    → (x : Exchange c delivered handed frames before now) → posts_in x.calls ≡ posts_due c (delivered ++ frames) handed
+    → Exchange c delivered handed frames before (with_call now (Received None))
+with_none c delivered handed frames before now x all = record {
+  calls = x.calls ++ Received None ∷ [];
+  made = ap (λ (l : List LinkCall). l ++ Received None ∷ []) x.made ∙ append_assoc before.calls x.calls (Received None ∷ []);
+  taken = frames_in-append x.calls (Received None ∷ []) ∙ append-nil (frames_in x.calls) ∙ x.taken;
+  left = x.left;
+  at_recv = recv-push (MadeAll c delivered handed) x.calls (Received None) x.at_recv (λ frame is. rw x.taken all);
+}
+
+-- and of one that takes a frame
+pub with_frame : (c : Configuration) (delivered : List (List ℕ)) (handed : ℕ) (frames : List (List ℕ)) (before now : Traffic)
+    (frame : List ℕ) (rest : List (List ℕ))
+    → (x : Exchange c delivered handed frames before now) → posts_in x.calls ≡ posts_due c (delivered ++ frames) handed
+    → now.left ≡ frame ∷ rest
+    → Exchange c delivered handed (frames ++ frame ∷ []) before (record { left = rest; calls = now.calls ++ Received (Some frame) ∷ [] })
+with_frame c delivered handed frames before now frame rest x all first = record {
+  calls = x.calls ++ Received (Some frame) ∷ [];
+  made = ap (λ (l : List LinkCall). l ++ Received (Some frame) ∷ []) x.made ∙ append_assoc before.calls x.calls (Received (Some frame) ∷ []);
+  taken = frames_in-append x.calls (Received (Some frame) ∷ []) ∙ ap (λ (l : List (List ℕ)). l ++ frame ∷ []) x.taken;
+  left = x.left ∙ ap (λ (l : List (List ℕ)). frames ++ l) first ∙ sym (append_assoc frames (frame ∷ []) rest);
+  at_recv = recv-push (MadeAll c delivered handed) x.calls (Received (Some frame)) x.at_recv (λ other is. rw x.taken all);
+}

@@ -1,0 +1,3 @@
+mod Growing
+mod Exchanges
+mod Going
