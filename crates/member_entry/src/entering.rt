@@ -39,7 +39,7 @@ pub fn enter<F: Files, D: Disk>(
     files: &mut F,
     disk: &mut D,
 ) -> Result<Entrant, Status>
-    ensures { Enters
+    ensures entered { Enters
         (change_of F.faults F.told files.old files.new)
         (change_of D.faults (telling D.file D.names) disk.old disk.new)
         command.now
@@ -93,7 +93,7 @@ pub fn begin_round<D: Disk>(
     round: u64,
 ) -> Result<LeafRun, Status>
     requires { IsCurrent key.old (D.file disk.old) (D.may_leave disk.old) }
-    ensures { (content : KeyContent) → IsOpen key.old content →
+    ensures begun { (content : KeyContent) → IsOpen key.old content →
         Begins (change_of D.faults (telling D.file D.names) disk.old disk.new) round content key.new result }
     ensures beside { StaysBeside (D.names disk.old) (D.names disk.new) }
 {
@@ -102,7 +102,7 @@ pub fn begin_round<D: Disk>(
         Err(StoreRefusal::OldRound { kept }) => Err(Status::OldRound { kept }),
         Err(StoreRefusal::Exhausted { next }) => Err(Status::Exhausted {
             next,
-            height: key.public().height(),
+            height: key.public().lms_type.height(),
         }),
         Err(StoreRefusal::Memory) => Err(Status::OutOfMemory),
         Err(_) => Err(Status::DiskFault),

@@ -1,5 +1,5 @@
 -- What comes of a round that a member took part in.
-use Rattle.std.specs.Prelude.{◌≡◌, ◌⊎◌, ℕ, ◌≤◌, List, [], length, take, Option, Some, None, IfSome, IsSomeAnd, Result, Ok, Err}
+use Rattle.std.specs.Prelude.{◌≡◌, ◌≢◌, ◌⊎◌, ℕ, ◌≤◌, List, [], length, take, Option, Some, None, IfSome, IsSomeAnd, Result, Ok, Err}
 use Rattle.outside.specs.Changes.{Change, Failed}
 use Rattle.outside.specs.Faults.{Rose}
 use Rattle.bulk_descriptor.specs.declared.slot_state.SlotState.{SlotState}
@@ -90,7 +90,7 @@ IsListOfAll c frames (DoneWith slots) = IsOneList c frames slots
 IsListOfAll c frames outcome = Unit {0}
 
 -- A member entered the round and took these frames. Before that its key file was raised. Whatever the frames are, the round
--- stands as their result, and keeps the promise of its end: each honest message is there; or the evidence convicts somebody
+-- stands as their result, and, unless memory was wanting, keeps the promise of its end: each honest message is there; or the evidence convicts somebody
 -- faulty; or exactly those are named who are missed.
 pub record TookPart (words : MemberWords) (entrant : Entrant) (c : Configuration) (outside : Outside) (answer : Result (List ℕ) Status) : Type 0
   where
@@ -99,8 +99,8 @@ pub record TookPart (words : MemberWords) (entrant : Entrant) (c : Configuration
     pub counted : outside.link_now.frames ≡ count_with (length frames) outside.link_before.frames
     pub at_most : length frames ≤ FRAME_LIMIT
     pub converses : IfTold outside.link_before outside.link_now (Converses c frames (answer ≡ told_of (result_of c frames)))
-    pub promise : KeepsPromise c frames (state_of (result_of c frames))
-    pub one_list : IsListOfAll c frames (result_of c frames)
+    pub promise : answer ≢ Err OutOfMemory → KeepsPromise c frames (state_of (result_of c frames))
+    pub one_list : answer ≢ Err OutOfMemory → IsListOfAll c frames (result_of c frames)
     pub ends : Ends outside.files words.transcript outside.link_before outside.link_now frames (result_of c frames) answer
 
 -- what the end of a run comes to, with what is told of its outcome
