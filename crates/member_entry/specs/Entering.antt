@@ -43,7 +43,7 @@ pub record Entrant : Type 0 where
 
 -- the number of a member by its key: the key's place in the roster, from 1
 abbrev pub number_in : Roster → List ℕ → Option ℕ
-number_in roster key = option_map suc (position (λ k. bytes_eq k key) roster.keys)
+number_in roster key = option_map suc (position (bytes_eq key) roster.keys)
 
 -- there is an address for each member
 abbrev pub or_usage : Roster → List Text → Result (Unit {0}) Status
@@ -82,7 +82,7 @@ abbrev pub or_not_begun : ℕ → KeyContent → Result (Unit {0}) Status
 or_not_begun round key =
     if nat_le round key.kept.round then Err (OldRound key.kept.round)
     else (if nat_lt (made_leaves key.height) (key.kept.next + ROUND_LEAVES)
-      then Err (Exhausted key.kept.next (height (made_type key.height))) else Ok tt)
+    then Err (Exhausted key.kept.next (height (made_type key.height))) else Ok tt)
 
 -- what a member enters a round with, which takes its next leaves
 abbrev pub configuration_by : ℕ → List ℕ → Entrant → Configuration

@@ -1,5 +1,5 @@
 -- What the steps come to by which a member enters a round.
-use Rattle.std.specs.Prelude.{◌≡◌, ◌≢◌, ◌⊎◌, ℕ, ◌≤◌, List, take, false, Option, Some, None, IfSome, IsSome, IsSomeAnd, Result, Ok, Err, MatchResult}
+use Rattle.std.specs.Prelude.{◌≡◌, ◌≢◌, ◌⊎◌, ℕ, ◌≤◌, List, take, false, Option, Some, IfSome, IsSomeAnd, Result, Ok, Err, MatchResult}
 use Rattle.outside.specs.Changes.{Change, Failed}
 use Rattle.crash_disk.specs.Names.{Names}
 use Rattle.group_roster.specs.Given.{roster_of}
@@ -35,19 +35,23 @@ IsReadFault files disk status = ((status ≡ ReadFault) × Failed files) ⊎ ((s
 abbrev pub IsChosenNow : Option Names → List ℕ → Type 0
 IsChosenNow told name = IfSome told (λ (names : Names). names.chosen ≡ Some name)
 
--- what stands under each name other than this stays, and what stood there too
+-- what stands under each name other than this stays
 abbrev pub KeepsHeld : Option Names → Option Names → List ℕ → Type 0
 KeepsHeld told now name = IfSome told (λ (before : Names). IsSomeAnd now (λ (after : Names).
-    ((other : List ℕ) → other ≢ name → after.held other ≡ before.held other)
-    × ((other : List ℕ) → IsSome (before.held other) → after.held other ≡ before.held other)))
+    (other : List ℕ) → other ≢ name → after.held other ≡ before.held other))
+
+-- the key file is as it was, where its bytes are known
+abbrev pub KeepsKeyFile : Change DiskTold → List ℕ → Type 0
+KeepsKeyFile disk name = key_file_told disk.now name ≡ key_file_told disk.before name
 
 -- the answer of reading all: what a member comes with, by what stood there; or the status that refuses it, the key file
 -- being as it was; or memory was wanting, or there was a fault
 abbrev pub EntersBy : Change (Option Held) → Change DiskTold → MemberWords → Result Entrant Status → Result EntrantRead Status → Type 0
 EntersBy files disk words expected answer = MatchResult answer
-    (λ e. (entrant : Entrant) × (expected ≡ Ok entrant) × IsEntrant e entrant × IsChosenNow disk.now.names words.key)
-    (λ status. ((expected ≡ Err status) × (key_file_told disk.now words.key ≡ key_file_told disk.before words.key))
-        ⊎ (status ≡ OutOfMemory) ⊎ IsReadFault files disk status)
+    (λ e. (entrant : Entrant) × (expected ≡ Ok entrant) × IsEntrant e entrant × IsChosenNow disk.now.names words.key
+    × KeepsKeyFile disk words.key)
+    (λ status. ((expected ≡ Err status) × KeepsKeyFile disk words.key)
+    ⊎ (status ≡ OutOfMemory) ⊎ IsReadFault files disk status)
 
 -- What reading the roster, the message and the key file came to. The files stay, and what stood under all names, and the
 -- name of the key file is chosen where that was loaded.
@@ -58,19 +62,21 @@ pub record Enters (files : Change (Option Held)) (disk : Change DiskTold) (words
     pub message : Shows files.before words.message found.message_file
     pub key : IsKeyFile disk.before words.key found.key_file
     pub answers : EntersBy files disk words (entrant_by words found) answer
+    pub names : KeepsHeld disk.before.names disk.now.names words.key
     pub files_kept : files.now ≡ files.before
     pub files_count : files.faults_before ≤ files.faults_now
     pub disk_count : disk.faults_before ≤ disk.faults_now
 
 -- What opening the key file of a name came to: it says what its bytes are read as; or these are refused; or memory was
--- wanting, or the disk failed. What stood under all names stays, and where it is loaded this name is chosen.
+-- wanting, or the disk failed. What stands under other names stays, and where it is
+-- loaded this name is chosen.
 pub record Opens (disk : Change DiskTold) (name : List ℕ) (answer : Result KeyState Status) : Type 0 where
   pub read : Result KeyContent ℕ
   pub told : IsKeyFile disk.before name read
   pub answers : MatchResult answer
-      (λ key. (content : KeyContent) × (read ≡ Ok content) × IsOpen key content × IsChosenNow disk.now.names name)
-      (λ status. ((or_bad_key_file read ≡ Err status) × (key_file_told disk.now name ≡ key_file_told disk.before name))
-          ⊎ (status ≡ OutOfMemory) ⊎ ((status ≡ DiskFault) × Failed disk))
+      (λ key. (content : KeyContent) × (read ≡ Ok content) × IsOpen key content × IsChosenNow disk.now.names name × KeepsKeyFile disk name)
+      (λ status. ((or_bad_key_file read ≡ Err status) × KeepsKeyFile disk name)
+      ⊎ (status ≡ OutOfMemory) ⊎ ((status ≡ DiskFault) × Failed disk))
   pub names : KeepsHeld disk.before.names disk.now.names name
   pub count : disk.faults_before ≤ disk.faults_now
 
@@ -80,8 +86,8 @@ pub record Opens (disk : Change DiskTold) (name : List ℕ) (answer : Result Key
 pub record Begins (disk : Change DiskTold) (round : ℕ) (content : KeyContent) (key : KeyState) (answer : Result RunState Status) : Type 0 where
   pub answers : MatchResult answer
       (λ run. (or_not_begun round content ≡ Ok tt)
-          × (run ≡ record { parts = parts_in content; first = content.kept.next; left = ROUND_LEAVES })
-          × IfSome disk.before.file (λ _. IsSomeAnd disk.now.file (λ bytes. key_read (take 128 bytes) ≡ Ok (raised_to round content))))
+      × (run ≡ record { parts = parts_in content; first = content.kept.next; left = ROUND_LEAVES })
+      × IfSome disk.before.file (λ _. IsSomeAnd disk.now.file (λ bytes. key_read (take 128 bytes) ≡ Ok (raised_to round content))))
       (λ status. ((or_not_begun round content ≡ Err status) × (disk.now ≡ disk.before))
-          ⊎ (status ≡ OutOfMemory) ⊎ ((status ≡ DiskFault) × Failed disk))
+      ⊎ (status ≡ OutOfMemory) ⊎ ((status ≡ DiskFault) × Failed disk))
   pub count : disk.faults_before ≤ disk.faults_now

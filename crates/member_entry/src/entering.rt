@@ -1,7 +1,8 @@
 //! What a member enters a round with: its group, its message and its key file are read, and the round is begun.
 ghost use Rattle.outside.specs.Changes.{change_of};
 ghost use Rattle.offline_commands.specs.Outside.{telling};
-ghost use Rattle.std.specs.Prelude.{◌≡◌, IfOk, string_bytes};
+ghost use Rattle.std.specs.Prelude.{◌≡◌, ◌<◌, IfOk, IfSome, bytes_eq, length, string_bytes};
+ghost use Rattle.std.specs.List.{position};
 ghost use Rattle.group_roster.specs.Given.{roster_of};
 ghost use Rattle.crash_disk.specs.Names.{StaysBeside};
 ghost use Rattle.key_store.specs.declared.layout.KeyContent.{KeyContent};
@@ -54,7 +55,12 @@ pub fn enter<F: Files, D: Disk>(
     let message = read_within(files, &command.message, MESSAGE_LIMIT)?;
     let key = open_key(alloc, &command.key, disk)?;
     match number_in(&roster, &key.public().bytes()) {
-        Some(number) => Ok(Entrant { roster, number, message, key }),
+        Some(number) => Ok(Entrant {
+            roster,
+            number,
+            message,
+            key,
+        }),
         None => Err(Status::NotMember),
     }
 }
@@ -72,7 +78,8 @@ fn open_key<D: Disk>(alloc: Global, name: &String, disk: &mut D) -> Result<KeyFi
         Ok(key) => Ok(key),
         Err(StoreRefusal::NotKeyFile { at }) => Err(Status::BadKeyFile { at }),
         Err(StoreRefusal::Memory) => Err(Status::OutOfMemory),
-        Err(_) => Err(Status::DiskFault),
+        Err(StoreRefusal::DiskFault) => Err(Status::DiskFault),
+        Err(StoreRefusal::OldRound { .. } | StoreRefusal::Exhausted { .. }) => unreachable!(),
     }
 }
 
@@ -80,8 +87,18 @@ fn open_key<D: Disk>(alloc: Global, name: &String, disk: &mut D) -> Result<KeyFi
 fn number_in(roster: &Roster, key: &[u8; 56]) -> Option<u8>
     ensures { result ≡ number_in (roster_of roster.now) key.now }
 {
-    let place = roster.keys.items().iter().position(|k| k == key)?;
-    Some(place as u8 + 1)
+    match place_of(roster.keys.items(), key) {
+        Some(place) => Some(place as u8 + 1),
+        None => None,
+    }
+}
+
+// The first place of a key.
+fn place_of(keys: &[[u8; 56]], key: &[u8]) -> Option<usize>
+    ensures value { result ≡ position (bytes_eq key.now) keys.now }
+    ensures within { IfSome result (λ place. place < length keys.now) }
+{
+    keys.iter().position(|k| key == k.as_slice())
 }
 
 /// Raises the key file for a round, and takes twelve leaves for it. `OldRound` comes exactly where the round is not above

@@ -22,12 +22,12 @@ impl Model for MemberCommand {
     ghost Value = { MemberWords };
 
     ghost view = { λ c. record {
-        roster = string_bytes c.roster;
-        key = string_bytes c.key;
-        round = c.round;
-        message = string_bytes c.message;
-        transcript = string_bytes c.transcript;
-        wait = c.wait;
-        addresses = map (λ word. string_bytes word) c.addresses.items;
+      roster = string_bytes c.roster;
+      key = string_bytes c.key;
+      round = c.round;
+      message = string_bytes c.message;
+      transcript = string_bytes c.transcript;
+      wait = c.wait;
+      addresses = map (λ word. string_bytes word) c.addresses.items;
     } };
 }

@@ -18,6 +18,7 @@ use Rattle.offline_commands.specs.Delivery.{Delivers}
 use Rattle.offline_commands.specs.Outside.{DiskTold, Gains, Held, IsMissing, OthersStay, Shows}
 use Rattle.offline_commands.specs.Promise.{Asked, IsRun}
 use Rattle.member_entry.specs.Entering.{Entrant, Found, IsKeyFile, MemberWords, entrance_by, key_file_told}
+use Rattle.member_entry.specs.Steps.{KeepsKeyFile}
 use Rattle.online_commands.specs.TakingPart.{IsIdle, Outside, TookPart}
 use Rattle.member_run.specs.declared.run.TheConstants.{FRAME_LIMIT}
 
@@ -55,10 +56,6 @@ BreaksOff outside answer = (answer ≡ Err OutOfMemory) ⊎ ((status : Status) �
 pub record IsSilent (outside : Outside) : Type 0 where
   pub files : outside.files.now ≡ outside.files.before
   pub link : IsIdle outside.link_before outside.link_now
-
--- the key file is as it was, where its bytes are known
-abbrev pub KeepsKeyFile : Change DiskTold → Text → Type 0
-KeepsKeyFile disk name = key_file_told disk.now name ≡ key_file_told disk.before name
 
 -- what came of a member by what was found: where that refuses it, this status, nothing was posted, and its key file is as it
 -- was; else it took part in the round; and before that it may have broken off
