@@ -45,7 +45,7 @@ fn write_group<F: Files>(
     evidence: Option<&Vec<u8>>,
 ) -> Result<(), Status>
     ensures written { OnOk result (WritesGroup (F.told files.old) (F.told files.new) (string_bytes roster.now)
-        (string_bytes transcript.now) spelled.now.items (option_map (λ bytes. bytes.now.items) evidence)) }
+        (string_bytes transcript.now) spelled.now.items (option_map (λ bytes. bytes.now.items) evidence.entry)) }
     ensures failed { IfErr result (λ status. (status ≡ Status.OutOfMemory)
         ⊎ ((status ≡ Status.WriteFault) × Rose (F.faults files.old) (F.faults files.new))) }
     ensures others { AllOthersStay (F.told files.old) (F.told files.new)

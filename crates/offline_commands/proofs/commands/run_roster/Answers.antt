@@ -32,7 +32,7 @@ returns-in_err-text g c =
 pub returns-in_err-write_whole : goal.returns-in_err-write_whole
 returns-in_err-write_whole g c =
     let p = err_from_is_err_and c.from_residual-in_err-write_whole.result c.from_residual-in_err-write_whole.ensures.1 in
-    rw (p.1, p.2) (unwritten _ _ _ _ _ _ _ _ _ c.in_ok-bytes.ensures.kept (one_written _ _ _ _ c.in_err-write_whole.ensures.others)
+    rw (p.1, p.2) (unwritten _ _ _ _ _ _ _ _ _ c.in_ok-bytes.ensures.kept (one_written _ _ _ [] c.in_err-write_whole.ensures.others)
     c.in_ok-bytes.ensures.no_fall c.in_err-write_whole.ensures.no_fall c.in_err-write_whole.ensures.failed)
 
 pub returns : goal.returns
@@ -43,5 +43,5 @@ returns g c =
     (roster_held _ _ _ c.in_ok-bytes.bytes.items c.deref.result.now _ _ _ (roster_of c.in_ok-roster.roster) c.in_ok-bytes.ensures.shown
     c.deref.ensures.value c.in_ok-roster.ensures.exact c.in_ok-roster.ensures.found c.in_ok-bytes.ensures.kept
     c.in_ok-write_whole.ensures.written c.in_ok-spelled.ensures c.in_ok-text.ensures)
-    c.in_ok-bytes.ensures.kept (one_written _ _ _ _ c.in_ok-write_whole.ensures.others) c.in_ok-bytes.ensures.no_fall
+    c.in_ok-bytes.ensures.kept (one_written _ _ _ [] c.in_ok-write_whole.ensures.others) c.in_ok-bytes.ensures.no_fall
     c.in_ok-write_whole.ensures.no_fall
