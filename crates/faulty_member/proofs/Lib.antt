@@ -1,7 +1,7 @@
-mod Changes
-mod Forms
+pub mod Changes
+pub mod Forms
 mod KeysText
-mod Lengths
+pub mod Lengths
 mod Saying
 mod Members
 mod Pads

@@ -31,7 +31,7 @@ contains-replicate n bytes other (k, lt, e) =
 -- ---- a member that goes on
 
 -- with more deliveries its posts stay, and others come behind them
-grows : (replies : Replies) (c : Configuration) (delivered more : List (List ℕ)) →
+pub grows : (replies : Replies) (c : Configuration) (delivered more : List (List ℕ)) →
     (behind : List Post) × ((actor_after replies c (delivered ++ more)).made ≡ (actor_after replies c delivered).made ++ behind)
 grows replies c delivered [] = (
   [],
@@ -49,7 +49,7 @@ grows replies c delivered (bytes ∷ more) =
     )
 
 -- the entries of a post don't depend on what was delivered
-with-same : (seat : Seat) (delivered : List (List ℕ)) (post : Post) (second : Option (List ℕ)) →
+pub with-same : (seat : Seat) (delivered : List (List ℕ)) (post : Post) (second : Option (List ℕ)) →
     entries_with (record seat { delivered = delivered }) post second ≡ entries_with seat post second
 with-same seat delivered post None = refl
 with-same seat delivered post (Some content) = refl

@@ -1,5 +1,5 @@
-mod Deliveries
-mod Plainness
+pub mod Deliveries
+pub mod Plainness
 pub mod Made
 pub mod Posts
 pub mod Queues

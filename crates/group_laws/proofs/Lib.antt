@@ -1,0 +1,13 @@
+pub mod Entering
+pub mod Changes
+pub mod Rows
+pub mod Speeches
+pub mod Actors
+pub mod Worlds
+pub mod Kept
+pub mod Spellings
+pub mod Honest
+pub mod Forging
+pub mod Served
+pub mod Carried
+pub mod Undisturbed

@@ -1,0 +1,4 @@
+pub mod Entering
+pub mod Promises
+pub mod Forging
+pub mod AllHonest

@@ -1,0 +1,48 @@
+//! Laws of the groups of scripts. Nobody calls these functions: the contract of each states a law.
+
+ghost use Rattle.group_laws.specs.AllHonest.{UndisturbedGroupsAreDone};
+ghost use Rattle.group_laws.specs.Entering.{ScriptsEnter};
+ghost use Rattle.group_laws.specs.Forging.{
+  BlamedAreFaulty,
+  DoneMembersAgree,
+  HonestMembersAreServed,
+  HonestStandAmong,
+  NothingIsForged,
+  RunsAreHonest,
+};
+ghost use Rattle.group_laws.specs.Promises.{DeliveriesAreBytes, MembersKeepTheirPromise};
+
+/// Each member of every script can enter its round, with twelve leaves and one behind them, and the roster has its key under
+/// its number.
+pub fn scripts_enter()
+    ensures { ScriptsEnter }
+{}
+
+/// What is shown of each honest member of the group of every script is the result of what was delivered to it, and keeps the
+/// promise of its round: it names those that are missed, or holds the messages, or has evidence that convicts.
+pub fn members_keep_their_promise()
+    ensures promise { MembersKeepTheirPromise }
+    ensures bytes { DeliveriesAreBytes }
+{}
+
+/// In the group of a script no signature is forged: the runs of its honest members are honest, and what is delivered in
+/// their names was sent by them, embedded posts too. So each of these members stands among them.
+pub fn nothing_is_forged()
+    ensures honest { RunsAreHonest }
+    ensures unforged { NothingIsForged }
+    ensures among { HonestStandAmong }
+{}
+
+/// Where no two strings of the honest members' runs have one hash, each of these members that is done has every honest
+/// message, and the list of each other; and whom one blames is faulty, where its transcript has no such string either.
+pub fn honest_members_are_served()
+    ensures served { HonestMembersAreServed }
+    ensures one_list { DoneMembersAgree }
+    ensures faulty { BlamedAreFaulty }
+{}
+
+/// In the group of a script that names no fault and no post that does not arrive, every member is done with the message of
+/// each, where no two strings of their runs have one hash.
+pub fn undisturbed_groups_are_done()
+    ensures { UndisturbedGroupsAreDone }
+{}

@@ -1,0 +1,9 @@
+//! What is promised to the honest members of the group of a script: laws.
+#![tactic(auto)]
+
+mod laws;
+
+pub use laws::{
+    honest_members_are_served, members_keep_their_promise, nothing_is_forged, scripts_enter,
+    undisturbed_groups_are_done,
+};
