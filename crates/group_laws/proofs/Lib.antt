@@ -11,3 +11,4 @@ pub mod Forging
 pub mod Served
 pub mod Carried
 pub mod Undisturbed
+pub mod Accountable

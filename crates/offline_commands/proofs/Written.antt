@@ -12,6 +12,7 @@ use Rattle.round_script.specs.declared.refusal.ScriptRefusal.TheVariants.{BadLin
 use Rattle.round_script.specs.declared.script.Script.{Script}
 use Rattle.round_script.specs.Read.{script_read}
 use Rattle.round_script.specs.Script.{IsScript}
+use Rattle.group_laws.proofs.Accountable.{is_accountable}
 use Rattle.group_spec.specs.Scripts.{script_roster}
 use Rattle.group_report.specs.Report.{evidence_seen, group_output}
 use Rattle.offline_commands.specs.declared.status.Status.{Status}
@@ -228,6 +229,7 @@ group_held files name roster transcript bytes bytes' text spelled found middle s
         script_is = refl;
         reads = ap script_read (sym e) ∙ reads;
         form = form;
+        accountable = is_accountable script form;
         writes = subst Found finds (subst Spelled spells (subst From same writes));
         printed = prints;
       },

@@ -17,6 +17,7 @@ use Rattle.round_script.specs.Read.{script_read}
 use Rattle.round_script.specs.Script.{IsScript}
 use Rattle.group_spec.specs.Scripts.{script_roster}
 use Rattle.group_report.specs.Report.{evidence_seen, group_output, make_output}
+use Rattle.group_laws.specs.Accountable.{IsAccountable}
 use Rattle.conviction.specs.Accepts.{Accepts}
 use Rattle.conviction.specs.Framing.{HasNoHonestRun, NoRunsSaid}
 use Rattle.judge_core.specs.declared.judging.Accepted.{Accepted}
@@ -168,7 +169,7 @@ pub record WritesGroup (before now : Option Held) (roster transcript : List ℕ)
   pub roster_first : IsWrite before middle roster spelled
   pub transcript_then : WritesTranscript middle now transcript evidence
 
--- A file spells a script, and an output tells what its group comes to. The roster of the group was written under a name,
+-- A file spells a script, and an output tells what its group comes to, which is accountable. The roster of the group was written under a name,
 -- and then the transcript of the least honest member that blames somebody, if there is one, under another.
 pub record IsGroupRun (files : Change (Option Held)) (script_file : Option (List ℕ)) (roster transcript output : List ℕ) : Type 0 where
   pub bytes : List ℕ
@@ -176,6 +177,7 @@ pub record IsGroupRun (files : Change (Option Held)) (script_file : Option (List
   pub script_is : script_file ≡ Some bytes
   pub reads : script_read bytes ≡ Ok script
   pub form : IsScript script
+  pub accountable : IsAccountable script
   pub writes : WritesGroup files.before files.now roster transcript (roster_spelling (script_roster script))
       (evidence_seen (members_seen script))
   pub printed : output ≡ group_output (members_seen script)
@@ -185,9 +187,10 @@ abbrev pub FilesRun : Change (Option Held) → (script roster transcript output 
 FilesRun files script roster transcript output =
     (script_file : Option (List ℕ)) × Shows files.before script script_file × IsGroupRun files script_file roster transcript output
 
--- a script was made, and an output counts what its group comes to
+-- a script was made, and an output counts what its group comes to, which is accountable
 pub record IsMadeRun (number members size : ℕ) (fault : Fault) (output : List ℕ) : Type 0 where
   pub form : IsScript (made_script number members size fault)
+  pub accountable : IsAccountable (made_script number members size fault)
   pub printed : output ≡ make_output (members_seen (made_script number members size fault))
 
 -- The outside bears an output out: the files that the words name convict whom `judge` names, or hold what `show` tells;
