@@ -1,4 +1,4 @@
-use Rattle.std.proofs.Common.{◌≡◌, sym, ◌∙◌, arith, rules, tests}
+use Rattle.std.proofs.Common.{sym, ◌∙◌, rules, tests}
 use Rattle.offline_commands.specs.Command.{make_form}
 use Rattle.offline_commands.proofs.Requests.{texts_other, make_asked}
 use Rattle.offline_commands.proofs.words.make_words.Goals.{in_default-via-then-words-lt9, in_default-via-else-words-lt9+else-words-lt10}
