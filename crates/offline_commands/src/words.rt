@@ -211,7 +211,7 @@ fn group_words(words: &[String]) -> Option<Command<&String>>
 }
 
 // The command `make`, where the words are of its form.
-#[tactic(auto, using(crate::proofs::Requests::texts_other, crate::proofs::Requests::four_values))]
+#[tactic(auto, using(crate::proofs::Requests::texts_other))]
 fn make_words(words: &[String]) -> Option<Command<&String>>
     ensures exact { option_map (λ command. request_of command (λ name. string_bytes name.now)) result
         ≡ request_by (texts words.now) make_form }
