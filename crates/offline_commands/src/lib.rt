@@ -15,7 +15,8 @@ mod stored;
 mod words;
 
 pub use commands::{
-    POST_FILE_LIMIT, ROSTER_LIMIT, SCRIPT_LIMIT, TOML_LIMIT, TRANSCRIPT_LIMIT, read_within, write_whole,
+    POST_FILE_LIMIT, ROSTER_LIMIT, SCRIPT_LIMIT, TOML_LIMIT, TRANSCRIPT_LIMIT, read_within,
+    write_whole,
 };
 pub use delivery::print;
 pub use host::{HostFiles, WriterSink};
