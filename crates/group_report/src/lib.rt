@@ -6,4 +6,5 @@ mod lines;
 mod report;
 
 pub use group_spec::MemberEnd;
-pub use report::{evidence, group_text, make_text};
+pub use lines::open_text;
+pub use report::{evidence, group_text, make_text, slots_text};

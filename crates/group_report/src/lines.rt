@@ -40,7 +40,7 @@ fn state_words(alloc: Global, state: State) -> Mem<Vec<u8>>
     ensures { IfOk result (λ text. text.items ≡ state_words state) }
 {
     match state {
-        State::Waiting { stage, missing } => waiting_words(alloc, stage, missing),
+        State::Waiting { stage, missing } => open_text(alloc, stage, missing),
         State::Done => Ok(format!(in alloc; "done")?.into_bytes()),
         State::Blamed { accused, claim } => blamed_words(alloc, accused, claim),
         State::Stopped => Ok(format!(in alloc; "stopped")?.into_bytes()),
@@ -57,8 +57,8 @@ fn blamed_words(alloc: Global, accused: u8, claim: Claim) -> Mem<Vec<u8>>
     Ok(text)
 }
 
-// At which stage it waits, and for whom.
-fn waiting_words(alloc: Global, stage: u8, missing: u32) -> Mem<Vec<u8>>
+/// At which stage a round waits, and for whom: `open stage S missing I,J`.
+pub fn open_text(alloc: Global, stage: u8, missing: u32) -> Mem<Vec<u8>>
     ensures { IfOk result (λ text. text.items ≡ state_words (State.Waiting stage missing)) }
 {
     let mut text = format!(in alloc; "open stage {stage} missing ")?.into_bytes();

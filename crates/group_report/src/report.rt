@@ -25,6 +25,15 @@ pub fn group_text(alloc: Global, members: &Vec<MemberEnd>) -> Mem<Vec<u8>>
     Ok(text)
 }
 
+/// The lines of slots, a line each, numbered from 1.
+pub fn slots_text(alloc: Global, slots: &Vec<SlotState>) -> Mem<Vec<u8>>
+    ensures { IfOk result (λ text. text.items ≡ slot_lines 1 slots.now.items) }
+{
+    let mut text = Vec::new(alloc);
+    put_slots(alloc, &mut text, slots)?;
+    Ok(text)
+}
+
 /// What `make` prints of members: how many honest ones are done, open or blame somebody, and how many messages the
 /// least honest one that is done has, with how many bytes.
 pub fn make_text(alloc: Global, members: &Vec<MemberEnd>) -> Mem<Vec<u8>>

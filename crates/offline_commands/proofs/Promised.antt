@@ -3,25 +3,27 @@ use Rattle.std.proofs.Common.{◌≡◌, ◌≢◌, ◌⊎◌, [], ◌∷◌, in
 use Rattle.std.specs.Prelude.{map, Any, IfSome, IfOk, option_map}
 use Rattle.wire_core.specs.Answers.{◌>>=◌}
 use Rattle.outside.specs.Changes.{Change, Failed}
-use Rattle.offline_commands.specs.declared.words.Command.TheVariants.{Judge, Show, Keygen, Roster as MakeRoster}
+use Rattle.offline_commands.specs.declared.words.Command.TheVariants.{Judge, Show, Keygen, Roster as MakeRoster, Group, Make}
 use Rattle.crash_disk.specs.Names.{Names, StoodStays}
 use Rattle.offline_commands.specs.Outside.{DiskTold, Held, Shows, IsMissing, Gains}
-use Rattle.offline_commands.specs.Command.{Request, written_name, requested}
-use Rattle.offline_commands.specs.Outcome.{Input, inputs_of, reads_of, Yields, YieldsOr, YieldsBy, Tells, MayTell, Stood, known_files, Misses, within, or_bad_roster, or_refused, judge_outcome, show_outcome, keygen_outcome, outcome_of, roster_outcome, TellsFiles, accepted_line, id_line}
+use Rattle.offline_commands.specs.Command.{Request, written_names, requested}
+use Rattle.offline_commands.specs.Outcome.{Input, inputs_of, reads_of, Yields, YieldsOr, YieldsBy, Tells, TellsNone, MayTell, Stood, known_files, Misses, within, or_bad_roster, or_refused, judge_outcome, show_outcome, keygen_outcome, outcome_of, roster_outcome, group_outcome, make_outcome, or_bad_script, TellsFiles, accepted_line, id_line}
 use Rattle.group_roster.specs.Toml.{toml_read}
 use Rattle.offline_commands.specs.Delivery.{Delivers, status_of, text_of}
-use Rattle.offline_commands.specs.Promise.{IsRosterRun, FilesKept, IsUntouched, Asked, request_in, MakesKey, AnswersRequest, Answers, expected_of, expected_in, FaultOf, IsStatusOf, IsWhole, FilesConvict, FilesShow, IsMade, BearsOutRequest, BearsOut, OnOutput, PrintsOutput, IsAnswered, IsPrinted}
+use Rattle.offline_commands.specs.Promise.{IsRosterRun, IsScriptRun, IsMadeRun, FilesKept, IsUntouched, Asked, request_in, MakesKey, AnswersRequest, Answers, expected_of, expected_in, FaultOf, IsStatusOf, IsWhole, FilesConvict, FilesShow, IsMade, BearsOutRequest, BearsOut, OnOutput, PrintsOutput, IsAnswered, IsPrinted}
 use Rattle.lm_ots.specs.declared.types.OtsType.{OtsType}
 use Rattle.lms_tree.specs.declared.secrets.MadeHeight.{MadeHeight}
 use Rattle.std.proofs.Common.{◌≤◌, arith, lit<}
-use Rattle.offline_commands.specs.declared.commands.TheConstants.{ROSTER_LIMIT, TOML_LIMIT, TRANSCRIPT_LIMIT, POST_FILE_LIMIT}
+use Rattle.offline_commands.specs.declared.commands.TheConstants.{ROSTER_LIMIT, TOML_LIMIT, SCRIPT_LIMIT, TRANSCRIPT_LIMIT, POST_FILE_LIMIT}
 use Rattle.offline_commands.specs.declared.status.Status.{Status}
-use Rattle.offline_commands.specs.declared.status.Status.TheVariants.{Done, Usage, Refused, ReadFault, WriteFault, DiskFault, BadRoster, TooLong, OutOfMemory}
+use Rattle.offline_commands.specs.declared.status.Status.TheVariants.{Done, Usage, Refused, ReadFault, WriteFault, DiskFault, BadRoster, TooLong, BadScript, OutOfMemory}
 use Rattle.judge_core.specs.declared.judging.Accepted.{Accepted}
 use Rattle.transcript_form.specs.Refusals.{Failure}
 use Rattle.group_roster.specs.Roster.{Roster, IsRosterFile, roster_spelling}
 use Rattle.group_roster.specs.Binary.{roster_read}
 use Rattle.phase_message.specs.declared.content.Content.{Content}
+use Rattle.round_script.specs.declared.fault.Fault.{Fault}
+use Rattle.round_script.specs.Read.{script_read}
 use Rattle.judge_core.specs.Checks.{printed_judgement_of}
 use Rattle.signed_post.specs.Admission.{IsPostFile}
 use Rattle.offline_commands.specs.Show.{file_checked, shown_line}
@@ -55,6 +57,11 @@ bad_cases : {V : Type 0} (answer : Result V (ℕ × ℕ)) (P : Status → Type 0
     → or_bad_roster answer ≡ Err status → P status
 bad_cases (Ok value) P bad status h = cc
 bad_cases (Err offence) P bad status h = let e : BadRoster offence.0 offence.1 ≡ status = cc in subst P e (bad offence.0 offence.1)
+
+script_cases : {V : Type 0} (answer : Result V ℕ) (P : Status → Type 0) → ((line : ℕ) → P (BadScript line)) → (status : Status)
+    → or_bad_script answer ≡ Err status → P status
+script_cases (Ok value) P bad status h = cc
+script_cases (Err line) P bad status h = let e : BadScript line ≡ status = cc in subst P e (bad line)
 
 refused_cases : {A : Type 0} (line : A → List ℕ) (answer : Result A Failure) (P : Status → Type 0)
     → ((check post at : ℕ) → P (Refused check post at))
@@ -165,10 +172,10 @@ yields_known fresh files disk (Some request) answer expected (contents, stood, y
 -- the statuses that a command comes to over its files
 outcome_refused : (fresh : List ℕ) (told : Option Held) (request : Request) (contents : List (Option (List ℕ))) (status : Status)
     (P : Status → Type 0) → (Misses told request → P ReadFault) → ((limit : ℕ) → P (TooLong limit))
-    → ((at rule : ℕ) → P (BadRoster at rule))
+    → ((at rule : ℕ) → P (BadRoster at rule)) → ((line : ℕ) → P (BadScript line))
     → ((check post at : ℕ) → P (Refused check post at)) → Stood told (inputs_of request) contents
     → outcome_of fresh request contents ≡ Err status → P status
-outcome_refused fresh told (Judge roster transcript) (file ∷ second ∷ []) status P missing long bad refused (shows, (shows', done)) h =
+outcome_refused fresh told (Judge roster transcript) (file ∷ second ∷ []) status P missing long bad script_bad refused (shows, (shows', done)) h =
     outcome_cases Roster Accepted TRANSCRIPT_LIMIT accepted_line roster_read printed_judgement_of file second P
     (λ none. missing (0, record { name = roster; limit = ROSTER_LIMIT }, lit< tt, refl, is_missing told roster file none shows))
     (λ none. missing (
@@ -179,20 +186,20 @@ outcome_refused fresh told (Judge roster transcript) (file ∷ second ∷ []) st
       is_missing told transcript second none
           shows',
     )) long bad refused status h
-outcome_refused fresh told (Judge roster transcript) [] status P missing long bad refused stood h = absurd stood
-outcome_refused fresh told (Judge roster transcript) (file ∷ []) status P missing long bad refused stood h = absurd stood.1
-outcome_refused fresh told (Judge roster transcript) (file ∷ second ∷ third ∷ more) status P missing long bad refused stood h = absurd
+outcome_refused fresh told (Judge roster transcript) [] status P missing long bad script_bad refused stood h = absurd stood
+outcome_refused fresh told (Judge roster transcript) (file ∷ []) status P missing long bad script_bad refused stood h = absurd stood.1
+outcome_refused fresh told (Judge roster transcript) (file ∷ second ∷ third ∷ more) status P missing long bad script_bad refused stood h = absurd
     stood.1.1
-outcome_refused fresh told (Show roster round post) (file ∷ second ∷ []) status P missing long bad refused (shows, (shows', done)) h =
+outcome_refused fresh told (Show roster round post) (file ∷ second ∷ []) status P missing long bad script_bad refused (shows, (shows', done)) h =
     outcome_cases Roster Content POST_FILE_LIMIT shown_line roster_read (file_checked round) file second P
     (λ none. missing (0, record { name = roster; limit = ROSTER_LIMIT }, lit< tt, refl, is_missing told roster file none shows))
     (λ none. missing (1, record { name = post; limit = POST_FILE_LIMIT }, lit< tt, refl, is_missing told post second none shows')) long bad
     refused status h
-outcome_refused fresh told (Show roster round post) [] status P missing long bad refused stood h = absurd stood
-outcome_refused fresh told (Show roster round post) (file ∷ []) status P missing long bad refused stood h = absurd stood.1
-outcome_refused fresh told (Show roster round post) (file ∷ second ∷ third ∷ more) status P missing long bad refused stood h = absurd
+outcome_refused fresh told (Show roster round post) [] status P missing long bad script_bad refused stood h = absurd stood
+outcome_refused fresh told (Show roster round post) (file ∷ []) status P missing long bad script_bad refused stood h = absurd stood.1
+outcome_refused fresh told (Show roster round post) (file ∷ second ∷ third ∷ more) status P missing long bad script_bad refused stood h = absurd
     stood.1.1
-outcome_refused fresh told (MakeRoster toml out) (file ∷ []) status P missing long bad refused (shows, done) h =
+outcome_refused fresh told (MakeRoster toml out) (file ∷ []) status P missing long bad script_bad refused (shows, done) h =
     elim (bind-err (within TOML_LIMIT file) _ status h) [
       | inl e ↦ within_cases TOML_LIMIT file P
           (λ none. missing (0, record { name = toml; limit = TOML_LIMIT }, lit< tt, refl, is_missing told toml file none shows))
@@ -202,35 +209,54 @@ outcome_refused fresh told (MakeRoster toml out) (file ∷ []) status P missing 
         | inr q ↦ absurd (let e = q.1 in cc)
       ]
     ]
-outcome_refused fresh told (MakeRoster toml out) [] status P missing long bad refused stood h = absurd stood
-outcome_refused fresh told (MakeRoster toml out) (file ∷ second ∷ more) status P missing long bad refused stood h = absurd stood.1
-outcome_refused fresh told (Keygen key height width) [] status P missing long bad refused stood h = absurd cc
-outcome_refused fresh told (Keygen key height width) (file ∷ more) status P missing long bad refused stood h = absurd stood
+outcome_refused fresh told (MakeRoster toml out) [] status P missing long bad script_bad refused stood h = absurd stood
+outcome_refused fresh told (MakeRoster toml out) (file ∷ second ∷ more) status P missing long bad script_bad refused stood h = absurd stood.1
+outcome_refused fresh told (Keygen key height width) [] status P missing long bad script_bad refused stood h = absurd cc
+outcome_refused fresh told (Keygen key height width) (file ∷ more) status P missing long bad script_bad refused stood h = absurd stood
+outcome_refused fresh told (Group script roster transcript) (file ∷ []) status P missing long bad script_bad refused (shows, done) h =
+    elim (bind-err (within SCRIPT_LIMIT file) _ status h) [
+      | inl e ↦ within_cases SCRIPT_LIMIT file P
+          (λ none. missing (0, record { name = script; limit = SCRIPT_LIMIT }, lit< tt, refl, is_missing told script file none shows))
+          (long SCRIPT_LIMIT) status e
+      | inr p ↦ elim (bind-err (or_bad_script (script_read p.0)) _ status p.1) [
+        | inl e ↦ script_cases (script_read p.0) P script_bad status e
+        | inr q ↦ absurd (let e = q.1 in cc)
+      ]
+    ]
+outcome_refused fresh told (Group script roster transcript) [] status P missing long bad script_bad refused stood h = absurd stood
+outcome_refused fresh told (Group script roster transcript) (file ∷ second ∷ more) status P missing long bad script_bad refused stood h = absurd
+    stood.1
+outcome_refused fresh told (Make number members size fault) [] status P missing long bad script_bad refused stood h = absurd cc
+outcome_refused fresh told (Make number members size fault) (file ∷ more) status P missing long bad script_bad refused stood h = absurd stood
 
 -- the faults that a command may tell
 fault_told : (request : Request) (files_fault disk_fault : Type 0) (status : Status) (P : Status → Type 0) → (files_fault → P ReadFault)
-    → (files_fault × IsSome (written_name (Some request)) → P WriteFault) → (disk_fault → P DiskFault)
+    → (files_fault × (written_names (Some request) ≢ []) → P WriteFault) → (disk_fault → P DiskFault)
     → MayTell request files_fault disk_fault status → P status
 fault_told (Judge roster transcript) files_fault disk_fault status P read write disk t = subst P (sym t.0) (read t.1)
 fault_told (Show roster round post) files_fault disk_fault status P read write disk t = subst P (sym t.0) (read t.1)
 fault_told (Keygen key height width) files_fault disk_fault status P read write disk t = subst P (sym t.0) (disk t.1)
 fault_told (MakeRoster toml out) files_fault disk_fault status P read write disk (inl e, rose) = subst P (sym e) (read rose)
-fault_told (MakeRoster toml out) files_fault disk_fault status P read write disk (inr e, rose) = subst P (sym e) (write (rose, refl))
+fault_told (MakeRoster toml out) files_fault disk_fault status P read write disk (inr e, rose) = subst P (sym e) (write (rose, λ none. cc))
+fault_told (Group script roster transcript) files_fault disk_fault status P read write disk (inl e, rose) = subst P (sym e) (read rose)
+fault_told (Group script roster transcript) files_fault disk_fault status P read write disk (inr e, rose) = subst P (sym e)
+    (write (rose, λ none. cc))
+fault_told (Make number members size fault) files_fault disk_fault status P read write disk none = absurd none
 
 -- the statuses that an answer may be
 answer_cases : (fresh : List ℕ) (files : Change (Option Held)) (disk : Change DiskTold) (request : Option Request) (status : Status)
     (P : Status → Type 0) → (request ≡ None → P Usage) → P OutOfMemory
     → (Failed files ⊎ IsSomeAnd request (Misses files.before) → P ReadFault)
-    → (Failed files × IsSome (written_name request) → P WriteFault) → (Failed disk → P DiskFault) → ((limit : ℕ) → P (TooLong limit))
-    → ((at rule : ℕ) → P (BadRoster at rule)) → ((check post at : ℕ) → P (Refused check post at))
+    → (Failed files × (written_names request ≢ []) → P WriteFault) → (Failed disk → P DiskFault) → ((limit : ℕ) → P (TooLong limit))
+    → ((at rule : ℕ) → P (BadRoster at rule)) → ((line : ℕ) → P (BadScript line)) → ((check post at : ℕ) → P (Refused check post at))
     → AnswersRequest fresh files disk request (Err status) → P status
-answer_cases fresh files disk None status P usage memory read write disk_fails long bad refused h =
+answer_cases fresh files disk None status P usage memory read write disk_fails long bad script_bad refused h =
     let e : Usage ≡ status = cc in subst P e (usage refl)
-answer_cases fresh files disk (Some request) status P usage memory read write disk_fails long bad refused (contents, stood, inl e) =
-    outcome_refused fresh files.before request contents status P (λ missing. read (inr missing)) long bad refused stood (sym e)
-answer_cases fresh files disk (Some request) status P usage memory read write disk_fails long bad refused (contents, stood, inr (inl e)) =
+answer_cases fresh files disk (Some request) status P usage memory read write disk_fails long bad script_bad refused (contents, stood, inl e) =
+    outcome_refused fresh files.before request contents status P (λ missing. read (inr missing)) long bad script_bad refused stood (sym e)
+answer_cases fresh files disk (Some request) status P usage memory read write disk_fails long bad script_bad refused (contents, stood, inr (inl e)) =
     let e' : OutOfMemory ≡ status = cc in subst P e' memory
-answer_cases fresh files disk (Some request) status P usage memory read write disk_fails long bad refused
+answer_cases fresh files disk (Some request) status P usage memory read write disk_fails long bad script_bad refused
     (contents, stood, inr (inr (failed, e, t))) =
     let e' : failed ≡ status = cc in
     subst P e' (fault_told request (Failed files) (Failed disk) failed P (λ rose. read (inl rose)) write disk_fails t)
@@ -268,18 +294,19 @@ module _ (asked : Asked) (files : Change (Option Held)) (disk : Change DiskTold)
           (yields_known asked.fresh files disk (request_in asked) answer expected answered.answers e) printed.delivers
 
   -- a status other than Done that was printed whole, or that another cause has
-  by_status : (P : Status → Type 0) → P OutOfMemory → (Failed sink ⊎ (Failed files × IsSome (written_name (request_in asked)))
+  by_status : (P : Status → Type 0) → P OutOfMemory → (Failed sink ⊎ (Failed files × (written_names (request_in asked) ≢ []))
       → P WriteFault) → P Done → (request_in asked ≡ None → P Usage)
       → (Failed files ⊎ IsSomeAnd (request_in asked) (Misses files.before) → P ReadFault) → (Failed disk → P DiskFault)
-      → ((limit : ℕ) → P (TooLong limit)) → ((at rule : ℕ) → P (BadRoster at rule)) → ((check post at : ℕ) → P (Refused check post at))
+      → ((limit : ℕ) → P (TooLong limit)) → ((at rule : ℕ) → P (BadRoster at rule)) → ((line : ℕ) → P (BadScript line))
+      → ((check post at : ℕ) → P (Refused check post at))
       → P status
-  by_status P memory write done usage read disk_fails long bad refused = by_delivery printed.delivers
+  by_status P memory write done usage read disk_fails long bad script_bad refused = by_delivery printed.delivers
     where
       by_answer : (a : Result (List ℕ) Status) → Answers asked files disk a → P (status_of a)
       by_answer (Ok output) h = done
       by_answer (Err refusal) h =
           answer_cases asked.fresh files disk (request_in asked) refusal P usage memory read (λ w. write (inr w)) disk_fails long bad
-          refused h
+          script_bad refused h
 
       by_delivery : Delivers sink answer status → P status
       by_delivery (gained, gains, inl all) = subst P (sym all.0) (by_answer answer answered.answers)
@@ -288,21 +315,21 @@ module _ (asked : Asked) (files : Change (Option Held)) (disk : Change DiskTold)
 
   pub usage : status ≡ Usage → request_in asked ≡ None
   usage = by_status (λ s. s ≡ Usage → request_in asked ≡ None) (λ e. absurd cc) (λ _ e. absurd cc) (λ e. absurd cc) (λ none _. none)
-      (λ _ e. absurd cc) (λ _ e. absurd cc) (λ _ e. absurd cc) (λ _ _ e. absurd cc) (λ _ _ _ e. absurd cc)
+      (λ _ e. absurd cc) (λ _ e. absurd cc) (λ _ e. absurd cc) (λ _ _ e. absurd cc) (λ _ e. absurd cc) (λ _ _ _ e. absurd cc)
 
   pub read_fault : status ≡ ReadFault → Failed files ⊎ IsSomeAnd (request_in asked) (Misses files.before)
   read_fault = by_status (λ s. s ≡ ReadFault → Failed files ⊎ IsSomeAnd (request_in asked) (Misses files.before))
       (λ e. absurd cc) (λ _ e. absurd cc) (λ e. absurd cc) (λ _ e. absurd cc)
-      (λ why _. why) (λ _ e. absurd cc) (λ _ e. absurd cc) (λ _ _ e. absurd cc) (λ _ _ _ e. absurd cc)
+      (λ why _. why) (λ _ e. absurd cc) (λ _ e. absurd cc) (λ _ _ e. absurd cc) (λ _ e. absurd cc) (λ _ _ _ e. absurd cc)
 
   pub disk_fault : status ≡ DiskFault → Failed disk
   disk_fault = by_status (λ s. s ≡ DiskFault → Failed disk) (λ e. absurd cc) (λ _ e. absurd cc) (λ e. absurd cc) (λ _ e. absurd cc)
-      (λ _ e. absurd cc) (λ rose _. rose) (λ _ e. absurd cc) (λ _ _ e. absurd cc) (λ _ _ _ e. absurd cc)
+      (λ _ e. absurd cc) (λ rose _. rose) (λ _ e. absurd cc) (λ _ _ e. absurd cc) (λ _ e. absurd cc) (λ _ _ _ e. absurd cc)
 
-  pub write_fault : status ≡ WriteFault → Failed sink ⊎ (Failed files × IsSome (written_name (request_in asked)))
-  write_fault = by_status (λ s. s ≡ WriteFault → Failed sink ⊎ (Failed files × IsSome (written_name (request_in asked)))) (λ e. absurd cc)
+  pub write_fault : status ≡ WriteFault → Failed sink ⊎ (Failed files × (written_names (request_in asked) ≢ []))
+  write_fault = by_status (λ s. s ≡ WriteFault → Failed sink ⊎ (Failed files × (written_names (request_in asked) ≢ []))) (λ e. absurd cc)
       (λ rose _. rose) (λ e. absurd cc) (λ _ e. absurd cc)
-      (λ _ e. absurd cc) (λ _ e. absurd cc) (λ _ e. absurd cc) (λ _ _ e. absurd cc) (λ _ _ _ e. absurd cc)
+      (λ _ e. absurd cc) (λ _ e. absurd cc) (λ _ e. absurd cc) (λ _ _ e. absurd cc) (λ _ e. absurd cc) (λ _ _ _ e. absurd cc)
 
   pub untouched : IsUntouched files status
   untouched = by_delivery printed.delivers
@@ -342,12 +369,12 @@ all_stood (Some names) = λ name stood. refl
 -- a request of files alone that was answered
 over_files : (asked : Asked) (files : Change (Option Held)) (disk : Change DiskTold) (request : Option Request)
     (answer : Result (List ℕ) Status) → request_in asked ≡ request → AnswersRequest asked.fresh files disk request answer
-    → OnOutput (BearsOutRequest asked.fresh files disk request) answer → FilesKept files (written_name request)
+    → OnOutput (BearsOutRequest asked.fresh files disk request) answer → FilesKept files (written_names request)
     → IsUntouched files (status_of answer) → files.faults_before ≤ files.faults_now
     → disk.now ≡ disk.before → disk.faults_now ≡ disk.faults_before → IsAnswered asked files disk answer
 over_files asked files disk request answer e answers bears kept untouched count disk_kept disk_count =
     let At : Option Request → Type 0 = λ r. AnswersRequest asked.fresh files disk r answer in
-    let Kept : Option Request → Type 0 = λ r. FilesKept files (written_name r) in
+    let Kept : Option Request → Type 0 = λ r. FilesKept files (written_names r) in
     let Borne : Option Request → Type 0 = λ r. OnOutput (BearsOutRequest asked.fresh files disk r) answer in record {
       answers = subst At (sym e) answers;
       borne_out = subst Borne (sym e) bears;
@@ -405,6 +432,30 @@ roster_answered asked files disk toml out answer e ran disk_kept disk_count =
     over_files asked files disk (Some (MakeRoster toml out)) answer e
     (ran.answers.0 ∷ [], (ran.answers.1, tt), ran.answers.2) ran.borne_out ran.others ran.untouched ran.count disk_kept disk_count
 
+pub group_answered : (asked : Asked) (files : Change (Option Held)) (disk : Change DiskTold) (script roster transcript : List ℕ)
+    (answer : Result (List ℕ) Status) → request_in asked ≡ Some (Group script roster transcript)
+    → IsScriptRun files script roster transcript answer
+    → disk.now ≡ disk.before → disk.faults_now ≡ disk.faults_before → IsAnswered asked files disk answer
+group_answered asked files disk script roster transcript answer e ran disk_kept disk_count =
+    over_files asked files disk (Some (Group script roster transcript)) answer e
+    (ran.answers.0 ∷ [], (ran.answers.1, tt), ran.answers.2) ran.borne_out ran.others ran.untouched ran.count disk_kept disk_count
+
+-- an answer that is a definition's, but for want of memory
+or_memory : (expected answer : Result (List ℕ) Status) → (answer ≡ expected) ⊎ (answer ≡ Err OutOfMemory) → YieldsBy TellsNone expected answer
+or_memory expected answer (inl e) = inl e
+or_memory expected answer (inr e) = inr (inl e)
+
+pub make_answered : (asked : Asked) (files : Change (Option Held)) (disk : Change DiskTold) (number members size : ℕ) (fault : Fault)
+    (answer : Result (List ℕ) Status) → request_in asked ≡ Some (Make number members size fault)
+    → (answer ≡ make_outcome number members size fault) ⊎ (answer ≡ Err OutOfMemory)
+    → OnOutput (IsMadeRun number members size fault) answer
+    → files.now ≡ files.before → files.faults_now ≡ files.faults_before
+    → disk.now ≡ disk.before → disk.faults_now ≡ disk.faults_before → IsAnswered asked files disk answer
+make_answered asked files disk number members size fault answer e answers bears kept count disk_kept disk_count =
+    over_files asked files disk (Some (Make number members size fault)) answer e
+    ([], tt, or_memory (make_outcome number members size fault) answer answers) bears kept (λ _ _ _. kept) (omega (arith, count))
+    disk_kept disk_count
+
 pub keygen_answered : (asked : Asked) (files : Change (Option Held)) (disk : Change DiskTold) (key : List ℕ) (height : MadeHeight)
     (width : OtsType)
     (answer : Result (List ℕ) Status) → request_in asked ≡ Some (Keygen key height width)
@@ -416,7 +467,7 @@ keygen_answered asked files disk key height width answer e y bears stood disk_co
     let request = Some (Keygen key height width) in
     let At : Option Request → Type 0 = λ r. AnswersRequest asked.fresh files disk r answer in
     let Borne : Option Request → Type 0 = λ r. OnOutput (BearsOutRequest asked.fresh files disk r) answer in
-    let Others : Option Request → Type 0 = λ r. FilesKept files (written_name r) in
+    let Others : Option Request → Type 0 = λ r. FilesKept files (written_names r) in
     let Kept : Option Request → Type 0 = λ r. ¬ MakesKey r → (disk.now ≡ disk.before) × (disk.faults_now ≡ disk.faults_before) in record {
       answers = subst At (sym e) ([], tt, widened DiskFault (Failed disk) (keygen_outcome asked.fresh height width) answer y);
       borne_out = subst Borne (sym e) bears;

@@ -1,14 +1,16 @@
 -- What words spell, and what words of other numbers ask for.
-use Rattle.std.proofs.Common.{◌≡◌, ◌≢◌, ℕ, ◌+◌, ◌*◌, ◌<◌, ◌^◌, Bool, true, false, ◌&&◌, nat_lt, List, [], ◌∷◌, length, get_or, Some, None, Result, Ok, Err, if◌then◌else◌, refl, sym, ap, ◌∙◌, arith}
-use Rattle.std.specs.Prelude.{slice_index, String, string_bytes, bytes_eq, Option, option_map, option_and_then}
+use Rattle.std.proofs.Common.{◌≡◌, ◌≢◌, ℕ, ◌+◌, ◌*◌, ◌<◌, ◌^◌, Bool, true, false, ◌&&◌, nat_lt, List, [], ◌∷◌, length, get_or, Some, None, Result, Ok, Err, if◌then◌else◌, refl, sym, ap, ◌∙◌, subst, ◌≤◌, arith}
+use Rattle.std.specs.Prelude.{slice_index, String, string_bytes, bytes_eq, Option, IfSome, option_map, option_and_then, codes}
 use Rattle.std.specs.declared.alloc.Global.{Global}
 use Rattle.std.proofs.lemmas.List.{length-map}
+use Rattle.std.specs.Option.{option_or}
 use Rattle.std.specs.Result.{OkIff, result_ok}
 use Rattle.std.specs.Str.{all_ascii_digits}
 use Rattle.std.specs.Str.Parse.{digits_value, ParsesUnsigned}
 use Rattle.std.proofs.lemmas.Bool.{ltb-true, lt-ltb}
 use Rattle.std.proofs.lemmas.Str.Parse.{IsNumeralModel, numerals_by_value, tells_all_ascii_digits, parse_plain}
-use Rattle.offline_commands.specs.Command.{Request, Form, number_of, values_behind, request_by, are_words, texts}
+use Rattle.offline_commands.specs.declared.words.Command.{Command}
+use Rattle.offline_commands.specs.Command.{Request, Form, IsInRange, make_form, make_request, number_of, values_behind, request_by, are_words, texts}
 
 own : IsNumeralModel (λ ds. all_ascii_digits ds ≡ true) (digits_value 10)
 own = numerals_by_value _ tells_all_ascii_digits
@@ -99,3 +101,65 @@ three_values name first second third request n a x b y d z =
     by_tests true true false s = refl
     by_tests true false r s = refl
     by_tests false q r s = refl
+
+-- four options with their values
+pub four_values : (name first second third fourth : List ℕ) (request : List (List ℕ) → Option Request) (n a x b y d z e w : List ℕ)
+    → request_by (n ∷ a ∷ x ∷ b ∷ y ∷ d ∷ z ∷ e ∷ w ∷ [])
+    (record { name = name; options = first ∷ second ∷ third ∷ fourth ∷ []; request = request })
+    ≡ (if are_words (n ∷ a ∷ b ∷ d ∷ e ∷ []) (name ∷ first ∷ second ∷ third ∷ fourth ∷ []) then request (x ∷ y ∷ z ∷ w ∷ []) else None)
+four_values name first second third fourth request n a x b y d z e w =
+    by_tests (bytes_eq n name) (bytes_eq a first) (bytes_eq b second) (bytes_eq d third) (bytes_eq e fourth)
+  where
+    by_tests : (p q r s t : Bool) → (if p then option_and_then request (if q then option_map (λ values. x ∷ values)
+        (if r then option_map (λ values. y ∷ values) (if s then option_map (λ values. z ∷ values)
+        (if t then Some (w ∷ []) else None) else None) else None) else None) else None)
+        ≡ (if p && (q && (r && (s && (t && true)))) then request (x ∷ y ∷ z ∷ w ∷ []) else None)
+    by_tests true true true true true = refl
+    by_tests true true true true false = refl
+    by_tests true true true false t = refl
+    by_tests true true false s t = refl
+    by_tests true false r s t = refl
+    by_tests false q r s t = refl
+
+-- the first of two commands that is asked for is in its ranges, if both are
+pub either_in_range : {N : Type 0} (first second : Option (Command N)) → IfSome first IsInRange → IfSome second IsInRange
+    → IfSome (option_or first second) IsInRange
+either_in_range (Some command) second in_range in_range' = in_range
+either_in_range None second in_range in_range' = in_range'
+
+-- nine words are those at their places
+nine_words : {S : Type 0} (words : List S) → 9 ≤ length words → length words < 10 → (n a x b y d z e w : S)
+    → n ≡ get_or words 0 n → a ≡ get_or words 1 a → x ≡ get_or words 2 x → b ≡ get_or words 3 b → y ≡ get_or words 4 y
+    → d ≡ get_or words 5 d → z ≡ get_or words 6 z → e ≡ get_or words 7 e → w ≡ get_or words 8 w
+    → words ≡ n ∷ a ∷ x ∷ b ∷ y ∷ d ∷ z ∷ e ∷ w ∷ []
+nine_words [] at_least below n a x b y d z e w p0 p1 p2 p3 p4 p5 p6 p7 p8 = absurd (omega (arith, at_least))
+nine_words (i0 ∷ []) at_least below n a x b y d z e w p0 p1 p2 p3 p4 p5 p6 p7 p8 = absurd (omega (arith, at_least))
+nine_words (i0 ∷ i1 ∷ []) at_least below n a x b y d z e w p0 p1 p2 p3 p4 p5 p6 p7 p8 = absurd (omega (arith, at_least))
+nine_words (i0 ∷ i1 ∷ i2 ∷ []) at_least below n a x b y d z e w p0 p1 p2 p3 p4 p5 p6 p7 p8 = absurd (omega (arith, at_least))
+nine_words (i0 ∷ i1 ∷ i2 ∷ i3 ∷ []) at_least below n a x b y d z e w p0 p1 p2 p3 p4 p5 p6 p7 p8 = absurd (omega (arith, at_least))
+nine_words (i0 ∷ i1 ∷ i2 ∷ i3 ∷ i4 ∷ []) at_least below n a x b y d z e w p0 p1 p2 p3 p4 p5 p6 p7 p8 = absurd (omega (arith, at_least))
+nine_words (i0 ∷ i1 ∷ i2 ∷ i3 ∷ i4 ∷ i5 ∷ []) at_least below n a x b y d z e w p0 p1 p2 p3 p4 p5 p6 p7 p8 = absurd (omega (arith, at_least))
+nine_words (i0 ∷ i1 ∷ i2 ∷ i3 ∷ i4 ∷ i5 ∷ i6 ∷ []) at_least below n a x b y d z e w p0 p1 p2 p3 p4 p5 p6 p7 p8 = absurd (omega (arith, at_least))
+nine_words (i0 ∷ i1 ∷ i2 ∷ i3 ∷ i4 ∷ i5 ∷ i6 ∷ i7 ∷ []) at_least below n a x b y d z e w p0 p1 p2 p3 p4 p5 p6 p7 p8 = absurd (omega (arith, at_least))
+nine_words (i0 ∷ i1 ∷ i2 ∷ i3 ∷ i4 ∷ i5 ∷ i6 ∷ i7 ∷ i8 ∷ []) at_least below n a x b y d z e w p0 p1 p2 p3 p4 p5 p6 p7 p8 =
+    rw (p0, p1, p2, p3, p4, p5, p6, p7, p8) refl
+nine_words (i0 ∷ i1 ∷ i2 ∷ i3 ∷ i4 ∷ i5 ∷ i6 ∷ i7 ∷ i8 ∷ i9 ∷ more) at_least below n a x b y d z e w p0 p1 p2 p3 p4 p5 p6 p7 p8 = absurd (omega (arith, below))
+
+then_is : {A : Type 0} (test : Bool) (x y : A) → true ≡ test → (if test then x else y) ≡ x
+then_is true x y passes = refl
+then_is false x y passes = absurd cc
+
+-- nine words of the form of `make` ask for what its values do
+pub make_asked : (words : List (String Global)) → 9 ≤ length words → length words < 10 → (n a x b y d z e w : String Global)
+    → n ≡ get_or words 0 n → a ≡ get_or words 1 a → x ≡ get_or words 2 x → b ≡ get_or words 3 b → y ≡ get_or words 4 y
+    → d ≡ get_or words 5 d → z ≡ get_or words 6 z → e ≡ get_or words 7 e → w ≡ get_or words 8 w
+    → true ≡ are_words (string_bytes n ∷ string_bytes a ∷ string_bytes b ∷ string_bytes d ∷ string_bytes e ∷ []) (make_form.name ∷ make_form.options)
+    → make_form.request (string_bytes x ∷ string_bytes y ∷ string_bytes z ∷ string_bytes w ∷ []) ≡ request_by (texts words) make_form
+make_asked words at_least below n a x b y d z e w p0 p1 p2 p3 p4 p5 p6 p7 p8 passes =
+    let is = nine_words words at_least below n a x b y d z e w p0 p1 p2 p3 p4 p5 p6 p7 p8 in
+    let values : List (List ℕ) = string_bytes x ∷ string_bytes y ∷ string_bytes z ∷ string_bytes w ∷ [] in
+    let asked = four_values (codes "make") (codes "--number") (codes "--members") (codes "--bytes") (codes "--fault") make_request
+    (string_bytes n) (string_bytes a) (string_bytes x) (string_bytes b) (string_bytes y) (string_bytes d) (string_bytes z)
+    (string_bytes e) (string_bytes w) in
+    let At : List (String Global) → Type 0 = λ l. make_form.request values ≡ request_by (texts l) make_form in
+    subst At (sym is) (sym (asked ∙ then_is _ (make_request values) None passes))

@@ -1,5 +1,6 @@
 -- The words of a command line, and the command that they ask for.
-use Rattle.std.specs.Prelude.{ℕ, ◌^◌, nat_lt, List, [], ◌∷◌, Bool, true, false, not, ◌&&◌, ◌==◌, if◌then◌else◌, Option, Some, None, option_map, option_and_then, map, slice_index, String, string_bytes, bytes_eq, codes}
+use Rattle.std.specs.Prelude.{ℕ, ◌^◌, ◌≤◌, ⊤, nat_le, nat_lt, List, [], ◌∷◌, Bool, true, false, not, ◌&&◌, ◌==◌, if◌then◌else◌, Option, Some, None, option_map, option_and_then, map, slice_index, String, string_bytes, bytes_eq, codes}
+use Rattle.std.specs.Bool.{then_some}
 use Rattle.std.specs.Str.{all_ascii_digits}
 use Rattle.std.specs.Str.Parse.{digits_value}
 use Rattle.std.specs.declared.alloc.Global.{Global}
@@ -8,8 +9,10 @@ use Rattle.lm_ots.specs.declared.types.OtsType.{OtsType}
 use Rattle.lm_ots.specs.declared.types.OtsType.TheVariants.{W1, W2, W4, W8}
 use Rattle.lms_tree.specs.declared.secrets.MadeHeight.{MadeHeight}
 use Rattle.lms_tree.specs.declared.secrets.MadeHeight.TheVariants.{H5, H10}
+use Rattle.round_script.specs.declared.script.TheConstants.{MESSAGE_LIMIT}
+use Rattle.round_script.specs.Fault.{fault_of_name}
 use Rattle.offline_commands.specs.declared.words.Command.{Command}
-use Rattle.offline_commands.specs.declared.words.Command.TheVariants.{Judge, Show, Keygen, Roster}
+use Rattle.offline_commands.specs.declared.words.Command.TheVariants.{Judge, Show, Keygen, Roster, Group, Make}
 
 -- a command with its names as bytes
 abbrev pub Request : Type 0
@@ -21,16 +24,24 @@ request_of (Judge roster transcript) bytes = Judge (bytes roster) (bytes transcr
 request_of (Show roster round post) bytes = Show (bytes roster) round (bytes post)
 request_of (Keygen key height width) bytes = Keygen (bytes key) height width
 request_of (Roster toml out) bytes = Roster (bytes toml) (bytes out)
+request_of (Group script roster transcript) bytes = Group (bytes script) (bytes roster) (bytes transcript)
+request_of (Make number members size fault) bytes = Make number members size fault
 
 -- a command makes a key file
 abbrev pub makes_key : Option Request → Bool
 makes_key (Some (Keygen key height width)) = true
 makes_key request = false
 
--- the name of the file that a command writes, if it writes one
-abbrev pub written_name : Option Request → Option (List ℕ)
-written_name (Some (Roster toml out)) = Some out
-written_name request = None
+-- the names of the files that a command writes
+abbrev pub written_names : Option Request → List (List ℕ)
+written_names (Some (Roster toml out)) = out ∷ []
+written_names (Some (Group script roster transcript)) = roster ∷ transcript ∷ []
+written_names request = []
+
+-- the numbers of a command are in their ranges: a script is made for 2 to 8 members, with messages that it can have
+abbrev pub IsInRange : {N : Type 0} → Command N → Type 0
+IsInRange (Make number members size fault) = (2 ≤ members) × (members ≤ 8) × (size ≤ MESSAGE_LIMIT)
+IsInRange command = ⊤
 
 -- the bytes of each word
 abbrev pub texts : List (String Global) → List (List ℕ)
@@ -46,6 +57,14 @@ abbrev pub number_of : List ℕ → Option ℕ
 number_of word =
     if nat_lt 48 (slice_index word 0) && all_ascii_digits word && nat_lt (digits_value 10 word) (2 ^ 64)
     then Some (digits_value 10 word) else None
+
+-- the same with 0, by the one digit 0: from 0 to 2^64 - 1
+abbrev pub whole_number_of : List ℕ → Option ℕ
+whole_number_of word = if bytes_eq word (codes "0") then Some 0 else number_of word
+
+-- the same where the number lies between two others
+abbrev pub number_between : (least most : ℕ) → List ℕ → Option ℕ
+number_between least most word = option_and_then (λ n. then_some (nat_le least n && nat_le n most) n) (whole_number_of word)
 
 -- the height that a word spells: 5 or 10
 abbrev pub height_of : List ℕ → Option MadeHeight
@@ -76,6 +95,17 @@ keygen_request (key ∷ height ∷ width ∷ []) =
     if is_value key then option_and_then (λ h. option_map (λ w. Keygen key h w) (width_of width)) (height_of height) else None
 keygen_request values = None
 
+abbrev pub group_request : List (List ℕ) → Option Request
+group_request (script ∷ roster ∷ transcript ∷ []) =
+    if is_value script && is_value roster && is_value transcript then Some (Group script roster transcript) else None
+group_request values = None
+
+abbrev pub make_request : List (List ℕ) → Option Request
+make_request (number ∷ members ∷ size ∷ fault ∷ []) =
+    option_and_then (λ k. option_and_then (λ n. option_and_then (λ b. option_map (λ f. Make k n b f) (fault_of_name fault))
+    (number_between 0 MESSAGE_LIMIT size)) (number_between 2 8 members)) (whole_number_of number)
+make_request values = None
+
 -- ---- the table of words
 
 -- the words of a command: its name, its options, and what the values behind these ask for
@@ -96,9 +126,23 @@ roster_form = record { name = codes "roster"; options = codes "--toml" ∷ codes
 abbrev pub keygen_form : Form
 keygen_form = record { name = codes "keygen"; options = codes "--key" ∷ codes "--height" ∷ codes "--width" ∷ []; request = keygen_request }
 
+abbrev pub group_form : Form
+group_form = record {
+  name = codes "group";
+  options = codes "--script" ∷ codes "--roster" ∷ codes "--transcript" ∷ [];
+  request = group_request;
+}
+
+abbrev pub make_form : Form
+make_form = record {
+  name = codes "make";
+  options = codes "--number" ∷ codes "--members" ∷ codes "--bytes" ∷ codes "--fault" ∷ [];
+  request = make_request;
+}
+
 -- the forms of all commands
 abbrev pub forms : List Form
-forms = judge_form ∷ show_form ∷ roster_form ∷ keygen_form ∷ []
+forms = judge_form ∷ show_form ∷ roster_form ∷ keygen_form ∷ group_form ∷ make_form ∷ []
 
 -- whether words are these, each at its place
 abbrev pub are_words : List (List ℕ) → List (List ℕ) → Bool

@@ -1,9 +1,9 @@
 -- What each command comes to, as a function of its words and of the bytes of its files. A command has a row in each of
 -- three tables: the files that it reads, what it comes to over them, and the faults that it may end with.
 use Rattle.std.specs.Prelude.{◌≡◌, ◌⊎◌, ⊤, ℕ, List, [], ◌∷◌, map, Any, nat_lt, if◌then◌else◌, length, Option, Some, None, Result, Ok, Err, codes, decimal}
-use Rattle.offline_commands.specs.declared.commands.TheConstants.{ROSTER_LIMIT, TOML_LIMIT, TRANSCRIPT_LIMIT, POST_FILE_LIMIT}
+use Rattle.offline_commands.specs.declared.commands.TheConstants.{ROSTER_LIMIT, TOML_LIMIT, SCRIPT_LIMIT, TRANSCRIPT_LIMIT, POST_FILE_LIMIT}
 use Rattle.offline_commands.specs.declared.status.Status.{Status}
-use Rattle.offline_commands.specs.declared.status.Status.TheVariants.{Usage, Refused, ReadFault, WriteFault, DiskFault, BadRoster, TooLong, OutOfMemory}
+use Rattle.offline_commands.specs.declared.status.Status.TheVariants.{Usage, Refused, ReadFault, WriteFault, DiskFault, BadRoster, TooLong, BadScript, OutOfMemory}
 use Rattle.hex.specs.Hex.{encode_lower}
 use Rattle.lm_ots.specs.declared.types.OtsType.{OtsType}
 use Rattle.lms_tree.specs.declared.keys.LmsPublic.{LmsPublic}
@@ -12,7 +12,7 @@ use Rattle.lms_tree.specs.Tree.{key_bytes}
 use Rattle.lms_tree.specs.Secret.{SecretParts, own_public, parts_of_master}
 use Rattle.lms_tree.specs.States.{made_type}
 use Rattle.judge_core.specs.declared.judging.Accepted.{Accepted}
-use Rattle.offline_commands.specs.declared.words.Command.TheVariants.{Judge, Show, Keygen, Roster}
+use Rattle.offline_commands.specs.declared.words.Command.TheVariants.{Judge, Show, Keygen, Roster, Group, Make}
 use Rattle.offline_commands.specs.Command.{Request}
 use Rattle.wire_core.specs.Answers.{◌>>=◌}
 use Rattle.offline_commands.specs.Outside.{Held, Shows, IsMissing}
@@ -22,8 +22,16 @@ use Rattle.group_roster.specs.Toml.{toml_read}
 use Rattle.transcript_form.specs.Refusals.{Failure}
 use Rattle.judge_core.specs.Checks.{printed_judgement_of}
 use Rattle.transcript_form.specs.Claim.{claim_name}
+use Rattle.round_script.specs.declared.fault.Fault.{Fault}
+use Rattle.round_script.specs.declared.script.Script.{Script}
+use Rattle.round_script.specs.Made.{made_script}
+use Rattle.round_script.specs.Read.{script_read}
+use Rattle.group_spec.specs.declared.ending.MemberEnd.{MemberEnd}
+use Rattle.group_spec.specs.Scripts.{script_end}
+use Rattle.group_threads.specs.Given.{end_shown}
+use Rattle.group_report.specs.Report.{group_output, make_output}
 use Rattle.offline_commands.specs.Show.{file_checked, shown_line}
-use Rattle.offline_commands.specs.Status.{line_of}
+use Rattle.group_report.specs.Report.{line_of}
 
 -- ---- files that are read
 
@@ -40,6 +48,8 @@ inputs_of (Show roster round post) = (record { name = roster; limit = ROSTER_LIM
     []
 inputs_of (Keygen key height width) = []
 inputs_of (Roster toml out) = (record { name = toml; limit = TOML_LIMIT }) ∷ []
+inputs_of (Group script roster transcript) = (record { name = script; limit = SCRIPT_LIMIT }) ∷ []
+inputs_of (Make number members size fault) = []
 
 -- a file that is read is there, and has at most this many bytes
 abbrev pub within : ℕ → Option (List ℕ) → Result (List ℕ) Status
@@ -107,12 +117,34 @@ roster_outcome toml_file = do
   roster ← or_bad_roster (toml_read bytes)
   Ok (id_line roster)
 
+-- the status of a script that is outside its grammar
+abbrev pub or_bad_script : {V : Type 0} → Result V ℕ → Result V Status
+or_bad_script (Ok script) = Ok script
+or_bad_script (Err line) = Err (BadScript line)
+
+-- what is seen, at the end, of the members of a script's group
+abbrev pub members_seen : Script → List MemberEnd
+members_seen script = map end_shown (script_end script)
+
+-- `group`: the script is read, and its group comes to its end
+abbrev pub group_outcome : Result (List ℕ) Status → Result (List ℕ) Status
+group_outcome script_file = do
+  bytes ← script_file
+  script ← or_bad_script (script_read bytes)
+  Ok (group_output (members_seen script))
+
+-- `make`: the group of a made script comes to its end
+abbrev pub make_outcome : (number members size : ℕ) → Fault → Result (List ℕ) Status
+make_outcome number members size fault = Ok (make_output (members_seen (made_script number members size fault)))
+
 -- what each command comes to over its files as they were read, in their order; `keygen` takes the fresh bytes
 abbrev pub outcome_over : List ℕ → Request → List (Result (List ℕ) Status) → Result (List ℕ) Status
 outcome_over fresh (Judge roster transcript) (roster_file ∷ transcript_file ∷ []) = judge_outcome roster_file transcript_file
 outcome_over fresh (Show roster round post) (roster_file ∷ post_file ∷ []) = show_outcome round roster_file post_file
 outcome_over fresh (Keygen key height width) [] = keygen_outcome fresh height width
 outcome_over fresh (Roster toml out) (toml_file ∷ []) = roster_outcome toml_file
+outcome_over fresh (Group script roster transcript) (script_file ∷ []) = group_outcome script_file
+outcome_over fresh (Make number members size fault) [] = make_outcome number members size fault
 outcome_over fresh request files = Err Usage
 
 -- the same over what stood at the names
@@ -129,12 +161,18 @@ Tells failed fault status = (status ≡ failed) × fault
 abbrev pub TellsFiles : Type 0 → Status → Type 0
 TellsFiles fault status = ((status ≡ ReadFault) ⊎ (status ≡ WriteFault)) × fault
 
+-- no fault
+abbrev pub TellsNone : Status → Type 0
+TellsNone status = ⊥
+
 -- the faults that each command may end with
 abbrev pub MayTell : Request → (files_fault disk_fault : Type 0) → Status → Type 0
 MayTell (Judge roster transcript) files_fault disk_fault = Tells ReadFault files_fault
 MayTell (Show roster round post) files_fault disk_fault = Tells ReadFault files_fault
 MayTell (Keygen key height width) files_fault disk_fault = Tells DiskFault disk_fault
 MayTell (Roster toml out) files_fault disk_fault = TellsFiles files_fault
+MayTell (Group script roster transcript) files_fault disk_fault = TellsFiles files_fault
+MayTell (Make number members size fault) files_fault disk_fault = TellsNone
 
 -- ---- answers
 

@@ -1,5 +1,6 @@
 -- The outside of the program as its contracts see it: files by name, a sink of bytes, and counts of faults.
 use Rattle.std.specs.Prelude.{◌≡◌, ◌≢◌, ℕ, List, ◌++◌, ⊤, Option, Some, None, IsSome, IfSome, IsSomeAnd}
+use Rattle.std.specs.List.{AllByRecursion}
 use Rattle.crash_disk.specs.Names.{Names}
 use Rattle.offline_commands.specs.declared.interfaces.FileRead.{FileRead}
 use Rattle.offline_commands.specs.declared.interfaces.FileRead.TheVariants.{Bytes, TooLong, Failed, OutOfMemory}
@@ -40,6 +41,19 @@ HoldsNow old new name bytes = IfSome old (λ _. IsSomeAnd new (λ held. held nam
 abbrev pub OthersStay : Option Held → Option Held → List ℕ → Type 0
 OthersStay old new name =
     IfSome old (λ before. IsSomeAnd new (λ now. (other : List ℕ) → other ≢ name → now other ≡ before other))
+
+-- these bytes were written under a name, and all other names stay
+abbrev pub IsWrite : Option Held → Option Held → List ℕ → List ℕ → Type 0
+IsWrite old new name bytes = HoldsNow old new name bytes × OthersStay old new name
+
+-- a name is none of these
+abbrev pub IsNoneOf : List (List ℕ) → List ℕ → Type 0
+IsNoneOf names other = AllByRecursion (λ name. other ≢ name) names
+
+-- whatever writes did to these names, all others stay
+abbrev pub AllOthersStay : Option Held → Option Held → List (List ℕ) → Type 0
+AllOthersStay old new names =
+    IfSome old (λ before. IsSomeAnd new (λ now. (other : List ℕ) → IsNoneOf names other → now other ≡ before other))
 
 -- these bytes went into the sink, at its end
 abbrev pub Gains : Option (List ℕ) → Option (List ℕ) → List ℕ → Type 0

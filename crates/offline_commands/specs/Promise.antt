@@ -1,15 +1,23 @@
 -- What the top call promises: a sentence each, over what was asked and over what the files, the disk and the sink held
 -- before the call and hold now.
-use Rattle.std.specs.Prelude.{◌≡◌, ◌≢◌, ◌≤◌, ◌⊎◌, IsTrue, ℕ, List, take, Option, None, Some, option_map, Result, Ok, Err, IfSome, IfOk, IsSome, IsSomeAnd}
+use Rattle.std.specs.Prelude.{◌≡◌, ◌≢◌, ◌≤◌, ◌⊎◌, IsTrue, ℕ, List, [], ◌∷◌, take, Option, None, Some, option_map, Result, Ok, Err, IfSome, IfOk, IsSomeAnd}
 use Rattle.outside.specs.Changes.{Change, Failed}
-use Rattle.offline_commands.specs.declared.commands.TheConstants.{TOML_LIMIT}
+use Rattle.offline_commands.specs.declared.commands.TheConstants.{TOML_LIMIT, SCRIPT_LIMIT}
 use Rattle.offline_commands.specs.declared.status.Status.{Status}
 use Rattle.offline_commands.specs.declared.status.Status.TheVariants.{Done, Usage, ReadFault, WriteFault, DiskFault, OutOfMemory}
-use Rattle.offline_commands.specs.declared.words.Command.TheVariants.{Judge, Show, Keygen, Roster as MakeRoster}
-use Rattle.offline_commands.specs.Outside.{DiskTold, Held, Shows, HoldsNow, OthersStay, Gains}
-use Rattle.offline_commands.specs.Command.{Request, makes_key, written_name, requested}
-use Rattle.offline_commands.specs.Outcome.{Input, within, inputs_of, roster_outcome, outcome_of, TellsFiles, MayTell, YieldsBy, Stood, known_files, Misses, made_parts, key_line, accepted_line, id_line}
+use Rattle.offline_commands.specs.declared.words.Command.TheVariants.{Judge, Show, Keygen, Roster as MakeRoster, Group, Make}
+use Rattle.offline_commands.specs.Outside.{DiskTold, Held, Shows, HoldsNow, IsWrite, AllOthersStay, Gains}
+use Rattle.offline_commands.specs.Command.{Request, makes_key, written_names, requested}
+use Rattle.offline_commands.specs.Outcome.{Input, within, inputs_of, roster_outcome, group_outcome, make_outcome, members_seen, outcome_of, TellsFiles, MayTell, YieldsBy, Stood, known_files, Misses, made_parts, key_line, accepted_line, id_line}
 use Rattle.group_roster.specs.Toml.{toml_read}
+use Rattle.round_script.specs.declared.fault.Fault.{Fault}
+use Rattle.round_script.specs.declared.script.Script.{Script}
+use Rattle.round_script.specs.Made.{made_script}
+use Rattle.round_script.specs.Read.{script_read}
+use Rattle.round_script.specs.Script.{IsScript}
+use Rattle.group_spec.specs.Scripts.{script_roster}
+use Rattle.group_report.specs.Report.{evidence_seen, group_output, make_output}
+use Rattle.group_laws.specs.Accountable.{IsAccountable}
 use Rattle.conviction.specs.Accepts.{Accepts}
 use Rattle.conviction.specs.Framing.{HasNoHonestRun, NoRunsSaid}
 use Rattle.judge_core.specs.declared.judging.Accepted.{Accepted}
@@ -150,14 +158,52 @@ pub record IsWritten (files : Change (Option Held)) (toml_file : Option (List �
 abbrev pub FilesHold : Change (Option Held) → List ℕ → List ℕ → List ℕ → Type 0
 FilesHold files toml out output = (toml_file : Option (List ℕ)) × Shows files.before toml toml_file × IsWritten files toml_file out output
 
+-- a transcript was written under a name, or there is none, and nothing was written
+abbrev pub WritesTranscript : Option Held → Option Held → List ℕ → Option (List ℕ) → Type 0
+WritesTranscript old new name (Some bytes) = IsWrite old new name bytes
+WritesTranscript old new name None = new ≡ old
+
+-- a roster was written under a name, and then a transcript under another, or the same, if there is one
+pub record WritesGroup (before now : Option Held) (roster transcript : List ℕ) (spelled : List ℕ) (evidence : Option (List ℕ)) : Type 0 where
+  pub middle : Option Held
+  pub roster_first : IsWrite before middle roster spelled
+  pub transcript_then : WritesTranscript middle now transcript evidence
+
+-- A file spells a script, and an output tells what its group comes to, which is accountable. The roster of the group was written under a name,
+-- and then the transcript of the least honest member that blames somebody, if there is one, under another.
+pub record IsGroupRun (files : Change (Option Held)) (script_file : Option (List ℕ)) (roster transcript output : List ℕ) : Type 0 where
+  pub bytes : List ℕ
+  pub script : Script
+  pub script_is : script_file ≡ Some bytes
+  pub reads : script_read bytes ≡ Ok script
+  pub form : IsScript script
+  pub accountable : IsAccountable script
+  pub writes : WritesGroup files.before files.now roster transcript (roster_spelling (script_roster script))
+      (evidence_seen (members_seen script))
+  pub printed : output ≡ group_output (members_seen script)
+
+-- the file of a name spells a script whose group was run
+abbrev pub FilesRun : Change (Option Held) → (script roster transcript output : List ℕ) → Type 0
+FilesRun files script roster transcript output =
+    (script_file : Option (List ℕ)) × Shows files.before script script_file × IsGroupRun files script_file roster transcript output
+
+-- a script was made, and an output counts what its group comes to, which is accountable
+pub record IsMadeRun (number members size : ℕ) (fault : Fault) (output : List ℕ) : Type 0 where
+  pub form : IsScript (made_script number members size fault)
+  pub accountable : IsAccountable (made_script number members size fault)
+  pub printed : output ≡ make_output (members_seen (made_script number members size fault))
+
 -- The outside bears an output out: the files that the words name convict whom `judge` names, or hold what `show` tells;
--- or the disk holds the key file that `keygen` makes of the master; or a file holds the roster that `roster` tells of.
+-- or the disk holds the key file that `keygen` makes of the master; or a file holds the roster that `roster` tells of; or
+-- a file has the script whose group `group` runs, and what it writes was written. `make` has its words alone.
 abbrev pub BearsOutRequest : List ℕ → Change (Option Held) → Change DiskTold → Option Request → List ℕ → Type 0
 BearsOutRequest fresh files disk None output = ⊥
 BearsOutRequest fresh files disk (Some (Judge roster transcript)) output = FilesConvict files.before roster transcript output
 BearsOutRequest fresh files disk (Some (Show roster round post)) output = FilesShow files.before roster round post output
 BearsOutRequest fresh files disk (Some (Keygen key height width)) output = IsMade height width fresh key disk output
 BearsOutRequest fresh files disk (Some (MakeRoster toml out)) output = FilesHold files toml out output
+BearsOutRequest fresh files disk (Some (Group script roster transcript)) output = FilesRun files script roster transcript output
+BearsOutRequest fresh files disk (Some (Make number members size fault)) output = IsMadeRun number members size fault output
 
 abbrev pub BearsOut : Asked → Change (Option Held) → Change DiskTold → List ℕ → Type 0
 BearsOut asked files disk output = BearsOutRequest asked.fresh files disk (request_in asked) output
@@ -173,10 +219,10 @@ PrintsOutput P sink = (output : List ℕ) × P output × Gains sink.before sink.
 
 -- ---- what stays
 
--- all files stay, or all but the one of a name
-abbrev pub FilesKept : Change (Option Held) → Option (List ℕ) → Type 0
-FilesKept files None = files.now ≡ files.before
-FilesKept files (Some name) = OthersStay files.before files.now name
+-- all files stay, or all but those of some names
+abbrev pub FilesKept : Change (Option Held) → List (List ℕ) → Type 0
+FilesKept files [] = files.now ≡ files.before
+FilesKept files (name ∷ names) = AllOthersStay files.before files.now (name ∷ names)
 
 -- no file is touched where the status says that no write was come to
 abbrev pub IsUntouched : Change (Option Held) → Status → Type 0
@@ -189,21 +235,34 @@ pub record IsAnswered (asked : Asked) (files : Change (Option Held)) (disk : Cha
     (answer : Result (List ℕ) Status) : Type 0 where
   pub answers : Answers asked files disk answer
   pub borne_out : OnOutput (BearsOut asked files disk) answer
-  pub files_kept : FilesKept files (written_name (request_in asked))
+  pub files_kept : FilesKept files (written_names (request_in asked))
   pub untouched : IsUntouched files (status_of answer)
   pub files_count : files.faults_before ≤ files.faults_now
   pub disk_kept : ¬ MakesKey (request_in asked) → (disk.now ≡ disk.before) × (disk.faults_now ≡ disk.faults_before)
   pub disk_stood : StoodStays disk.before.names disk.now.names
   pub disk_count : disk.faults_before ≤ disk.faults_now
 
--- what came of the command `roster` with these names
-pub record IsRosterRun (files : Change (Option Held)) (toml out : List ℕ) (answer : Result (List ℕ) Status) : Type 0 where
-  pub answers : (toml_file : Option (List ℕ)) × Shows files.before toml toml_file
-      × YieldsBy (TellsFiles (Failed files)) (roster_outcome (within TOML_LIMIT toml_file)) answer
-  pub borne_out : OnOutput (FilesHold files toml out) answer
-  pub others : OthersStay files.before files.now out
+-- What came of a command that reads one file and then writes files of these names: an answer by what it comes to over the
+-- file, and by what bears its output out.
+pub record IsFileRun (files : Change (Option Held)) (input : Input) (outcome : Result (List ℕ) Status → Result (List ℕ) Status)
+    (Bears : List ℕ → Type 0) (names : List (List ℕ)) (answer : Result (List ℕ) Status) : Type 0 where
+  pub answers : (file : Option (List ℕ)) × Shows files.before input.name file
+      × YieldsBy (TellsFiles (Failed files)) (outcome (within input.limit file)) answer
+  pub borne_out : OnOutput Bears answer
+  pub others : AllOthersStay files.before files.now names
   pub untouched : IsUntouched files (status_of answer)
   pub count : files.faults_before ≤ files.faults_now
+
+-- what came of `roster`
+abbrev pub IsRosterRun : Change (Option Held) → (toml out : List ℕ) → Result (List ℕ) Status → Type 0
+IsRosterRun files toml out =
+    IsFileRun files (record { name = toml; limit = TOML_LIMIT }) roster_outcome (FilesHold files toml out) (out ∷ [])
+
+-- what came of `group`
+abbrev pub IsScriptRun : Change (Option Held) → (script roster transcript : List ℕ) → Result (List ℕ) Status → Type 0
+IsScriptRun files script roster transcript =
+    IsFileRun files (record { name = script; limit = SCRIPT_LIMIT }) group_outcome (FilesRun files script roster transcript)
+    (roster ∷ transcript ∷ [])
 
 -- how an answer was printed
 pub record IsPrinted (sink : Change (Option (List ℕ))) (answer : Result (List ℕ) Status) (status : Status) : Type 0 where
@@ -221,17 +280,18 @@ pub record IsRun (asked : Asked) (files : Change (Option Held)) (disk : Change D
   -- and with no fault the whole output is printed
   pub complete : IfSome (expected_in asked files) (IsWhole (FaultOf files disk (request_in asked)) sink status)
   -- Done comes of `judge` only where the files convict, and whoever they convict is not honest; of `show` only where the
-  -- post passes the eight checks; of `keygen` only where the name, under which nothing stood, has the key file of the fresh bytes; and of `roster` only
-  -- where the file of its name now holds the roster that the file in TOML stands for
+  -- post passes the eight checks; of `keygen` only where the name, under which nothing stood, has the key file of the
+  -- fresh bytes; of `roster` only where the file of its name now holds the roster that the file in TOML stands for; and of
+  -- `group` only where the output is what the group of the script comes to, and its roster and the transcript were written
   pub borne_out : status ≡ Done → PrintsOutput (BearsOut asked files disk) sink
   -- what each status of words and faults tells
   pub usage : status ≡ Usage → request_in asked ≡ None
   pub read_fault : status ≡ ReadFault → Failed files ⊎ IsSomeAnd (request_in asked) (Misses files.before)
   pub disk_fault : status ≡ DiskFault → Failed disk
-  pub write_fault : status ≡ WriteFault → Failed sink ⊎ (Failed files × IsSome (written_name (request_in asked)))
-  -- what stays: the files but for the one that `roster` writes, the disk but in `keygen`, and whatever stood on it in
+  pub write_fault : status ≡ WriteFault → Failed sink ⊎ (Failed files × (written_names (request_in asked) ≢ []))
+  -- what stays: the files but for those that `roster` and `group` write, the disk but in `keygen`, and whatever stood on it in
   -- `keygen` too; and no count falls
-  pub files_kept : FilesKept files (written_name (request_in asked))
+  pub files_kept : FilesKept files (written_names (request_in asked))
   pub untouched : IsUntouched files status
   pub disk_kept : ¬ MakesKey (request_in asked) → (disk.now ≡ disk.before) × (disk.faults_now ≡ disk.faults_before)
   pub disk_stood : StoodStays disk.before.names disk.now.names

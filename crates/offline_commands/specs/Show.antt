@@ -11,7 +11,7 @@ use Rattle.signed_post.specs.declared.post.PostRefusal.TheVariants.{Frame, Memor
 use Rattle.transcript_form.specs.Refusals.{Failure}
 use Rattle.signed_post.specs.Frame.{frame_of}
 use Rattle.signed_post.specs.Admission.{check_of, refusal_number, refusal_place}
-use Rattle.offline_commands.specs.Status.{line_of}
+use Rattle.group_report.specs.Report.{line_of}
 
 -- ---- the check of a file
 

@@ -1,4 +1,4 @@
-//! The commands: three that use files alone, and the one that makes a key file.
+//! The commands on rosters, posts and transcripts, and the one that makes a key file.
 ghost use Rattle.std.specs.Prelude.{◌≡◌, ◌⊎◌, ◌≤◌, ◌≢◌, OnOk, IfOk, IfErr, IfSome, IsSomeAnd, Some, Err, length, string_bytes};
 ghost use Rattle.outside.specs.Faults.{Rose};
 ghost use Rattle.outside.specs.Changes.{change_of};
@@ -24,6 +24,9 @@ pub const ROSTER_LIMIT: u32 = 4096;
 
 /// The most bytes of a roster in TOML.
 pub const TOML_LIMIT: u32 = 65_536;
+
+/// The most bytes of a script.
+pub const SCRIPT_LIMIT: u32 = 2_097_152;
 
 /// The most bytes of a transcript.
 pub const TRANSCRIPT_LIMIT: u32 = 134_217_728;
@@ -121,8 +124,8 @@ pub(crate) fn run_keygen<D: Disk>(
     }
 }
 
-// Reads a file that a command names.
-fn read_within<F: Files>(files: &mut F, name: &String, limit: u32) -> Result<Vec<u8>, Status>
+/// Reads a file that a command names.
+pub fn read_within<F: Files>(files: &mut F, name: &String, limit: u32) -> Result<Vec<u8>, Status>
     ensures answer { (file : _) × Shows (F.told files.old) (string_bytes name.now) file
         × Yields (Rose (F.faults files.old) (F.faults files.new)) (within limit file) (answer_bytes result) }
     ensures bounded { IfOk result (λ bytes. length bytes.items ≤ limit) }
@@ -141,8 +144,8 @@ fn read_within<F: Files>(files: &mut F, name: &String, limit: u32) -> Result<Vec
     }
 }
 
-// Writes a file that a command names.
-fn write_whole<F: Files>(files: &mut F, name: &String, bytes: &Vec<u8>) -> Result<(), Status>
+/// Writes a file that a command names.
+pub fn write_whole<F: Files>(files: &mut F, name: &String, bytes: &Vec<u8>) -> Result<(), Status>
     ensures written { OnOk result (HoldsNow (F.told files.old) (F.told files.new) (string_bytes name.now) bytes.now.items) }
     ensures failed { IfErr result (λ status. (status ≡ Status.OutOfMemory)
         ⊎ ((status ≡ Status.WriteFault) × Rose (F.faults files.old) (F.faults files.new))) }

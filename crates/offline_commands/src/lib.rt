@@ -8,12 +8,16 @@ mod host;
 mod interfaces;
 mod memory;
 mod offline;
+mod rounds;
 mod show;
 mod status;
 mod stored;
 mod words;
 
-pub use commands::{POST_FILE_LIMIT, ROSTER_LIMIT, TOML_LIMIT, TRANSCRIPT_LIMIT};
+pub use commands::{
+    POST_FILE_LIMIT, ROSTER_LIMIT, SCRIPT_LIMIT, TOML_LIMIT, TRANSCRIPT_LIMIT, read_within,
+    write_whole,
+};
 pub use delivery::print;
 pub use host::{HostFiles, WriterSink};
 pub use interfaces::{FileRead, FileWrite, Files, Sink, SinkAnswer};

@@ -8,6 +8,7 @@ ghost use Rattle.offline_commands.specs.Promise.{IsAnswered, IsRun};
 use crate::commands::{run_judge, run_keygen, run_roster, run_show};
 use crate::delivery::print;
 use crate::interfaces::{Files, Sink};
+use crate::rounds::{run_group, run_make};
 use crate::status::Status;
 use crate::words::{Command, read_words};
 use crash_disk::Disk;
@@ -63,6 +64,21 @@ fn answer_words<F: Files, D: Disk>(
         Some(Command::Keygen { key, height, width }) => {
             run_keygen(alloc, key, height, width, disk, fresh)
         }
+        Some(
+            Command::Group {
+                script,
+                roster,
+                transcript,
+            },
+        ) => run_group(alloc, script, roster, transcript, files),
+        Some(
+            Command::Make {
+                number,
+                members,
+                bytes,
+                fault,
+            },
+        ) => run_make(alloc, number, members, bytes, fault),
         None => Err(Status::Usage),
     }
 }

@@ -1,0 +1,4 @@
+pub mod PlainWords
+pub mod Requests
+pub mod Rules
+pub mod Walking

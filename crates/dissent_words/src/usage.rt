@@ -1,0 +1,13 @@
+//! How the program is called.
+
+/// The forms of all commands, a line each, for who gave other words.
+pub fn usage_text() -> &'static str {
+    "keygen --key FILE --height 5|10 --width 1|2|4|8\n\
+     roster --toml FILE --out FILE\n\
+     show --roster FILE --round R --post FILE\n\
+     judge --roster FILE --transcript FILE\n\
+     group --script FILE --roster FILE --transcript FILE\n\
+     make --number K --members N --bytes B --fault NAME\n\
+     member --roster FILE --key FILE --round R --message FILE --transcript FILE --wait S ADDRESS..\n\
+     live --script FILE\n"
+}
