@@ -1,9 +1,11 @@
--- Values of another number ask for nothing.
-use Rattle.std.proofs.Common.{◌≡◌, ◌≢◌, ℕ, List, [], ◌∷◌, length, map, None, Option, refl}
-use Rattle.std.proofs.lemmas.List.{length-map}
+-- What words and values ask for.
+use Rattle.std.proofs.Common.{◌≡◌, ◌≢◌, ℕ, List, [], ◌∷◌, length, map, None, Some, Option, Result, refl, ap, sym, subst}
+use Rattle.std.specs.Prelude.{option_and_then}
 use Rattle.std.specs.Borrow.{Bor}
-use Rattle.dissent_words.specs.Request.{Text, Request}
-use Rattle.dissent_words.specs.Forms.{of_one, of_two, of_three, of_four, of_six}
+use Rattle.dissent_words.specs.Request.{Text, Request, Reads, request_of}
+use Rattle.dissent_words.specs.declared.command.Command.{Command}
+use Rattle.dissent_words.specs.declared.refusal.WordsRefusal.{WordsRefusal}
+use Rattle.dissent_words.specs.Forms.{Form, Given, given_by, request_by, of_one, of_two, of_three, of_four, of_six}
 
 abbrev seen : List (Bor Text) → List Text
 seen = map (λ value. value.now)
@@ -46,3 +48,12 @@ other_six request (a ∷ b ∷ c ∷ d ∷ []) other = refl
 other_six request (a ∷ b ∷ c ∷ d ∷ e ∷ []) other = refl
 other_six request (a ∷ b ∷ c ∷ d ∷ e ∷ f ∷ []) other = absurd (other refl)
 other_six request (a ∷ b ∷ c ∷ d ∷ e ∷ f ∷ g ∷ rest) other = refl
+
+-- ---- the words behind a name
+
+pub nothing_asked : (form : Form) (words : List Text) → given_by form.options form.takes_addresses words ≡ None → request_by form words ≡ None
+nothing_asked form words none = ap (option_and_then form.request) none
+
+pub asked : (form : Form) (words : List Text) (given : Given) (result : Result Command WordsRefusal) → given_by form.options form.takes_addresses words ≡ Some given
+    → Reads request_of result (form.request given) → Reads request_of result (request_by form words)
+asked form words given result is reads = subst (λ (r : Option Request). Reads request_of result r) (sym (ap (option_and_then form.request) is)) reads
