@@ -307,11 +307,23 @@ reads_plain form told named uses addresses plain =
 pub plain_words_are_read : PlainWordsAreRead
 plain_words_are_read form uses addresses known plain = All-contains ReadsPlain forms form (All-from_recursion ReadsPlain forms (
   reads_plain keygen_form refl refl,
-  (reads_plain roster_form refl refl,
-  (reads_plain show_form refl refl,
-  (reads_plain judge_form refl refl,
-  (reads_plain group_form refl refl,
-  (reads_plain make_form refl refl,
-  (reads_plain member_form refl refl,
-  (reads_plain live_form refl refl, tt)))))))
+  (
+    reads_plain roster_form refl refl,
+    (
+      reads_plain show_form refl refl,
+      (
+        reads_plain judge_form refl refl,
+        (
+          reads_plain group_form refl refl,
+          (
+            reads_plain make_form refl refl,
+            (
+              reads_plain member_form refl refl,
+              (reads_plain live_form refl refl, tt),
+            ),
+          ),
+        ),
+      ),
+    ),
+  ),
 )) known uses addresses plain

@@ -61,8 +61,10 @@ name_joined o v none =
     ap (λ n. take n (o ++ 61 ∷ v)) at ∙ take-append_seam o (61 ∷ v) in
     let back : drop (prefix_len (λ x. not (x == 61)) (o ++ 61 ∷ v) + 1) (o ++ 61 ∷ v) ≡ v =
     ap (λ n. drop (n + 1) (o ++ 61 ∷ v)) at ∙ past_equals o v in
-    ap (λ b. (take (prefix_len (λ x. not (x == 61)) (o ++ 61 ∷ v)) (o ++ 61 ∷ v),
-    if b then Some (drop (prefix_len (λ x. not (x == 61)) (o ++ 61 ∷ v) + 1) (o ++ 61 ∷ v)) else None)) (has_equals o v)
+    ap (λ b. (
+      take (prefix_len (λ x. not (x == 61)) (o ++ 61 ∷ v)) (o ++ 61 ∷ v),
+      if b then Some (drop (prefix_len (λ x. not (x == 61)) (o ++ 61 ∷ v) + 1) (o ++ 61 ∷ v)) else None,
+    )) (has_equals o v)
     ∙ (λ i. (front i, Some (back i)))
 
 abbrev Split : Type 0
