@@ -9,7 +9,7 @@ use Rattle.member_core.specs.Membership.{HasEnded, IsOpen, IsOutOfMemory, Member
 use Rattle.member_core.specs.Promises.{IsPlainMember}
 use Rattle.round_link.specs.declared.link.LinkAnswer.TheVariants.{Failed as PostFailed, OutOfMemory as PostOutOfMemory}
 use Rattle.round_link.specs.declared.link_call.LinkCall.TheVariants.{Received}
-use Rattle.round_link.specs.Traffic.{Makes, Shown, TakesFirst, TakesNone, Traffic, posts_in, with_call}
+use Rattle.round_link.specs.Traffic.{IsExhausted, Makes, Shown, TakesFirst, TakesNone, Traffic, posts_in, with_call}
 use Rattle.round_link.proofs.Calls.{posts_in-append}
 use Rattle.member_run.specs.declared.run_end.RunEnd.{RunEnd}
 use Rattle.member_run.specs.declared.run_end.RunEnd.TheVariants.{Ended, Waiting, LinkFault, Flooded, OutOfMemory}
@@ -37,19 +37,23 @@ way-begins c delivered frames handed now t u way = (posts_due c (delivered ++ fr
 
 -- ---- with no frame more
 
+no-less : (begun before now : ℕ) → begun ≤ before → before ≤ now → begun ≤ now
+no-less begun before now le more = omega (arith, le, more)
+
 ends-with : {A : Type 0} (replies_of : A → Replies) (b : Begun A) (frames : List (List ℕ)) (m m' : Membership A) (s s' : Shown) (end : RunEnd)
-    → Going replies_of b frames m s → length frames ≤ FRAME_LIMIT → s'.frames ≡ s.frames
+    → Going replies_of b frames m s → length frames ≤ FRAME_LIMIT → s'.frames ≡ s.frames → s.faults ≤ s'.faults
     → EndsSo m'.holds (length frames) b.link s' end → (b.link.ends < s'.ends → end ≡ Waiting) → Comes replies_of m m' end
     → ((c : Configuration) (delivered : List (List ℕ)) → IsPlainMember replies_of c (delivered ++ frames) m
     → IfTold b.link s (OnWay c delivered frames b.member.holds.handed m.holds.handed)
     → IfTold b.link s' (EndsWay end c delivered frames b.member.holds.handed))
     → Ran replies_of b.member m' b.link s' end
-ends-with replies_of b frames m m' s s' end g most counts so at_end comes told = record {
+ends-with replies_of b frames m m' s s' end g most counts rises so at_end comes told = record {
   frames = frames;
   counted = counts ∙ g.counted;
   at_most = most;
   ends = so;
   at_end = at_end;
+  faults = no-less b.link.faults s.faults s'.faults g.faults rises;
   plain = λ c delivered is. (let from = g.plain c delivered is in
       record { member = comes c (delivered ++ frames) from.member; traffic = told c delivered from.member from.traffic });
 }
@@ -96,11 +100,12 @@ end-rose begun before now same is = omega (arith, same, is)
 
 -- a call failed, or memory ran out, and nothing more was told
 pub hindered : {A : Type 0} (replies_of : A → Replies) (b : Begun A) (frames : List (List ℕ)) (m m' : Membership A) (s s' : Shown) (end : RunEnd)
-    → Going replies_of b frames m s → length frames ≤ FRAME_LIMIT → s'.frames ≡ s.frames → s'.ends ≡ s.ends → s'.traffic ≡ s.traffic
+    → Going replies_of b frames m s → length frames ≤ FRAME_LIMIT → s'.frames ≡ s.frames → s'.ends ≡ s.ends → s.faults ≤ s'.faults
+    → s'.traffic ≡ s.traffic
     → IsHindered end → EndsSo m'.holds (length frames) b.link s' end → Comes replies_of m m' end
     → Ran replies_of b.member m' b.link s' end
-hindered replies_of b frames m m' s s' end g most counts ends same is so comes =
-    ends-with replies_of b frames m m' s s' end g most counts so (no-rise b.link.ends s'.ends end (ends ∙ g.ends)) comes
+hindered replies_of b frames m m' s s' end g most counts ends rises same is so comes =
+    ends-with replies_of b frames m m' s s' end g most counts rises so (no-rise b.link.ends s'.ends end (ends ∙ g.ends)) comes
     (λ c delivered plain told. told-on (OnWay c delivered frames b.member.holds.handed m.holds.handed)
     (EndsWay end c delivered frames b.member.holds.handed) b.link.traffic s.traffic s'.traffic
     (λ u e. (u, same ∙ e, λ t way. (way.0, begins-is-enough end _ _ is (way-begins c delivered frames b.member.holds.handed m.holds.handed t u way)))) told)
@@ -110,7 +115,7 @@ pub stops : {A : Type 0} (replies_of : A → Replies) (b : Begun A) (frames : Li
     → Going replies_of b frames m s → length frames ≤ FRAME_LIMIT → IsHandedOut m
     → EndsSo m.holds (length frames) b.link s end → Ran replies_of b.member m b.link s end
 stops replies_of b frames m s end g most all so =
-    ends-with replies_of b frames m m s s end g most refl so (no-rise b.link.ends s.ends end g.ends) (λ c delivered is. inl is)
+    ends-with replies_of b frames m m s s end g most refl (omega arith) so (no-rise b.link.ends s.ends end g.ends) (λ c delivered is. inl is)
     (λ c delivered plain told. told-on (OnWay c delivered frames b.member.holds.handed m.holds.handed)
     (EndsWay end c delivered frames b.member.holds.handed) b.link.traffic s.traffic s.traffic
     (λ u e. (
@@ -125,11 +130,11 @@ stops replies_of b frames m s end g most all so =
 
 -- all posts were handed out, and a `recv` took no frame; it may be untold only where it is one that the link need not tell
 pub received-none : {A : Type 0} (replies_of : A → Replies) (b : Begun A) (frames : List (List ℕ)) (m : Membership A) (s s' : Shown) (end : RunEnd)
-    → Going replies_of b frames m s → length frames ≤ FRAME_LIMIT → IsHandedOut m → s'.frames ≡ s.frames
+    → Going replies_of b frames m s → length frames ≤ FRAME_LIMIT → IsHandedOut m → s'.frames ≡ s.frames → s.faults ≤ s'.faults
     → TakesNone s.traffic s'.traffic ⊎ (s'.traffic ≡ s.traffic)
     → EndsSo m.holds (length frames) b.link s' end → (b.link.ends < s'.ends → end ≡ Waiting) → Ran replies_of b.member m b.link s' end
-received-none replies_of b frames m s s' end g most all counts takes so at_end =
-    ends-with replies_of b frames m m s s' end g most counts so at_end (λ c delivered is. inl is)
+received-none replies_of b frames m s s' end g most all counts rises takes so at_end =
+    ends-with replies_of b frames m m s s' end g most counts rises so at_end (λ c delivered is. inl is)
     (λ c delivered plain told. told-on (OnWay c delivered frames b.member.holds.handed m.holds.handed)
     (EndsWay end c delivered frames b.member.holds.handed) b.link.traffic s.traffic s'.traffic
     (λ u e. step c delivered (none-due replies_of c (delivered ++ frames) m plain all) u e takes) told)
@@ -154,19 +159,28 @@ received-none replies_of b frames m s s' end g most all counts takes so at_end =
       λ t way. (way.0, all-is-enough end _ _ (all-made c delivered frames b.member.holds.handed m.holds.handed t u none way)),
     )
 
+-- where the link had nothing left, nothing is left behind a `recv` that took none
+pub none-left-now : (old now : Option Traffic) → IsExhausted old → TakesNone old now ⊎ (now ≡ old)
+    → IfSome now (λ (traffic : Traffic). traffic.left ≡ [])
+none-left-now None now none (inl is) = subst (λ (o : Option Traffic). IfSome o (λ (traffic : Traffic). traffic.left ≡ [])) (sym is) tt
+none-left-now None now none (inr is) = subst (λ (o : Option Traffic). IfSome o (λ (traffic : Traffic). traffic.left ≡ [])) (sym is) tt
+none-left-now (Some t) now none (inl is) = subst (λ (o : Option Traffic). IfSome o (λ (traffic : Traffic). traffic.left ≡ [])) (sym is) none
+none-left-now (Some t) now none (inr is) = subst (λ (o : Option Traffic). IfSome o (λ (traffic : Traffic). traffic.left ≡ [])) (sym is) none
+
 -- ---- with a frame that the member could not take
 
 pub not-delivered : {A : Type 0} (replies_of : A → Replies) (b : Begun A) (frames : List (List ℕ)) (frame : List ℕ) (m m' : Membership A) (s s' : Shown)
     → Going replies_of b frames m s → length frames < FRAME_LIMIT → IsHandedOut m
-    → TakesFirst s.traffic s'.traffic frame → s'.frames ≡ counted s.frames → s'.ends ≡ s.ends → IsBytes frame
+    → TakesFirst s.traffic s'.traffic frame → s'.frames ≡ counted s.frames → s'.ends ≡ s.ends → s.faults ≤ s'.faults → IsBytes frame
     → IsOutOfMemory m'.holds.ending
     → Ran replies_of b.member m' b.link s' OutOfMemory
-not-delivered replies_of b frames frame m m' s s' g less all takes counts ends are stopped = record {
+not-delivered replies_of b frames frame m m' s s' g less all takes counts ends rises are stopped = record {
   frames = frames ++ frame ∷ [];
   counted = count-more frames frame b.link.frames s.frames s'.frames g.counted counts;
   at_most = omega (arith, one-more frames frame, less);
   ends = tt;
   at_end = no-rise b.link.ends s'.ends OutOfMemory (ends ∙ g.ends);
+  faults = no-less b.link.faults s.faults s'.faults g.faults rises;
   plain = λ c delivered is. (let from = g.plain c delivered is in record {
     member = inr (refl, stopped);
     traffic = told-on (OnWay c delivered frames b.member.holds.handed m.holds.handed)

@@ -1,4 +1,4 @@
-use Rattle.std.proofs.Common.{◌≡◌, refl, inl, inr, sym, ap, ◌∙◌, ℕ, List, Option, Some, Vec, Global}
+use Rattle.std.proofs.Common.{◌≡◌, refl, inl, inr, sym, ap, ◌∙◌, ℕ, ◌≤◌, arith, List, Option, Some, Vec, Global}
 use Rattle.std.specs.Prelude.{option_map}
 use Rattle.member_run.specs.declared.run_end.RunEnd.TheVariants.{LinkFault, OutOfMemory}
 use Rattle.round_spec.specs.Result.{posts_of}
@@ -13,7 +13,7 @@ bytes_of bytes = bytes.items
 
 pub returns-in_default-clause-err : goal.returns-in_default-clause-err
 returns-in_default-clause-err g c = λ b frames most going.
-    hindered _ b frames c.args.member.now c.next_post.new.self _ _ OutOfMemory going most refl refl refl tt tt
+    hindered _ b frames c.args.member.now c.next_post.new.self _ _ OutOfMemory going most refl refl (omega arith) refl tt tt
     (λ d e is. inr (refl, c.in_default.ensures.stopped refl))
 
 pub returns-in_default-next-clause-none : goal.returns-in_default-next-clause-none
@@ -37,12 +37,12 @@ returns-in-Done-clause-one g c = λ e.
 pub returns-in-Failed-clause-err : goal.returns-in-Failed-clause-err
 returns-in-Failed-clause-err g c = λ b frames most going.
     hindered _ b frames c.args.member.now c.next_post.new.self _ _ LinkFault going most c.in-Failed.ensures.frames c.in-Failed.ensures.ends
-    (failed-unmade _ _ c.in-Some.post.items c.in-Failed.ensures.made) tt
+    c.in-Failed.ensures.no_fall (failed-unmade _ _ c.in-Some.post.items c.in-Failed.ensures.made) tt
     (rose-since b.link.faults _ _ going.faults (c.in-Failed.ensures.failed refl))
     (λ d e is. inl (c.in-Ok.ensures.plain_member d e is))
 
 pub returns-clause-err : goal.returns-clause-err
 returns-clause-err g c = λ b frames most going.
     hindered _ b frames c.args.member.now c.next_post.new.self _ _ OutOfMemory going most c.in-OutOfMemory.ensures.frames
-    c.in-OutOfMemory.ensures.ends (memory-unmade _ _ c.in-Some.post.items c.in-OutOfMemory.ensures.made) tt tt
+    c.in-OutOfMemory.ensures.ends c.in-OutOfMemory.ensures.no_fall (memory-unmade _ _ c.in-Some.post.items c.in-OutOfMemory.ensures.made) tt tt
     (λ d e is. inl (c.in-Ok.ensures.plain_member d e is))

@@ -7,7 +7,7 @@ use Rattle.member_run.specs.declared.run_end.RunEnd.{RunEnd}
 use Rattle.member_run.specs.declared.run_end.RunEnd.TheVariants.{Ended, LinkFault, OutOfMemory, Waiting}
 use Rattle.member_run.specs.Ran.{Ran}
 use Rattle.member_run.proofs.Answers.{err-by, ok-by}
-use Rattle.member_run.proofs.Ending.{end-rose, hindered, no-rise, not-delivered, received-none, rose-since, stops}
+use Rattle.member_run.proofs.Ending.{end-rose, hindered, no-rise, none-left-now, not-delivered, received-none, rose-since, stops}
 use Rattle.member_run.proofs.Going.{taken}
 use Rattle.member_run.proofs.run.turn.Goals as goal
 
@@ -38,23 +38,27 @@ returns-in-Frame-clause-err g c =
     (shown_by g.L.Link.faults g.L.Link.frames g.L.Link.ends g.L.Link.told c.recv.new.self) e) (sym stopped.0)
     (not-delivered _ b frames c.in-Frame.frame c.hand_out.new.member c.take.new.member _ _
     (c.in_ok-hand_out.ensures.goes_on b frames going) less c.in_ok-hand_out.ensures.all c.in-Frame.ensures.received
-    c.in-Frame.ensures.frames c.in-Frame.ensures.ends (subst IsBytes frame_is c.take.ensures.bytes) stopped.1)) c.take.ensures.err
+    c.in-Frame.ensures.frames c.in-Frame.ensures.ends c.in-Frame.ensures.no_fall (subst IsBytes frame_is c.take.ensures.bytes) stopped.1)) c.take.ensures.err
 
 pub returns-in-End-clause-err : goal.returns-in-End-clause-err
 returns-in-End-clause-err g c = λ b frames less going.
     let on = c.in_ok-hand_out.ensures.goes_on b frames going in
     received-none _ b frames c.hand_out.new.member _ _ Waiting on (fewer _ _ less) c.in_ok-hand_out.ensures.all c.in-End.ensures.frames
-    c.in-End.ensures.received.1
-    (c.if-has_ended.ensures.open c.in_ok-hand_out.ensures.runs refl, less, end-rose b.link.ends _ _ on.ends c.in-End.ensures.ends) (λ lt. refl)
+    c.in-End.ensures.no_fall c.in-End.ensures.received.1 (
+      c.if-has_ended.ensures.open c.in_ok-hand_out.ensures.runs refl,
+      less,
+      end-rose b.link.ends _ _ on.ends c.in-End.ensures.ends,
+      none-left-now _ _ c.in-End.ensures.received.0 c.in-End.ensures.received.1,
+    ) (λ lt. refl)
 
 pub returns-in-Failed-clause-err : goal.returns-in-Failed-clause-err
 returns-in-Failed-clause-err g c = λ b frames less going.
     let on = c.in_ok-hand_out.ensures.goes_on b frames going in
     received-none _ b frames c.hand_out.new.member _ _ LinkFault on (fewer _ _ less) c.in_ok-hand_out.ensures.all
-    c.in-Failed.ensures.frames (inl c.in-Failed.ensures.received) (rose-since b.link.faults _ _ on.faults (c.in-Failed.ensures.failed refl))
+    c.in-Failed.ensures.frames c.in-Failed.ensures.no_fall (inl c.in-Failed.ensures.received) (rose-since b.link.faults _ _ on.faults (c.in-Failed.ensures.failed refl))
     (no-rise b.link.ends _ LinkFault (c.in-Failed.ensures.ends ∙ on.ends))
 
 pub returns-in-OutOfMemory-clause-err : goal.returns-in-OutOfMemory-clause-err
 returns-in-OutOfMemory-clause-err g c = λ b frames less going.
     hindered _ b frames c.hand_out.new.member c.hand_out.new.member _ _ OutOfMemory (c.in_ok-hand_out.ensures.goes_on b frames going)
-    (fewer _ _ less) c.in-OutOfMemory.ensures.frames c.in-OutOfMemory.ensures.ends c.in-OutOfMemory.ensures.received tt tt (λ d e is. inl is)
+    (fewer _ _ less) c.in-OutOfMemory.ensures.frames c.in-OutOfMemory.ensures.ends c.in-OutOfMemory.ensures.no_fall c.in-OutOfMemory.ensures.received tt tt (λ d e is. inl is)
