@@ -1,5 +1,6 @@
 //! Frames: a length of four bytes, big endian, and as many bytes.
 ghost use Rattle.std.specs.Prelude.{◌≡◌, ◌≤◌, ◌+◌, ◌++◌, IfOk, OnOk, length, take, vec_len};
+ghost use Rattle.std.specs.Int.{to_be_bytes, w32};
 ghost use Rattle.std.specs.Io.KnownBytes.{Appends, Consumes};
 ghost use Rattle.wire_core.specs.Bytes.{prefixed};
 ghost use Rattle.tcp_link.specs.Frames.{Allows, after_frame};
@@ -81,15 +82,22 @@ pub fn read_frame<S: Read>(
     ensures allowed { IfOk result (λ frame. Allows allowance.old.left (vec_len frame.bytes)) }
     ensures charged { IfOk result (λ frame. allowance.new.left ≡ after_frame allowance.old.left (vec_len frame.bytes)) }
 {
-    let mut word = [0u8; 4];
-    stream.read_exact(&mut word)?;
-    let size = u32::from_be_bytes(word);
+    let size = read_size(stream)?;
     if !allowance.spend(size) {
         return Err(FrameEnd::TooMuch);
     }
     let mut piece = vec![in alloc; 0u8; PIECE]?;
     let bytes = read_bytes(alloc, stream, size, piece.as_mut_slice())?;
     Ok(Frame { bytes })
+}
+
+// Reads a length of four bytes.
+fn read_size<S: Read>(stream: &mut S) -> Result<u32, FrameEnd>
+    ensures { IfOk result (λ size. Consumes (S.remaining stream.old) (S.remaining stream.new) (to_be_bytes w32 size)) }
+{
+    let mut word = [0u8; 4];
+    stream.read_exact(&mut word)?;
+    Ok(u32::from_be_bytes(word))
 }
 
 // Reads so many bytes, at most PIECE at a time, by way of `piece`.
