@@ -1,5 +1,6 @@
-//! Three members of a group, each in a thread of its own, over links on the loopback net: each posts two frames. Prints
-//! the frames that each heard, in the order of their bytes, and whether the last to close heard that nothing more comes.
+//! Prints the frames of some bytes, of which one is too long, and of some that are cut. Then three members of a group,
+//! each in a thread of its own, over links on the loopback net: each posts two frames. Prints the frames that each heard,
+//! in the order of their bytes, and whether the last to close heard that nothing more comes.
 #![tactic(auto)]
 
 use anyhow::Result;
@@ -10,7 +11,7 @@ use std::sync::Wait;
 use std::thread::Threads;
 use std::time::Clock;
 use std::{process, thread};
-use tcp_link::TcpLink;
+use tcp_link::{Allowance, TcpLink, read_frame};
 
 // How many frames a member hears of the two others.
 const FRAMES: usize = 4;
@@ -105,8 +106,29 @@ fn show<R: Print>(rt: &R, number: u8, heard: Option<Heard>) -> Result<()> {
     Ok(())
 }
 
+// Prints the lengths of the frames of these bytes, and why no further one comes.
+fn show_frames<R: Print>(rt: &R, alloc: Global, bytes: &[u8]) -> Result<()> {
+    let mut rest = bytes;
+    let mut allowance = Allowance::full();
+    for _ in 0..FRAMES {
+        match read_frame(alloc, &mut rest, &mut allowance) {
+            Ok(frame) => {
+                let length = frame.into_bytes().len();
+                println!(rt; "frame of {length}")?;
+            }
+            Err(end) => {
+                println!(rt; "{end:?}")?;
+                return Ok(());
+            }
+        }
+    }
+    Ok(())
+}
+
 fn main(rt: HostRuntime) -> Result<()> {
     let alloc = rt.alloc();
+    show_frames(&rt, alloc, &[0, 0, 0, 2, 104, 105, 0, 0, 0, 0, 1, 0, 0, 1])?;
+    show_frames(&rt, alloc, &[0, 0, 0, 2, 104])?;
     let process = process::id(rt.process());
     let first = thread::spawn(&rt, move || member(rt, alloc, process, 1))?;
     let second = thread::spawn(&rt, move || member(rt, alloc, process, 2))?;
