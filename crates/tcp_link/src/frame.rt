@@ -97,14 +97,14 @@ fn read_size<S: Read>(stream: &mut S) -> Result<u32, FrameEnd>
 {
     let mut word = [0u8; 4];
     stream.read_exact(&mut word)?;
-    Ok(number_of(&word))
+    Ok(number_of(word))
 }
 
 // The number that these bytes spell.
-fn number_of(word: &[u8; 4]) -> u32
-    ensures { to_be_bytes w32 result ≡ word.now }
+fn number_of(word: [u8; 4]) -> u32
+    ensures { to_be_bytes w32 result ≡ word }
 {
-    u32::from_be_bytes(*word)
+    u32::from_be_bytes(word)
 }
 
 // Reads so many bytes, at most PIECE at a time, by way of `piece`.
