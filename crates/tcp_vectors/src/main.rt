@@ -30,7 +30,10 @@ fn addresses(alloc: Global, process: u32) -> Result<Vec<String>, AllocError> {
 // The next frame as text, or None where the link answers anything else.
 fn next_text<L: Link>(alloc: Global, link: &mut L) -> Result<Option<String>, AllocError> {
     match link.recv() {
-        Arrival::Frame(frame) => Ok(Some(String::from_utf8_lossy(alloc, frame.items().as_slice())?)),
+        Arrival::Frame(frame) => Ok(Some(String::from_utf8_lossy(
+            alloc,
+            frame.items().as_slice(),
+        )?)),
         _ => Ok(None),
     }
 }
@@ -56,12 +59,7 @@ struct Heard {
 }
 
 // Posts two frames and hears those of the others. The last member stays until the link ends.
-fn member<R>(
-    rt: R,
-    alloc: Global,
-    process: u32,
-    number: u8,
-) -> Result<Option<Heard>, AllocError>
+fn member<R>(rt: R, alloc: Global, process: u32, number: u8) -> Result<Option<Heard>, AllocError>
 where
     R: Net<Listener = TcpListener, Stream = TcpStream>
         + Threads
