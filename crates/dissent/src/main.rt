@@ -1,5 +1,5 @@
 //! Dissent: the program. It judges the transcripts that convict the disrupters of a round, shows what a post says, makes
-//! key files, makes the file of a roster from one in TOML, and runs whole groups.
+//! key files, and makes the file of a roster from one in TOML.
 #![tactic(auto)]
 
 #[cfg(test)]
@@ -12,29 +12,14 @@ use offline_commands::{HostFiles, Sink, Status, WriterSink, is_keygen, print, ru
 use rand::TryRng;
 use rand::rngs::SysRng;
 use std::alloc::{AllocError, Global};
-use std::io::Write;
 use std::process::ExitCode;
 use std::random::RandomSource;
 use std::rt::{Env, Runtime};
 use std::thread::Threads;
 use std::{env, io};
 
-// The forms of all commands.
-const FORMS: &str = "dissent judge --roster FILE --transcript FILE
-dissent show --roster FILE --round R --post FILE
-dissent roster --toml FILE --out FILE
-dissent keygen --key FILE --height 5|10 --width 1|2|4|8
-dissent group --script FILE --roster FILE --transcript FILE
-dissent make --number K --members N --bytes B --fault NAME
-";
-
 fn main(rt: HostRuntime) -> ExitCode {
-    let status = run(&rt);
-    if status == Status::Usage {
-        // The forms are for a reader: where they can't be written the status stays.
-        let _ = rt.stderr().write_all(FORMS.as_bytes());
-    }
-    ExitCode::from(status.number())
+    ExitCode::from(run(&rt).number())
 }
 
 // Runs the command that the program was started with.
