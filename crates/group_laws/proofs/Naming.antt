@@ -1,0 +1,161 @@
+-- That the line of an open round names exactly those that are missed.
+use Rattle.std.proofs.Common.{◌≡◌, ℕ, zero, suc, ◌+◌, ◌-◌, ◌*◌, ◌/◌, ◌%◌, ◌^◌, ◌==◌, ◌<◌, ◌≤◌, List, [], ◌∷◌, ◌++◌, length, map, drop, ap, sym, ◌∙◌, refl, subst, arith, inl, inr}
+use Rattle.std.specs.Prelude.{All, AllPairs, Contains, codes, decimal, if◌then◌else◌}
+use Rattle.std.specs.List.{flat_map, join_with_byte, range_with_len, sum_by}
+use Rattle.std.proofs.Math.Nat.{div-div-eq-div-mul, pow-suc, pow-succ'}
+use Rattle.std.proofs.lemmas.Bool.{cases_lt}
+use Rattle.std.proofs.lemmas.Fmt.{decimal_digit}
+use Rattle.std.proofs.lemmas.List.Sums.{sum_by-cons}
+use Rattle.phase_message.proofs.SlotBounds.{slot-bounds}
+use Rattle.round_spec.specs.Say.{shape_in}
+use Rattle.accountability.specs.Naming.{NamesMissed}
+use Rattle.member_spec.specs.declared.state.State.{State}
+use Rattle.member_spec.specs.declared.state.State.TheVariants.{Waiting}
+use Rattle.member_spec.specs.Outcomes.{bits_of}
+use Rattle.member_core.specs.Promises.{KeepsPromise}
+use Rattle.round_script.specs.declared.script.Script.{Script}
+use Rattle.round_script.specs.Script.{IsScript, Rise}
+use Rattle.group_report.specs.Report.{listed, listed_members, listed_to, state_words}
+use Rattle.group_spec.specs.Driver.{MemberShown}
+use Rattle.group_laws.specs.Naming.{BitsListMembers, OpenMembersPrintMissed, numbers_text}
+use Rattle.group_laws.specs.Promises.{config_shown}
+use Rattle.group_laws.proofs.Entering.{members-many}
+use Rattle.group_laws.proofs.Kept.{members_keep_their_promise}
+use Rattle.group_laws.proofs.Served.{all-contained}
+
+-- ---- the bits from a place on
+
+-- the bits of members behind the first i
+abbrev weight : ℕ → List ℕ → ℕ
+weight i members = sum_by (λ member. 2 ^ (member - suc i)) members
+
+rises-from : (a b : ℕ) (xs : List ℕ) → b ≤ a → Rise a 9 xs → Rise b 9 xs
+rises-from a b [] le rise = tt
+rises-from a b (x ∷ xs) le rise = let least = rise.0 in (omega (arith, least, le), rise.1.0, rise.1.1)
+
+halved : (i : ℕ) (xs : List ℕ) → Rise (suc (suc i)) 9 xs → weight i xs ≡ 2 * weight (suc i) xs
+halved i [] rise = refl
+halved i (x ∷ xs) rise =
+    let least = rise.0 in
+    let rest = halved i xs (rises-from (x + 1) (suc (suc i)) xs (omega (arith, least)) rise.1.1) in
+    let exponent : x - suc i ≡ suc (x - suc (suc i)) = omega (arith, least) in
+    let here : 2 ^ (x - suc i) ≡ 2 * 2 ^ (x - suc (suc i)) = ap (λ (e : ℕ). 2 ^ e) exponent ∙ pow-succ' 2 (x - suc (suc i)) in
+    let first = sum_by-cons (λ (member : ℕ). 2 ^ (member - suc i)) x xs in
+    let second = sum_by-cons (λ (member : ℕ). 2 ^ (member - suc (suc i))) x xs in
+    omega (arith, rest, here, first, second)
+
+next-quotient : (bits i : ℕ) → bits / 2 ^ suc i ≡ bits / 2 ^ i / 2
+next-quotient bits i = ap (λ (n : ℕ). bits / n) (pow-suc 2 i) ∙ sym (div-div-eq-div-mul bits (2 ^ i) 2)
+
+-- ---- who is listed
+
+is-listed : (bits i : ℕ) → bits / 2 ^ i % 2 ≡ 1 → listed bits (suc i) ≡ 44 ∷ (48 + suc i) ∷ []
+unfolding listed
+is-listed bits i odd = ap (λ (r : ℕ). if r == 1 then 44 ∷ (48 + suc i) ∷ [] else []) odd
+
+is-left-out : (bits i : ℕ) → bits / 2 ^ i % 2 ≡ 0 → listed bits (suc i) ≡ []
+unfolding listed
+is-left-out bits i even = ap (λ (r : ℕ). if r == 1 then 44 ∷ (48 + suc i) ∷ [] else []) even
+
+abbrev digit_of : ℕ → List ℕ
+digit_of member = 44 ∷ (48 + member) ∷ []
+
+next-place : (bits i n : ℕ) → flat_map (listed bits) (range_with_len (suc i) (suc n))
+    ≡ listed bits (suc i) ++ flat_map (listed bits) (range_with_len (suc (suc i)) n)
+next-place bits i n =
+    let next : suc i + 1 ≡ suc (suc i) = omega arith in
+    ap (λ (a : ℕ). listed bits (suc i) ++ flat_map (listed bits) (range_with_len a n)) next
+
+listed-from : (n i bits : ℕ) (xs : List ℕ) → i + n ≡ 8 → Rise (suc i) 9 xs → bits / 2 ^ i ≡ weight i xs →
+    flat_map (listed bits) (range_with_len (suc i) n) ≡ flat_map digit_of xs
+listed-from zero i bits [] all rise is = refl
+listed-from zero i bits (x ∷ xs) all rise is = let least = rise.0 in let most = rise.1.0 in absurd (omega (arith, all, least, most))
+listed-from (suc n) i bits xs all rise is = by_first xs rise is
+  where
+    passed : (ys : List ℕ) → Rise (suc (suc i)) 9 ys → bits / 2 ^ i ≡ weight i ys →
+        flat_map (listed bits) (range_with_len (suc i) (suc n)) ≡ flat_map digit_of ys
+    passed ys later same =
+        let twice = halved i ys later in
+        let next = next-quotient bits i in
+        next-place bits i n
+        ∙ ap (λ (s : List ℕ). s ++ flat_map (listed bits) (range_with_len (suc (suc i)) n)) (is-left-out bits i (omega (arith, same, twice)))
+        ∙ listed-from n (suc i) bits ys (omega (arith, all)) later (omega (arith, next, same, twice))
+
+    taken : (ys : List ℕ) → Rise (suc (suc i)) 9 ys → bits / 2 ^ i ≡ 1 + weight i ys →
+        flat_map (listed bits) (range_with_len (suc i) (suc n)) ≡ flat_map digit_of (suc i ∷ ys)
+    taken ys later same =
+        let twice = halved i ys later in
+        let next = next-quotient bits i in
+        next-place bits i n
+        ∙ ap (λ (s : List ℕ). s ++ flat_map (listed bits) (range_with_len (suc (suc i)) n)) (is-listed bits i (omega (arith, same, twice)))
+        ∙ ap (λ (s : List ℕ). digit_of (suc i) ++ s)
+        (listed-from n (suc i) bits ys (omega (arith, all)) later (omega (arith, next, same, twice)))
+
+    by_first : (ys : List ℕ) → Rise (suc i) 9 ys → bits / 2 ^ i ≡ weight i ys →
+        flat_map (listed bits) (range_with_len (suc i) (suc n)) ≡ flat_map digit_of ys
+    by_first [] later same = passed [] tt same
+    by_first (y ∷ ys) later same = elim (cases_lt (suc i) y) [
+      | inl behind ↦ passed (y ∷ ys) (omega arith, later.1.0, later.1.1) same
+      | inr now ↦
+          let least = later.0 in
+          let here : y ≡ suc i = omega (arith, least) in
+          let power : 2 ^ (y - suc i) ≡ 1 = ap (λ (e : ℕ). 2 ^ e) (let none : y - suc i ≡ 0 = omega (arith, here) in none) in
+          let sum = sum_by-cons (λ (member : ℕ). 2 ^ (member - suc i)) y ys in
+          taken ys (rises-from (y + 1) (suc (suc i)) ys (omega (arith, here)) later.1.1) (omega (arith, same, sum, power))
+          ∙ ap (λ (m : ℕ). flat_map digit_of (m ∷ ys)) (sym here)
+    ]
+
+-- ---- the text
+
+commas : (a x : ℕ) (xs : List ℕ) → Rise a 9 (x ∷ xs) → flat_map digit_of (x ∷ xs) ≡ 44 ∷ numbers_text (x ∷ xs)
+commas a x [] rise =
+    let most = rise.1.0 in
+    ap (λ (d : List ℕ). 44 ∷ d) (sym (decimal_digit x (omega (arith, most))))
+commas a x (y ∷ ys) rise =
+    let most = rise.1.0 in
+    ap (λ (s : List ℕ). 44 ∷ (48 + x) ∷ s) (commas (x + 1) y ys rise.1.1)
+    ∙ ap (λ (d : List ℕ). 44 ∷ (d ++ (44 ∷ numbers_text (y ∷ ys)))) (sym (decimal_digit x (omega (arith, most))))
+
+text-is : (xs : List ℕ) → Rise 1 9 xs → drop 1 (flat_map digit_of xs) ≡ numbers_text xs
+text-is [] rise = refl
+text-is (x ∷ xs) rise = ap (λ (s : List ℕ). drop 1 s) (commas 1 x xs rise)
+
+rise-by-pairs : (a : ℕ) (xs : List ℕ) → AllPairs (λ member later. member < later) xs → All (λ member. (1 ≤ member) × (member ≤ 8)) xs →
+    All (λ member. a ≤ member) xs → Rise a 9 xs
+rise-by-pairs a [] pairs within above = tt
+rise-by-pairs a (x ∷ xs) pairs within above =
+    let most = (within 0 x (omega arith)).1 in
+    (above 0 x (omega arith), omega (arith, most), rise-by-pairs (x + 1) xs
+    (λ i j d lt inside. pairs (suc i) (suc j) d (omega (arith, lt)) (omega (arith, inside)))
+    (λ k d inside. within (suc k) d (omega (arith, inside)))
+    (λ k d inside. (let later = pairs 0 (suc k) d (omega arith) (omega (arith, inside)) in omega (arith, later))))
+
+pub bits_list_members : BitsListMembers
+unfolding listed_to
+bits_list_members members pairs within =
+    let rise = rise-by-pairs 1 members pairs within (λ k d inside. (within k d inside).0) in
+    let whole : bits_of members / 2 ^ 0 ≡ weight 0 members = omega arith in
+    ap (λ (s : List ℕ). drop 1 s) (listed-from 8 0 (bits_of members) members refl rise whole) ∙ text-is members rise
+
+-- ---- an open member
+
+pub open_members_print_missed : OpenMembersPrintMissed
+open_members_print_missed script shown stage bits is in_it open =
+    let keeps = members_keep_their_promise script shown is in_it in
+    let waits = subst (KeepsPromise (config_shown script shown) shown.delivered) open keeps.promise in
+    let many = members-many script in
+    let most = is.most in
+    let within : All (λ member. (1 ≤ member) × (member ≤ 8)) waits.named
+    = all-contained (λ member. (1 ≤ member) × (member ≤ 8)) waits.named (λ member there. (
+        let missed = (waits.names.missed member).0 there in
+        let bounds = slot-bounds (shape_in (config_shown script shown)) stage member missed.speaks in
+        let least = bounds.1.0 in
+        let last = bounds.1.1 in
+        (least, omega (arith, last, many, most)))) in
+    record {
+      named = waits.named;
+      missed = waits.names;
+      words = ap state_words open ∙ ap (λ (b : ℕ). state_words (Waiting stage b)) waits.bits_are
+          ∙ ap (λ (s : List ℕ). codes "open stage " ++ decimal stage ++ codes " missing " ++ s)
+          (bits_list_members waits.named waits.names.ascending within);
+    }
