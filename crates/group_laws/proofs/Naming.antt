@@ -31,13 +31,13 @@ weight i members = sum_by (λ member. 2 ^ (member - suc i)) members
 
 rises-from : (a b : ℕ) (xs : List ℕ) → b ≤ a → Rise a 9 xs → Rise b 9 xs
 rises-from a b [] le rise = tt
-rises-from a b (x ∷ xs) le rise = let least = rise.0 in (omega (arith, least, le), rise.1.0, rise.1.1)
+rises-from a b (x ∷ xs) le rise = let least = rise.0 in (omega (arith, least, le), rise.1, rise.2)
 
 halved : (i : ℕ) (xs : List ℕ) → Rise (suc (suc i)) 9 xs → weight i xs ≡ 2 * weight (suc i) xs
 halved i [] rise = refl
 halved i (x ∷ xs) rise =
     let least = rise.0 in
-    let rest = halved i xs (rises-from (x + 1) (suc (suc i)) xs (omega (arith, least)) rise.1.1) in
+    let rest = halved i xs (rises-from (x + 1) (suc (suc i)) xs (omega (arith, least)) rise.2) in
     let exponent : x - suc i ≡ suc (x - suc (suc i)) = omega (arith, least) in
     let here : 2 ^ (x - suc i) ≡ 2 * 2 ^ (x - suc (suc i)) = ap (λ (e : ℕ). 2 ^ e) exponent ∙ pow-succ' 2 (x - suc (suc i)) in
     let first = sum_by-cons (λ (member : ℕ). 2 ^ (member - suc i)) x xs in
@@ -49,13 +49,16 @@ next-quotient bits i = ap (λ (n : ℕ). bits / n) (pow-suc 2 i) ∙ sym (div-di
 
 -- ---- who is listed
 
+bit-of : (bits i : ℕ) → bits / 2 ^ (suc i - 1) % 2 ≡ bits / 2 ^ i % 2
+bit-of bits i = let same : suc i - 1 ≡ i = omega arith in ap (λ (e : ℕ). bits / 2 ^ e % 2) same
+
 is-listed : (bits i : ℕ) → bits / 2 ^ i % 2 ≡ 1 → listed bits (suc i) ≡ 44 ∷ (48 + suc i) ∷ []
 unfolding listed
-is-listed bits i odd = ap (λ (r : ℕ). if r == 1 then 44 ∷ (48 + suc i) ∷ [] else []) odd
+is-listed bits i odd = ap (λ (r : ℕ). if r == 1 then 44 ∷ (48 + suc i) ∷ [] else []) (bit-of bits i ∙ odd)
 
 is-left-out : (bits i : ℕ) → bits / 2 ^ i % 2 ≡ 0 → listed bits (suc i) ≡ []
 unfolding listed
-is-left-out bits i even = ap (λ (r : ℕ). if r == 1 then 44 ∷ (48 + suc i) ∷ [] else []) even
+is-left-out bits i even = ap (λ (r : ℕ). if r == 1 then 44 ∷ (48 + suc i) ∷ [] else []) (bit-of bits i ∙ even)
 
 abbrev digit_of : ℕ → List ℕ
 digit_of member = 44 ∷ (48 + member) ∷ []
@@ -66,54 +69,59 @@ next-place bits i n =
     let next : suc i + 1 ≡ suc (suc i) = omega arith in
     ap (λ (a : ℕ). listed bits (suc i) ++ flat_map (listed bits) (range_with_len a n)) next
 
-listed-from : (n i bits : ℕ) (xs : List ℕ) → i + n ≡ 8 → Rise (suc i) 9 xs → bits / 2 ^ i ≡ weight i xs →
-    flat_map (listed bits) (range_with_len (suc i) n) ≡ flat_map digit_of xs
+-- what is listed of the places from here on, and of those behind
+abbrev ListsFrom : ℕ → ℕ → ℕ → List ℕ → Type 0
+ListsFrom n i bits xs = flat_map (listed bits) (range_with_len (suc i) n) ≡ flat_map digit_of xs
+
+abbrev ListsBehind : ℕ → ℕ → ℕ → Type 0
+ListsBehind n i bits = (xs : List ℕ) → Rise (suc (suc i)) 9 xs → bits / 2 ^ suc i ≡ weight (suc i) xs → ListsFrom n (suc i) bits xs
+
+passed : (n i bits : ℕ) (xs : List ℕ) → ListsBehind n i bits → Rise (suc (suc i)) 9 xs → bits / 2 ^ i ≡ weight i xs → ListsFrom (suc n) i bits xs
+passed n i bits xs behind rise is =
+    let twice = halved i xs rise in
+    let next = next-quotient bits i in
+    next-place bits i n
+    ∙ ap (λ (s : List ℕ). s ++ flat_map (listed bits) (range_with_len (suc (suc i)) n)) (is-left-out bits i (omega (arith, is, twice)))
+    ∙ behind xs rise (omega (arith, next, is, twice))
+
+taken : (n i bits : ℕ) (xs : List ℕ) → ListsBehind n i bits → Rise (suc (suc i)) 9 xs → bits / 2 ^ i ≡ 1 + weight i xs →
+    ListsFrom (suc n) i bits (suc i ∷ xs)
+taken n i bits xs behind rise is =
+    let twice = halved i xs rise in
+    let next = next-quotient bits i in
+    next-place bits i n
+    ∙ ap (λ (s : List ℕ). s ++ flat_map (listed bits) (range_with_len (suc (suc i)) n)) (is-listed bits i (omega (arith, is, twice)))
+    ∙ ap (λ (s : List ℕ). digit_of (suc i) ++ s) (behind xs rise (omega (arith, next, is, twice)))
+
+one-place : (n i bits : ℕ) (xs : List ℕ) → ListsBehind n i bits → Rise (suc i) 9 xs → bits / 2 ^ i ≡ weight i xs → ListsFrom (suc n) i bits xs
+one-place n i bits [] behind rise is = passed n i bits [] behind tt is
+one-place n i bits (x ∷ xs) behind rise is = elim (cases_lt (suc i) x) [
+  | inl later ↦ passed n i bits (x ∷ xs) behind (omega (arith, later), rise.1, rise.2) is
+  | inr now ↦
+      let least = rise.0 in
+      let here : x ≡ suc i = omega (arith, least, now) in
+      let none : x - suc i ≡ 0 = omega (arith, here) in
+      let power : 2 ^ (x - suc i) ≡ 1 = ap (λ (e : ℕ). 2 ^ e) none in
+      let sum = sum_by-cons (λ (member : ℕ). 2 ^ (member - suc i)) x xs in
+      taken n i bits xs behind (rises-from (x + 1) (suc (suc i)) xs (omega (arith, here)) rise.2) (omega (arith, is, sum, power))
+      ∙ ap (λ (m : ℕ). flat_map digit_of (m ∷ xs)) (sym here)
+]
+
+listed-from : (n i bits : ℕ) (xs : List ℕ) → i + n ≡ 8 → Rise (suc i) 9 xs → bits / 2 ^ i ≡ weight i xs → ListsFrom n i bits xs
 listed-from zero i bits [] all rise is = refl
-listed-from zero i bits (x ∷ xs) all rise is = let least = rise.0 in let most = rise.1.0 in absurd (omega (arith, all, least, most))
-listed-from (suc n) i bits xs all rise is = by_first xs rise is
-  where
-    passed : (ys : List ℕ) → Rise (suc (suc i)) 9 ys → bits / 2 ^ i ≡ weight i ys →
-        flat_map (listed bits) (range_with_len (suc i) (suc n)) ≡ flat_map digit_of ys
-    passed ys later same =
-        let twice = halved i ys later in
-        let next = next-quotient bits i in
-        next-place bits i n
-        ∙ ap (λ (s : List ℕ). s ++ flat_map (listed bits) (range_with_len (suc (suc i)) n)) (is-left-out bits i (omega (arith, same, twice)))
-        ∙ listed-from n (suc i) bits ys (omega (arith, all)) later (omega (arith, next, same, twice))
-
-    taken : (ys : List ℕ) → Rise (suc (suc i)) 9 ys → bits / 2 ^ i ≡ 1 + weight i ys →
-        flat_map (listed bits) (range_with_len (suc i) (suc n)) ≡ flat_map digit_of (suc i ∷ ys)
-    taken ys later same =
-        let twice = halved i ys later in
-        let next = next-quotient bits i in
-        next-place bits i n
-        ∙ ap (λ (s : List ℕ). s ++ flat_map (listed bits) (range_with_len (suc (suc i)) n)) (is-listed bits i (omega (arith, same, twice)))
-        ∙ ap (λ (s : List ℕ). digit_of (suc i) ++ s)
-        (listed-from n (suc i) bits ys (omega (arith, all)) later (omega (arith, next, same, twice)))
-
-    by_first : (ys : List ℕ) → Rise (suc i) 9 ys → bits / 2 ^ i ≡ weight i ys →
-        flat_map (listed bits) (range_with_len (suc i) (suc n)) ≡ flat_map digit_of ys
-    by_first [] later same = passed [] tt same
-    by_first (y ∷ ys) later same = elim (cases_lt (suc i) y) [
-      | inl behind ↦ passed (y ∷ ys) (omega arith, later.1.0, later.1.1) same
-      | inr now ↦
-          let least = later.0 in
-          let here : y ≡ suc i = omega (arith, least) in
-          let power : 2 ^ (y - suc i) ≡ 1 = ap (λ (e : ℕ). 2 ^ e) (let none : y - suc i ≡ 0 = omega (arith, here) in none) in
-          let sum = sum_by-cons (λ (member : ℕ). 2 ^ (member - suc i)) y ys in
-          taken ys (rises-from (y + 1) (suc (suc i)) ys (omega (arith, here)) later.1.1) (omega (arith, same, sum, power))
-          ∙ ap (λ (m : ℕ). flat_map digit_of (m ∷ ys)) (sym here)
-    ]
+listed-from zero i bits (x ∷ xs) all rise is = let least = rise.0 in let most = rise.1 in absurd (omega (arith, all, least, most))
+listed-from (suc n) i bits xs all rise is =
+    one-place n i bits xs (λ ys later same. listed-from n (suc i) bits ys (omega (arith, all)) later same) rise is
 
 -- ---- the text
 
 commas : (a x : ℕ) (xs : List ℕ) → Rise a 9 (x ∷ xs) → flat_map digit_of (x ∷ xs) ≡ 44 ∷ numbers_text (x ∷ xs)
 commas a x [] rise =
-    let most = rise.1.0 in
+    let most = rise.1 in
     ap (λ (d : List ℕ). 44 ∷ d) (sym (decimal_digit x (omega (arith, most))))
 commas a x (y ∷ ys) rise =
-    let most = rise.1.0 in
-    ap (λ (s : List ℕ). 44 ∷ (48 + x) ∷ s) (commas (x + 1) y ys rise.1.1)
+    let most = rise.1 in
+    ap (λ (s : List ℕ). 44 ∷ (48 + x) ∷ s) (commas (x + 1) y ys rise.2)
     ∙ ap (λ (d : List ℕ). 44 ∷ (d ++ (44 ∷ numbers_text (y ∷ ys)))) (sym (decimal_digit x (omega (arith, most))))
 
 text-is : (xs : List ℕ) → Rise 1 9 xs → drop 1 (flat_map digit_of xs) ≡ numbers_text xs
@@ -149,8 +157,8 @@ open_members_print_missed script shown stage bits is in_it open =
     = all-contained (λ member. (1 ≤ member) × (member ≤ 8)) waits.named (λ member there. (
         let missed = (waits.names.missed member).0 there in
         let bounds = slot-bounds (shape_in (config_shown script shown)) stage member missed.speaks in
-        let least = bounds.1.0 in
-        let last = bounds.1.1 in
+        let least = bounds.1 in
+        let last = bounds.2 in
         (least, omega (arith, last, many, most)))) in
     record {
       named = waits.named;

@@ -1,5 +1,5 @@
 -- Whom the line of a member names while its round is open.
-use Rattle.std.specs.Prelude.{◌≡◌, ℕ, ◌<◌, ◌≤◌, ◌×◌, ◌++◌, List, All, AllPairs, codes, decimal, map}
+use Rattle.std.specs.Prelude.{◌≡◌, ℕ, ◌<◌, ◌≤◌, ◌++◌, List, All, AllPairs, codes, decimal, map}
 use Rattle.std.specs.List.{join_with_byte}
 use Rattle.accountability.specs.Naming.{NamesMissed}
 use Rattle.member_spec.specs.declared.state.State.TheVariants.{Waiting}
