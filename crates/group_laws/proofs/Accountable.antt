@@ -13,7 +13,7 @@ is_accountable script form = record {
   members = members_are_shown script form;
   faults = λ shown listed. faults_are_shown script shown form listed;
   promise = λ shown honest. members_keep_their_promise script shown form honest;
-  names = λ shown stage bits honest open. open_members_print_missed script shown stage bits form honest open;
+  names = λ shown stage bits honest waiting. open_members_print_missed script shown stage bits form honest waiting;
   messages = λ distinct shown slots honest shows. honest_members_are_served script shown slots form distinct honest shows;
   faulty = λ shown bytes accused claim distinct honest shows blames.
       blamed_are_faulty script shown bytes accused claim form distinct honest shows blames;

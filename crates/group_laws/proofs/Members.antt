@@ -1,8 +1,8 @@
 -- That the members of a script are shown, each with its fault.
 use Rattle.std.proofs.Common.{◌≡◌, ℕ, List, ap, sym, ◌∙◌, refl, subst}
 use Rattle.round_script.specs.declared.script.Script.{Script}
-use Rattle.group_spec.specs.Driver.{MemberShown, group_end, is_faulty, shown_of}
-use Rattle.group_spec.specs.Scripts.{fault_in, script_end}
+use Rattle.group_spec.specs.Driver.{MemberShown, group_end, shown_of}
+use Rattle.group_spec.specs.Scripts.{script_end}
 use Rattle.group_spec.specs.World.{Seat}
 use Rattle.group_laws.specs.Members.{FaultsAreShown, IsFaultyAsSaid, MembersAreShown}
 use Rattle.group_laws.proofs.Kept.{seat_with}
@@ -19,7 +19,8 @@ members_are_shown script is =
     mapped-mapped (λ (shown : MemberShown). shown.number) shown_of (λ (seat : Seat). seat.config.number) (last_seats script) shown-number
     ∙ numbers-are script is
 
-seat-faulty : (script : Script) (member : ℕ) (delivered : List (List ℕ)) → IsFaultyAsSaid script (shown_of (seat_with script member delivered))
+seat-faulty : (script : Script) (member : ℕ) (delivered : List (List ℕ)) →
+    IsFaultyAsSaid script (shown_of (seat_with script member delivered))
 unfolding shown_of
 seat-faulty script member delivered = refl
 

@@ -1,21 +1,20 @@
 -- That the line of an open round names exactly those that are missed.
-use Rattle.std.proofs.Common.{◌≡◌, ℕ, zero, suc, ◌+◌, ◌-◌, ◌*◌, ◌/◌, ◌%◌, ◌^◌, ◌==◌, ◌<◌, ◌≤◌, List, [], ◌∷◌, ◌++◌, length, map, drop, ap, sym, ◌∙◌, refl, subst, arith, inl, inr}
-use Rattle.std.specs.Prelude.{All, AllPairs, Contains, codes, decimal, if◌then◌else◌}
-use Rattle.std.specs.List.{flat_map, join_with_byte, range_with_len, sum_by}
+use Rattle.std.proofs.Common.{◌≡◌, ℕ, zero, suc, ◌+◌, ◌-◌, ◌*◌, ◌/◌, ◌%◌, ◌^◌, ◌==◌, ◌<◌, ◌≤◌, List, [], ◌∷◌, ◌++◌, drop, ap, sym, ◌∙◌, refl, subst, arith, inl, inr}
+use Rattle.std.specs.Prelude.{All, AllPairs, codes, decimal, if◌then◌else◌}
+use Rattle.std.specs.List.{flat_map, range_with_len, sum_by}
 use Rattle.std.proofs.Math.Nat.{div-div-eq-div-mul, pow-suc, pow-succ'}
 use Rattle.std.proofs.lemmas.Bool.{cases_lt}
 use Rattle.std.proofs.lemmas.Fmt.{decimal_digit}
 use Rattle.std.proofs.lemmas.List.Sums.{sum_by-cons}
 use Rattle.phase_message.proofs.SlotBounds.{slot-bounds}
 use Rattle.round_spec.specs.Say.{shape_in}
-use Rattle.accountability.specs.Naming.{NamesMissed}
-use Rattle.member_spec.specs.declared.state.State.{State}
+use Rattle.accountability.specs.Naming.{IsMissed}
 use Rattle.member_spec.specs.declared.state.State.TheVariants.{Waiting}
 use Rattle.member_spec.specs.Outcomes.{bits_of}
 use Rattle.member_core.specs.Promises.{KeepsPromise}
 use Rattle.round_script.specs.declared.script.Script.{Script}
 use Rattle.round_script.specs.Script.{IsScript, Rise}
-use Rattle.group_report.specs.Report.{listed, listed_members, listed_to, state_words}
+use Rattle.group_report.specs.Report.{listed, listed_to, state_words}
 use Rattle.group_spec.specs.Driver.{MemberShown}
 use Rattle.group_laws.specs.Naming.{BitsListMembers, OpenMembersPrintMissed, numbers_text}
 use Rattle.group_laws.specs.Promises.{config_shown}
@@ -76,7 +75,8 @@ ListsFrom n i bits xs = flat_map (listed bits) (range_with_len (suc i) n) ≡ fl
 abbrev ListsBehind : ℕ → ℕ → ℕ → Type 0
 ListsBehind n i bits = (xs : List ℕ) → Rise (suc (suc i)) 9 xs → bits / 2 ^ suc i ≡ weight (suc i) xs → ListsFrom n (suc i) bits xs
 
-passed : (n i bits : ℕ) (xs : List ℕ) → ListsBehind n i bits → Rise (suc (suc i)) 9 xs → bits / 2 ^ i ≡ weight i xs → ListsFrom (suc n) i bits xs
+passed : (n i bits : ℕ) (xs : List ℕ) → ListsBehind n i bits → Rise (suc (suc i)) 9 xs → bits / 2 ^ i ≡ weight i xs →
+    ListsFrom (suc n) i bits xs
 passed n i bits xs behind rise is =
     let twice = halved i xs rise in
     let next = next-quotient bits i in
@@ -93,7 +93,8 @@ taken n i bits xs behind rise is =
     ∙ ap (λ (s : List ℕ). s ++ flat_map (listed bits) (range_with_len (suc (suc i)) n)) (is-listed bits i (omega (arith, is, twice)))
     ∙ ap (λ (s : List ℕ). digit_of (suc i) ++ s) (behind xs rise (omega (arith, next, is, twice)))
 
-one-place : (n i bits : ℕ) (xs : List ℕ) → ListsBehind n i bits → Rise (suc i) 9 xs → bits / 2 ^ i ≡ weight i xs → ListsFrom (suc n) i bits xs
+one-place : (n i bits : ℕ) (xs : List ℕ) → ListsBehind n i bits → Rise (suc i) 9 xs → bits / 2 ^ i ≡ weight i xs →
+    ListsFrom (suc n) i bits xs
 one-place n i bits [] behind rise is = passed n i bits [] behind tt is
 one-place n i bits (x ∷ xs) behind rise is = elim (cases_lt (suc i) x) [
   | inl later ↦ passed n i bits (x ∷ xs) behind (omega (arith, later), rise.1, rise.2) is
@@ -132,11 +133,14 @@ rise-by-pairs : (a : ℕ) (xs : List ℕ) → AllPairs (λ member later. member 
     All (λ member. a ≤ member) xs → Rise a 9 xs
 rise-by-pairs a [] pairs within above = tt
 rise-by-pairs a (x ∷ xs) pairs within above =
-    let most = (within 0 x (omega arith)).1 in
-    (above 0 x (omega arith), omega (arith, most), rise-by-pairs (x + 1) xs
-    (λ i j d lt inside. pairs (suc i) (suc j) d (omega (arith, lt)) (omega (arith, inside)))
-    (λ k d inside. within (suc k) d (omega (arith, inside)))
-    (λ k d inside. (let later = pairs 0 (suc k) d (omega arith) (omega (arith, inside)) in omega (arith, later))))
+    let most = (within 0 x (omega arith)).1 in (
+      above 0 x (omega arith),
+      omega (arith, most),
+      rise-by-pairs (x + 1) xs
+          (λ i j d lt inside. pairs (suc i) (suc j) d (omega (arith, lt)) (omega (arith, inside)))
+          (λ k d inside. within (suc k) d (omega (arith, inside)))
+          (λ k d inside. (let later = pairs 0 (suc k) d (omega arith) (omega (arith, inside)) in omega (arith, later))),
+    )
 
 pub bits_list_members : BitsListMembers
 unfolding listed_to
@@ -147,23 +151,27 @@ bits_list_members members pairs within =
 
 -- ---- an open member
 
-pub open_members_print_missed : OpenMembersPrintMissed
-open_members_print_missed script shown stage bits is in_it open =
-    let keeps = members_keep_their_promise script shown is in_it in
-    let waits = subst (KeepsPromise (config_shown script shown) shown.delivered) open keeps.promise in
+-- a member that is missed is one of the script's
+missed-within : (script : Script) (shown : MemberShown) (stage member : ℕ) → IsScript script →
+    IsMissed (config_shown script shown) shown.delivered stage member → (1 ≤ member) × (member ≤ 8)
+missed-within script shown stage member is missed =
+    let bounds = slot-bounds (shape_in (config_shown script shown)) stage member missed.speaks in
+    let last = bounds.2 in
     let many = members-many script in
     let most = is.most in
+    (bounds.1, omega (arith, last, many, most))
+
+pub open_members_print_missed : OpenMembersPrintMissed
+open_members_print_missed script shown stage bits is in_it waiting =
+    let keeps = members_keep_their_promise script shown is in_it in
+    let waits = subst (KeepsPromise (config_shown script shown) shown.delivered) waiting keeps.promise in
     let within : All (λ member. (1 ≤ member) × (member ≤ 8)) waits.named
-    = all-contained (λ member. (1 ≤ member) × (member ≤ 8)) waits.named (λ member there. (
-        let missed = (waits.names.missed member).0 there in
-        let bounds = slot-bounds (shape_in (config_shown script shown)) stage member missed.speaks in
-        let least = bounds.1 in
-        let last = bounds.2 in
-        (least, omega (arith, last, many, most)))) in
+    = all-contained (λ member. (1 ≤ member) × (member ≤ 8)) waits.named
+    (λ member there. missed-within script shown stage member is ((waits.names.missed member).0 there)) in
     record {
       named = waits.named;
       missed = waits.names;
-      words = ap state_words open ∙ ap (λ (b : ℕ). state_words (Waiting stage b)) waits.bits_are
+      words = ap state_words waiting ∙ ap (λ (b : ℕ). state_words (Waiting stage b)) waits.bits_are
           ∙ ap (λ (s : List ℕ). codes "open stage " ++ decimal stage ++ codes " missing " ++ s)
           (bits_list_members waits.named waits.names.ascending within);
     }

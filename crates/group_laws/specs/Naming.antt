@@ -16,8 +16,8 @@ numbers_text members = join_with_byte 44 (map decimal members)
 
 -- of ascending members from 1 to 8 the bits list just these
 abbrev pub BitsListMembers : Type 0
-BitsListMembers = (members : List ℕ) → AllPairs (λ member later. member < later) members → All (λ member. (1 ≤ member) × (member ≤ 8)) members →
-    listed_members (bits_of members) ≡ numbers_text members
+BitsListMembers = (members : List ℕ) → AllPairs (λ member later. member < later) members →
+    All (λ member. (1 ≤ member) × (member ≤ 8)) members → listed_members (bits_of members) ≡ numbers_text members
 
 -- the words for a member are that it waits at a stage, and the numbers of exactly those that are missed there
 pub record PrintsMissed (script : Script) (shown : MemberShown) (stage : ℕ) : Type 0 where
