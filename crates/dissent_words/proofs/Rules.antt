@@ -5,8 +5,8 @@ use Rattle.std.specs.Option.{option_map_or}
 use Rattle.std.specs.List.{list_all, list_any, count_by}
 use Rattle.std.proofs.lemmas.Slice.Eq.{bytes_eq-Decides}
 use Rattle.clap.specs.Walk.{Rule, arg_by_id, arg_by_index, arg_by_long, has_long, is_early_multiple}
-use Rattle.clap.specs.Simple.{App, Shape, built, filled, filled_from, is_in_order, is_simple, new_shape, with_index}
-use Rattle.clap.specs.Faults.{is_simple_and_free}
+use Rattle.clap.specs.Simple.{App, Shape, built, filled, filled_from, is_buildable, is_in_order, is_ready, is_ready_leaf, is_simple, new_shape, with_index}
+use Rattle.clap.specs.Faults.{is_free_app, is_simple_and_free}
 use Rattle.dissent_words.specs.Request.{Text}
 use Rattle.dissent_words.specs.Forms.{option_rule, address_rule, app_with}
 
@@ -19,6 +19,10 @@ self x = (bytes_eq-Decides x x).1 refl
 pub or_false : (b : Bool) → (b || false) ≡ b
 or_false true = refl
 or_false false = refl
+
+pub or_true : (b : Bool) → (b || true) ≡ true
+or_true true = refl
+or_true false = refl
 
 pub and_false : (b : Bool) → (b && false) ≡ false
 and_false true = refl
@@ -107,24 +111,29 @@ free_after : (os : List Text) (b : Bool) → list_all free_rule (rules os b) ≡
 free_after os true = all_pass free_rule built_option (last_rules true) (λ o. refl) refl os
 free_after os false = all_pass free_rule built_option [] (λ o. refl) refl os
 
--- clap's clauses on simple commands hold of it
-pub simple_and_free : (os : List Text) (b : Bool) → is_simple_and_free (app_with os b) ≡ true
-simple_and_free os b = rw (built_is os b, simple_before os b, simple_after os b, in_order os b, free_after os b) refl
+module _ (os : List Text) (b : Bool) where
+  abbrev is_simple_by : App → Bool
+  is_simple_by built_so = is_buildable (app_with os b) && (is_ready built_so.top && list_all is_ready_leaf built_so.subs)
 
-pub simple : (os : List Text) (b : Bool) → is_simple (app_with os b) ≡ true
-simple os b = rw (built_is os b, simple_before os b, simple_after os b, in_order os b) refl
+  -- clap's clauses on simple commands hold of it
+  pub simple : is_simple (app_with os b) ≡ true
+  simple = ap is_simple_by (built_is os b) ∙ rw (simple_before os b, simple_after os b, in_order os b) refl
+
+  pub simple_and_free : is_simple_and_free (app_with os b) ≡ true
+  simple_and_free = ap (λ q. q && is_free_app (built (app_with os b))) simple ∙ ap is_free_app (built_is os b) ∙ rw (free_after os b) refl
 
 -- ---- what is found in the rules
 
 found : (p : Rule → Bool) (o : Text) (t : List Rule) → ((x : Text) → p (built_option x) ≡ bytes_eq x o) → (os : List Text)
     → list_any (λ x. bytes_eq x o) os ≡ true → find p (map built_option os ++ t) ≡ Some (built_option o)
 found p o t is [] any = absurd (true≢false (sym any))
-found p o t is (x ∷ xs) any = go (bytes_eq x o) refl
+found p o t is (x ∷ xs) any = go (bytes_eq x o) refl (found p o t is xs)
   where
-    go : (b : Bool) → bytes_eq x o ≡ b → cond (p (built_option x)) (Some (built_option x)) (find p (map built_option xs ++ t)) ≡ Some (built_option o)
-    go true e = ap (λ q. cond q (Some (built_option x)) (find p (map built_option xs ++ t))) (is x ∙ e) ∙ ap (λ y. Some (built_option y)) (same x o e)
-    go false e = ap (λ q. cond q (Some (built_option x)) (find p (map built_option xs ++ t))) (is x ∙ e)
-        ∙ found p o t is xs (second (bytes_eq x o) (list_any (λ y. bytes_eq y o) xs) e any)
+    go : (b : Bool) → bytes_eq x o ≡ b → (list_any (λ y. bytes_eq y o) xs ≡ true → find p (map built_option xs ++ t) ≡ Some (built_option o))
+        → cond (p (built_option x)) (Some (built_option x)) (find p (map built_option xs ++ t)) ≡ Some (built_option o)
+    go true e rest = ap (λ q. cond q (Some (built_option x)) (find p (map built_option xs ++ t))) (is x ∙ e) ∙ ap (λ y. Some (built_option y)) (same x o e)
+    go false e rest = ap (λ q. cond q (Some (built_option x)) (find p (map built_option xs ++ t))) (is x ∙ e)
+        ∙ rest (second (bytes_eq x o) (list_any (λ y. bytes_eq y o) xs) e any)
 
 passed : (p : Rule → Bool) (t : List Rule) (os : List Text) → list_any (λ o. p (built_option o)) os ≡ false
     → find p (map built_option os ++ t) ≡ find p t

@@ -15,7 +15,7 @@ pub record Use : Type 0 where
 -- the words of an option that stands there
 abbrev pub words_of : Use → List Text
 words_of given =
-    if given.is_joined then (codes "--" ++ given.option ++ codes "=" ++ given.value) ∷ []
+    if given.is_joined then (codes "--" ++ (given.option ++ (codes "=" ++ given.value))) ∷ []
     else (codes "--" ++ given.option) ∷ given.value ∷ []
 
 -- the words of options, and then the addresses
@@ -36,8 +36,8 @@ is_value (first ∷ rest) = not (first == 45)
 -- form has them, and only there.
 pub record IsPlain (form : Form) (uses : List Use) (addresses : List Text) : Type 0 where
   pub once : IsPermutation (map (λ given. given.option) uses) form.options
-  pub values : All (λ given. is_value given.value ≡ true) uses
-  pub addresses : All (λ address. is_value address ≡ true) addresses
+  pub option_values : All (λ given. is_value given.value ≡ true) uses
+  pub address_values : All (λ address. is_value address ≡ true) addresses
   pub number : is_empty addresses ≡ not form.takes_addresses
 
 -- what plain words give

@@ -42,10 +42,8 @@ fn option_arg<'a>(alloc: Global, name: &'a str) -> Arg<'a>
     ensures rule { rule_of result ≡ option_rule name.now }
     ensures local { result.global ≡ false }
 {
-    Arg::new(alloc, name)
-        .long(name)
-        .action(ArgAction::Set)
-        .required(true)
+    let option = Arg::new(alloc, name).required(true);
+    option.long(name).action(ArgAction::Set)
 }
 
 // One or more addresses.
@@ -53,7 +51,6 @@ fn address_arg<'a>(alloc: Global) -> Arg<'a>
     ensures rule { rule_of result ≡ address_rule }
     ensures local { result.global ≡ false }
 {
-    Arg::new(alloc, ADDRESS)
-        .action(ArgAction::Append)
-        .required(true)
+    let addresses = Arg::new(alloc, ADDRESS).required(true);
+    addresses.action(ArgAction::Append)
 }

@@ -5,6 +5,7 @@
 mod clap_form;
 mod command;
 mod commands;
+mod laws;
 mod numbers;
 mod refusal;
 mod usage;
@@ -12,6 +13,7 @@ mod values;
 mod words;
 
 pub use command::Command;
+pub use laws::plain_words_are_read;
 pub use refusal::WordsRefusal;
 pub use usage::usage_text;
 pub use words::read_words;
