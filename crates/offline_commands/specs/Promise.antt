@@ -5,9 +5,8 @@ use Rattle.outside.specs.Changes.{Change, Failed}
 use Rattle.offline_commands.specs.declared.commands.TheConstants.{TOML_LIMIT, SCRIPT_LIMIT}
 use Rattle.offline_commands.specs.declared.status.Status.{Status}
 use Rattle.offline_commands.specs.declared.status.Status.TheVariants.{Done, Usage, ReadFault, WriteFault, DiskFault, OutOfMemory}
-use Rattle.offline_commands.specs.declared.words.Command.TheVariants.{Judge, Show, Keygen, Roster as MakeRoster, Group, Make}
 use Rattle.offline_commands.specs.Outside.{DiskTold, Held, Shows, HoldsNow, IsWrite, AllOthersStay, Gains}
-use Rattle.offline_commands.specs.Command.{Request, makes_key, written_names, requested}
+use Rattle.offline_commands.specs.Command.{Request, Judge, Show, Keygen, Roster as MakeRoster, Group, Make, makes_key, written_names, requested}
 use Rattle.offline_commands.specs.Outcome.{Input, within, inputs_of, roster_outcome, group_outcome, make_outcome, members_seen, outcome_of, TellsFiles, MayTell, YieldsBy, Stood, known_files, Misses, made_parts, key_line, accepted_line, id_line}
 use Rattle.group_roster.specs.Toml.{toml_read}
 use Rattle.round_script.specs.declared.fault.Fault.{Fault}
@@ -47,9 +46,9 @@ MakesKey request = IsTrue (makes_key request)
 
 -- ---- answers and statuses
 
--- an answer to a request over these files and this disk
+-- An answer to a request over these files and this disk. Other words come to Usage, if there is memory to read them.
 abbrev pub AnswersRequest : List ℕ → Change (Option Held) → Change DiskTold → Option Request → Result (List ℕ) Status → Type 0
-AnswersRequest fresh files disk None answer = answer ≡ Err Usage
+AnswersRequest fresh files disk None answer = (answer ≡ Err Usage) ⊎ (answer ≡ Err OutOfMemory)
 AnswersRequest fresh files disk (Some request) answer =
     (contents : List (Option (List ℕ))) × Stood files.before (inputs_of request) contents
     × YieldsBy (MayTell request (Failed files) (Failed disk)) (outcome_of fresh request contents) answer

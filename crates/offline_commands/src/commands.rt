@@ -125,11 +125,7 @@ pub(crate) fn run_keygen<D: Disk>(
 }
 
 /// Reads a file that a command names.
-pub fn read_within<F: Files>(
-    files: &mut F,
-    name: &String,
-    limit: u32,
-) -> Result<Vec<u8>, Status>
+pub fn read_within<F: Files>(files: &mut F, name: &String, limit: u32) -> Result<Vec<u8>, Status>
     ensures answer { (file : _) × Shows (F.told files.old) (string_bytes name.now) file
         × Yields (Rose (F.faults files.old) (F.faults files.new)) (within limit file) (answer_bytes result) }
     ensures bounded { IfOk result (λ bytes. length bytes.items ≤ limit) }
@@ -149,11 +145,7 @@ pub fn read_within<F: Files>(
 }
 
 /// Writes a file that a command names.
-pub fn write_whole<F: Files>(
-    files: &mut F,
-    name: &String,
-    bytes: &Vec<u8>,
-) -> Result<(), Status>
+pub fn write_whole<F: Files>(files: &mut F, name: &String, bytes: &Vec<u8>) -> Result<(), Status>
     ensures written { OnOk result (HoldsNow (F.told files.old) (F.told files.new) (string_bytes name.now) bytes.now.items) }
     ensures failed { IfErr result (λ status. (status ≡ Status.OutOfMemory)
         ⊎ ((status ≡ Status.WriteFault) × Rose (F.faults files.old) (F.faults files.new))) }
