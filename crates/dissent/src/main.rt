@@ -7,8 +7,9 @@ mod evidence;
 #[cfg(test)]
 mod tests;
 
+use dissent_words::usage_text;
 use host_disk::{HostDisk, Lock};
-use offline_commands::{HostFiles, Sink, Status, WriterSink, is_keygen, print, run_offline};
+use offline_commands::{HostFiles, Sink, Status, WriterSink, print, run_offline};
 use rand::TryRng;
 use rand::rngs::SysRng;
 use std::alloc::{AllocError, Global};
@@ -19,20 +20,11 @@ use std::rt::{Env, Runtime};
 use std::thread::Threads;
 use std::{env, io};
 
-// The forms of all commands.
-const FORMS: &str = "dissent judge --roster FILE --transcript FILE
-dissent show --roster FILE --round R --post FILE
-dissent roster --toml FILE --out FILE
-dissent keygen --key FILE --height 5|10 --width 1|2|4|8
-dissent group --script FILE --roster FILE --transcript FILE
-dissent make --number K --members N --bytes B --fault NAME
-";
-
 fn main(rt: HostRuntime) -> ExitCode {
     let status = run(&rt);
     if status == Status::Usage {
         // The forms are for a reader: where they can't be written the status stays.
-        let _ = rt.stderr().write_all(FORMS.as_bytes());
+        let _ = rt.stderr().write_all(usage_text().as_bytes());
     }
     ExitCode::from(status.number())
 }
@@ -50,7 +42,7 @@ where
 }
 
 // The same, with the status that is still to be printed where words or fresh bytes could not be had. Fresh bytes are
-// drawn only where the words ask for a key file.
+// drawn only where the first word is that of a command that makes a key file.
 fn run_given<R: Runtime<A = Global> + RandomSource + Threads + Sync, O: Sink>(
     rt: &R,
     out: &mut O,
@@ -67,6 +59,14 @@ where
     let mut files = HostFiles::new(rt, alloc);
     let mut disk = HostDisk::new(rt);
     Ok(run_offline(rt, alloc, &words, &mut files, &mut disk, fresh, out))
+}
+
+// Whether the first word is `keygen`.
+fn is_keygen(words: &Vec<String>) -> bool {
+    match words.first() {
+        Some(name) => name.as_str() == "keygen",
+        None => false,
+    }
 }
 
 // The words of the command line without the program's name. Where one is not text, there are none: no command

@@ -238,11 +238,11 @@ const GROUP: [&str; 7] = [
 ];
 
 // Words that are not those of a command.
-const OTHER_WORDS: [&[&str]; 21] = [
+const OTHER_WORDS: [&[&str]; 17] = [
+    &[],
+    &["live", "--script", "s"],
     &["judge", "--roster", "r"],
-    &["judge", "--roster", "", "--transcript", "t"],
     &["judge", "--roster", "r", "--transcript", "-t"],
-    &["judge", "--transcript", "t", "--roster", "r"],
     &["show", "--roster", "r", "--round", "0", "--post", "t"],
     &["show", "--roster", "r", "--round", "08", "--post", "t"],
     &[
@@ -254,23 +254,11 @@ const OTHER_WORDS: [&[&str]; 21] = [
         "--post",
         "t",
     ],
-    &["roster", "--toml", "", "--out", "o"],
-    &["roster", "--out", "o", "--toml", "t"],
     &["keygen", "--key", "--height", "5", "--width", "8"],
-    &["keygen", "--key", "", "--height", "5", "--width", "8"],
     &["keygen", "--key", "k", "--height", "6", "--width", "8"],
     &["keygen", "--key", "k", "--height", "05", "--width", "8"],
     &["keygen", "--key", "k", "--height", "5", "--width", "3"],
-    &["keygen", "--key", "k", "--width", "8", "--height", "5"],
-    &[
-        "group",
-        "--script",
-        "s",
-        "--roster",
-        "r",
-        "--transcript",
-        "",
-    ],
+    &["group", "--script", "s", "--roster", "r"],
     &[
         "make",
         "--number",
@@ -344,13 +332,21 @@ fn first_other_usage<R: Threads + Sync>(
 }
 
 // Missing, failing and wrong files, each with its status and its line.
-const CASES: [Case; 19] = [
+const CASES: [Case; 20] = [
     Case {
         words: &JUDGE,
         named: &[],
         failing: NOTHING_FAILS,
         number: 5,
         line: b"read fault\n",
+    },
+    // Options in another order, one joined to its value.
+    Case {
+        words: &["judge", "--transcript=t", "--roster", "r"],
+        named: &[("r", Content::RosterOfOne)],
+        failing: NOTHING_FAILS,
+        number: 11,
+        line: b"bad roster at 5 rule 3\n",
     },
     // The transcript can't be read.
     Case {
