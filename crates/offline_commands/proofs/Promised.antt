@@ -5,7 +5,7 @@ use Rattle.wire_core.specs.Answers.{◌>>=◌}
 use Rattle.outside.specs.Changes.{Change, Failed}
 use Rattle.crash_disk.specs.Names.{Names, StoodStays}
 use Rattle.offline_commands.specs.Outside.{DiskTold, Held, Shows, IsMissing, AllOthersStay, Gains}
-use Rattle.offline_commands.specs.Command.{Request, Judge, Show, Keygen, Roster as MakeRoster, Group, Make, written_names, requested, offline_request}
+use Rattle.offline_commands.specs.Command.{Request, Judge, Show, Keygen, Roster as MakeRoster, Group, Make, written_names, requested, offline_request, fault_given}
 use Rattle.offline_commands.specs.Outcome.{Input, inputs_of, reads_of, Yields, YieldsOr, YieldsBy, Tells, TellsNone, MayTell, Stood, known_files, Misses, within, or_bad_roster, or_refused, judge_outcome, show_outcome, keygen_outcome, outcome_of, roster_outcome, group_outcome, make_outcome, or_bad_script, TellsFiles, accepted_line, id_line}
 use Rattle.group_roster.specs.Toml.{toml_read}
 use Rattle.offline_commands.specs.Delivery.{Delivers, status_of, text_of}
@@ -28,7 +28,7 @@ use Rattle.signed_post.specs.Admission.{IsPostFile}
 use Rattle.offline_commands.specs.Show.{file_checked, shown_line}
 use Rattle.offline_commands.proofs.TwoFiles.{outcome_by}
 use Rattle.offline_commands.proofs.Reading.{some_file}
-use Rattle.dissent_words.specs.Request.{Request as AnyRequest}
+use Rattle.dissent_words.specs.Request.{Request as AnyRequest, for_make}
 use Rattle.dissent_words.specs.Forms.{requested as any_requested}
 use Rattle.dissent_words.specs.declared.refusal.WordsRefusal.{WordsRefusal}
 use Rattle.dissent_words.specs.declared.refusal.WordsRefusal.TheVariants.{Usage as WordsUsage, Memory as WordsMemory}
@@ -445,6 +445,20 @@ refused_answered asked files disk WordsMemory none kept count disk_kept disk_cou
 pub asked_for : (asked : Asked) (request : AnyRequest) → any_requested asked.words ≡ Some request
     → request_in asked ≡ offline_request request
 asked_for asked request e = ap (option_and_then offline_request) e
+
+-- what the words of `make` ask for by a name that a fault has, where a script is made with their numbers
+pub make_asked : (asked : Asked) (number members size : ℕ) (name : List ℕ) (fault : Fault)
+    → any_requested asked.words ≡ Some (for_make number members size name) → Some fault ≡ fault_given members size name
+    → request_in asked ≡ Some (Make number members size fault)
+make_asked asked number members size name fault e found =
+    asked_for asked (for_make number members size name) e ∙ ap (option_map (λ given. Make number members size given)) (sym found)
+
+-- and else
+pub make_unasked : (asked : Asked) (number members size : ℕ) (name : List ℕ)
+    → any_requested asked.words ≡ Some (for_make number members size name) → None ≡ fault_given members size name
+    → request_in asked ≡ None
+make_unasked asked number members size name e none =
+    asked_for asked (for_make number members size name) e ∙ ap (option_map (λ given. Make number members size given)) (sym none)
 
 pub judge_answered : (asked : Asked) (files : Change (Option Held)) (disk : Change DiskTold) (roster transcript : List ℕ)
     (answer : Result (List ℕ) Status) → request_in asked ≡ Some (Judge roster transcript)

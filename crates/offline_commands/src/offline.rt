@@ -51,7 +51,8 @@ fn answer_words<F: Files, D: Disk>(
         (change_of D.faults (telling D.file D.names) disk.old disk.new)
         (answer_bytes result) }
 {
-    match read_words(alloc, words)? {
+    let command = read_words(alloc, words)?;
+    match command {
         Command::Judge { roster, transcript } => run_judge(alloc, &roster, &transcript, files),
         Command::Show {
             roster,
