@@ -1,4 +1,4 @@
-use Rattle.std.proofs.Common.{refl}
+use Rattle.std.proofs.Common.{refl, []}
 use Rattle.std.proofs.lemmas.Result.{err_from_is_err_and}
 use Rattle.group_roster.specs.Given.{roster_of}
 use Rattle.offline_commands.proofs.Promised.{roster_status-not_done}
