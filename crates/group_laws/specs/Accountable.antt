@@ -7,6 +7,7 @@ use Rattle.round_spec.specs.Runs.{IsFaulty}
 use Rattle.accountability.specs.Messages.{HasEachMessage}
 use Rattle.member_spec.specs.declared.state.State.TheVariants.{Blamed}
 use Rattle.round_script.specs.declared.script.Script.{Script}
+use Rattle.round_script.specs.Script.{IsScript}
 use Rattle.group_spec.specs.Driver.{MemberShown}
 use Rattle.group_spec.specs.Scripts.{script_end, script_roster}
 use Rattle.group_laws.specs.AllHonest.{IsServed, IsUndisturbed}
@@ -27,3 +28,7 @@ pub record IsAccountable (script : Script) : Type 0 where
       IsHonestIn script shown → IsHonestIn script other → shown.slots ≡ Some slots → other.slots ≡ Some others_slots → slots ≡ others_slots
   pub undisturbed : IsUndisturbed script → NoRunsCollide (honest_runs script) → (shown : MemberShown) →
       Contains (script_end script) shown → IsServed script shown
+
+-- so is the group of every script
+abbrev pub GroupsAreAccountable : Type 0
+GroupsAreAccountable = (script : Script) → IsScript script → IsAccountable script

@@ -1,5 +1,6 @@
 //! Laws of the groups of scripts. Nobody calls these functions: the contract of each states a law.
 
+ghost use Rattle.group_laws.specs.Accountable.{GroupsAreAccountable};
 ghost use Rattle.group_laws.specs.AllHonest.{UndisturbedGroupsAreDone};
 ghost use Rattle.group_laws.specs.Entering.{ScriptsEnter};
 ghost use Rattle.group_laws.specs.Forging.{
@@ -45,4 +46,11 @@ pub fn honest_members_are_served()
 /// each, where no two strings of their runs have one hash.
 pub fn undisturbed_groups_are_done()
     ensures { UndisturbedGroupsAreDone }
+{}
+
+/// All of this of one group: its honest members keep their promise; where no two strings of their runs have one hash, those
+/// that are done have every honest message, and one list, and whom they blame is faulty; and without faults and losses all
+/// are done.
+pub fn groups_are_accountable()
+    ensures { GroupsAreAccountable }
 {}

@@ -4,6 +4,6 @@
 mod laws;
 
 pub use laws::{
-    honest_members_are_served, members_keep_their_promise, nothing_is_forged, scripts_enter,
-    undisturbed_groups_are_done,
+    groups_are_accountable, honest_members_are_served, members_keep_their_promise,
+    nothing_is_forged, scripts_enter, undisturbed_groups_are_done,
 };
