@@ -1,25 +1,24 @@
 -- Plain words are read with the values that stand in them.
-use Rattle.std.proofs.Common.{◌≡◌, ◌∙◌, ◌&&◌, ◌||◌, ◌<◌, ℕ, Bool, cond, suc, zero, true, false, not, refl, sym, ap, subst, List, [], ◌∷◌, ◌++◌, map, length, Option, Some, None, is_some, codes, true≢false, if◌then◌else◌, arith, append-nil, eqb-true}
-use Rattle.std.specs.Prelude.{◌==◌, bytes_eq, find, fold, option_map, option_and_then, unwrap_or, slice_get, IsPermutation}
+use Rattle.std.proofs.Common.{◌≡◌, ◌∙◌, ◌&&◌, ◌||◌, ◌<◌, ℕ, Bool, cond, suc, zero, true, false, not, refl, sym, ap, List, [], ◌∷◌, ◌++◌, map, length, Some, is_some, codes, true≢false, arith, append-nil, eqb-true}
+use Rattle.std.specs.Prelude.{◌==◌, bytes_eq, find, fold, option_map, option_and_then, unwrap_or, IsPermutation}
 use Rattle.std.specs.Option.{option_map_or}
 use Rattle.std.specs.List.{All, AllByRecursion, Contains, IsDistinct, list_all, list_any, slice_index_or}
 use Rattle.std.proofs.lemmas.List.Elements.{All-contains, All-contains_itself, All-from_recursion, All-weaker, recursion_from_All}
 use Rattle.std.proofs.lemmas.List.Sorted.{All-permutation, Contains-permutation, IsPermutation-sym}
-use Rattle.std.proofs.lemmas.Map.Keys.{IsDistinct-IsPermutation, IsDistinct-cons, IsDistinct-head, IsDistinct-tail}
+use Rattle.std.proofs.lemmas.Map.Keys.{IsDistinct-IsPermutation, IsDistinct-head, IsDistinct-tail}
 use Rattle.std.proofs.lemmas.Slice.Eq.{bytes_eq-Decides}
-use Rattle.std.proofs.lemmas.Bool.Decides.{same_from_decides}
-use Rattle.clap.specs.Walk.{Held, Row, Rule, Walk, all_of, finished, first_of, has_row, idle, is_empty, nothing_held, rows_after, settled, walk, walk_from, walked, with_default}
-use Rattle.clap.specs.Simple.{App, built, matches_of, names_of, entered}
-use Rattle.clap.specs.Faults.{built_fault, check_fault, default_fault, defaults_fault, entered_fault, fault_of, settle_fault, walk_fault}
+use Rattle.clap.specs.Walk.{Row, Rule, Walk, all_of, finished, first_of, has_row, idle, is_empty, nothing_held, rows_after, settled, walk_from, with_default}
+use Rattle.clap.specs.Simple.{matches_of, names_of, entered}
+use Rattle.clap.specs.Faults.{built_fault, check_fault, defaults_fault, entered_fault, fault_of, settle_fault, walk_fault}
 use Rattle.clap.specs.Takes.{is_given}
 use Rattle.clap.specs.Facts.{explicit_source}
 use Rattle.clap.specs.Kinds.{Kinds, or_else}
-use Rattle.dissent_words.specs.Request.{Text, Request}
-use Rattle.dissent_words.specs.Forms.{Form, Given, app_with, form_named, forms, given_by, given_in, keygen_form, roster_form, show_form, judge_form, group_form, make_form, member_form, live_form, request_by, requested, values_in}
+use Rattle.dissent_words.specs.Request.{Text}
+use Rattle.dissent_words.specs.Forms.{Form, app_with, form_named, forms, given_by, given_in, keygen_form, roster_form, show_form, judge_form, group_form, make_form, member_form, live_form, request_by, requested, values_in}
 use Rattle.dissent_words.specs.Laws.{PlainWordsAreRead}
 use Rattle.dissent_words.specs.Plain.{Use, IsPlain, given_plainly, is_value, spelled, value_in}
-use Rattle.dissent_words.proofs.Rules.{built_app, built_is, built_option, last_rules, neither, or_true, rules, second, self, shape}
-use Rattle.dissent_words.proofs.Walking.{AreApart, AreNew, Ends, IsGood, address_row, addresses_go, fault_at, is_name, row_of, rows_at, standing, uses_go}
+use Rattle.dissent_words.proofs.Rules.{built_app, built_is, built_option, last_rules, neither, or_true, rules, second, shape}
+use Rattle.dissent_words.proofs.Walking.{AreApart, AreNew, Ends, IsGood, address_row, addresses_go, is_name, row_of, rows_at, standing, uses_go}
 
 -- ---- at the end of the walk
 

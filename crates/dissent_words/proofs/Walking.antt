@@ -1,13 +1,12 @@
 -- How clap walks over plain words, and what it has then.
-use Rattle.std.proofs.Common.{◌≡◌, ◌∙◌, ◌&&◌, ◌||◌, ℕ, Bool, cond, suc, true, false, not, refl, sym, ap, subst, List, [], ◌∷◌, ◌++◌, map, length, take, drop, Option, Some, None, codes, true≢false, if◌then◌else◌, arith, append-nil, append_assoc}
-use Rattle.std.specs.Prelude.{◌==◌, ◌+◌, ◌≤◌, bytes_eq, find, fold}
+use Rattle.std.proofs.Common.{◌≡◌, ◌∙◌, ◌&&◌, ◌||◌, Bool, cond, suc, true, false, not, refl, sym, ap, List, [], ◌∷◌, ◌++◌, map, length, take, drop, Option, Some, None, codes, true≢false, if◌then◌else◌, arith, append-nil, append_assoc}
+use Rattle.std.specs.Prelude.{◌==◌, ◌+◌, bytes_eq, fold}
 use Rattle.std.specs.List.{list_any, prefix_len, AllByRecursion}
 use Rattle.std.specs.Option.{option_map_or}
 use Rattle.std.proofs.Math.Seq.{take-append_seam, take-length}
-use Rattle.std.proofs.lemmas.List.{drop_at}
 use Rattle.clap.specs.Lexer.{has_byte, long_of, name_and_value, short_of}
-use Rattle.clap.specs.Walk.{Held, Outcome, Row, Rule, Step, Waiting, Walk, after_flag, after_step, arg_by_id, arg_by_index, arg_by_long, at_row, has_row, idle, more_values, is_pending, long_met, long_or_other, next, next_position, option, option_word, plain_word, positional, reacted, settled, settled_rows, subcommand_met, subcommand_or_other, to_positional, used, used_by_id, value, walked, with_values, without, word_met}
-use Rattle.clap.specs.Faults.{flag_word_fault, long_fault, settle_fault, step_fault, turn_fault, use_fault, walk_fault, positional_fault}
+use Rattle.clap.specs.Walk.{Held, Row, Rule, Waiting, Walk, after_step, arg_by_id, arg_by_long, at_row, has_row, idle, more_values, is_pending, next, option, plain_word, positional, reacted, settled, settled_rows, subcommand_met, used, used_by_id, value, walked, with_values, without, word_met}
+use Rattle.clap.specs.Faults.{settle_fault, step_fault, turn_fault, use_fault, walk_fault}
 use Rattle.clap.specs.Kinds.{Kinds, or_else}
 use Rattle.clap.specs.declared.builder.value_parser.Reading.TheVariants.{AsWritten}
 use Rattle.clap.specs.declared.parser.matches.ValueSource.TheVariants.{CommandLine}

@@ -1,5 +1,5 @@
 -- The table of commands, and what words ask for by it: the words behind a command's name are read as clap reads them.
-use Rattle.std.specs.Prelude.{ℕ, ◌^◌, List, [], ◌∷◌, ◌++◌, Bool, true, false, if◌then◌else◌, Option, Some, None, option_map, option_and_then, unwrap_or, find, map, bytes_eq, codes}
+use Rattle.std.specs.Prelude.{List, [], ◌∷◌, ◌++◌, Bool, true, false, if◌then◌else◌, Option, Some, None, option_map, option_and_then, unwrap_or, find, map, bytes_eq, codes}
 use Rattle.std.specs.Option.{is_some}
 use Rattle.clap.specs.Walk.{Row, Rule, all_of, first_of, is_empty}
 use Rattle.clap.specs.Simple.{App, matches_of, new_rule, new_shape}

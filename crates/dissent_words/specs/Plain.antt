@@ -1,5 +1,5 @@
 -- Plain words: each option of a command stands once, in any order, and then the addresses.
-use Rattle.std.specs.Prelude.{◌≡◌, ℕ, List, [], ◌∷◌, ◌++◌, Bool, true, false, not, ◌==◌, if◌then◌else◌, Option, option_map, unwrap_or, find, map, bytes_eq, codes, IsPermutation}
+use Rattle.std.specs.Prelude.{◌≡◌, List, [], ◌∷◌, ◌++◌, Bool, true, false, not, ◌==◌, if◌then◌else◌, option_map, unwrap_or, find, map, bytes_eq, codes, IsPermutation}
 use Rattle.std.specs.List.{All}
 use Rattle.clap.specs.Walk.{is_empty}
 use Rattle.dissent_words.specs.Request.{Text}

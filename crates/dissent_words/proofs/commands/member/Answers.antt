@@ -1,4 +1,4 @@
-use Rattle.std.proofs.Common.{◌∙◌, ◌≡◌, ap, arith, length, map}
+use Rattle.std.proofs.Common.{◌∙◌, ◌≡◌, ap, arith, length}
 use Rattle.std.specs.Prelude.{string_bytes}
 use Rattle.dissent_words.specs.Request.{texts}
 use Rattle.dissent_words.proofs.Requests.{member_read, seen}
