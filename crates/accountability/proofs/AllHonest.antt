@@ -46,7 +46,7 @@ use Rattle.round_spec.proofs.Contained.{contains-flat-from, contains-here, conta
 use Rattle.phase_message.specs.Offence.{content_read}
 use Rattle.conviction.proofs.Bodies.{contents-same, row-reads}
 use Rattle.accountability.proofs.Evidence.{convicts-not, evidence_accepted, firsts-check, stand-closed}
-use Rattle.accountability.proofs.Culprits.{culprit-one}
+use Rattle.shuffle_blame.proofs.Blamed.{culprit-one}
 use Rattle.go_nogo.specs.Closing.{embedded_of, is_assent}
 use Rattle.accountability.proofs.Endings.{ending-cases}
 use Rattle.shuffle_blame.proofs.Endings.{ends_at}

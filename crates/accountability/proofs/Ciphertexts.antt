@@ -36,7 +36,8 @@ use Rattle.round_spec.specs.Course.{closing_of}
 use Rattle.round_spec.proofs.Contained.{contains-flat-from, contains-here}
 use Rattle.round_spec.specs.Slots.{entries_opened, final_stage, inner_place, items_opened, key_said, keys_in, keys_said, list_said, said_in, seed_in, seeds_revealed, submit_stage}
 use Rattle.phase_message.proofs.Table.{final_a_is}
-use Rattle.conviction.proofs.OwnFronts.{front, map-range, said-front, submission-front}
+use Rattle.wire_core.proofs.ListLemmas.{map-range}
+use Rattle.conviction.proofs.OwnFronts.{front, said-front, submission-front}
 use Rattle.wire_core.proofs.ByteLists.{hash_bytes}
 use Rattle.std.specs.Prelude.{is_some, option_and_then, option_map}
 use Rattle.ring_encrypt.specs.Capsule.{key_of_seed}

@@ -3,7 +3,6 @@ pub mod Unheard
 pub mod Naming
 pub mod Kept
 pub mod OnePost
-pub mod Culprits
 pub mod Replays
 pub mod Equivocations
 pub mod Votes

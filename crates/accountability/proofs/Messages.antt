@@ -46,7 +46,8 @@ use Rattle.wire_core.specs.Hash.{hash_of, derived}
 use Rattle.round_spec.proofs.Strings.{kept_is_read, run_has_strings}
 use Rattle.std.proofs.lemmas.List.FromFn.{length-map-range_with_len, length-enumerate_from}
 use Rattle.conviction.proofs.OwnRows.{own-speaks}
-use Rattle.phase_message.proofs.Table.{pad_is, final_a_is, go_a_is, keys_is, submit_a_is, turn_a, check_is}
+use Rattle.phase_message.proofs.StageCounts.{confirm-at}
+use Rattle.phase_message.proofs.Table.{pad_is}
 use Rattle.accountability.proofs.PadEvidence.{pads-speak, named-member}
 use Rattle.conviction.proofs.Listed.{place-listed}
 use Rattle.round_spec.proofs.Rows.{row_past}
@@ -68,7 +69,7 @@ use Rattle.transcript_form.specs.declared.transcript.Transcript.{Transcript}
 use Rattle.accusation.specs.Item.{accusation_by, empty_item, first_in, item_accusation, item_row}
 use Rattle.transcript_form.specs.Accusation.{accusation_of, accusation_spelling}
 use Rattle.transcript_form.proofs.Accusations.{accusation_of-spelling}
-use Rattle.std.proofs.lemmas.Bool.{cases_eq, cases_lt, cond-true}
+use Rattle.std.proofs.lemmas.Bool.{cond-true}
 use Rattle.accountability.proofs.Endings.{ending-cases, outcome-cases}
 use Rattle.shuffle_blame.proofs.Endings.{ends_at}
 use Rattle.accountability.proofs.Ciphertexts.{first-seeds, place_opens, places_differ, run-opens}
@@ -664,34 +665,8 @@ second-end shape stage shuffle kind second = elim (ends_at shape stage shuffle k
 
 -- ---- own slots fit
 
--- a stage before the checks are closed closes none
-early-not : (shape : Shape) (stage : ℕ) → kind_of_stage shape stage ≡ Some AtConfirm → stage ≤ shape.members + 5 → ⊥
-early-not shape stage e le =
-    elim (cases_eq stage 0) [
-      | inl at ↦ (let is = sym (keys_is shape stage at) ∙ e in cc)
-      | inr no0 ↦ elim (cases_eq stage 1) [
-        | inl at ↦ (let is = sym (submit_a_is shape stage at) ∙ e in cc)
-        | inr no1 ↦ elim (cases_eq stage (shape.members + 2)) [
-          | inl at ↦ (let is = sym (go_a_is shape stage at) ∙ e in cc)
-          | inr no2 ↦ elim (cases_eq stage (shape.members + 3)) [
-            | inl at ↦ (let is = sym (final_a_is shape stage at) ∙ e in cc)
-            | inr no3 ↦ elim (cases_eq stage (shape.members + 4)) [
-              | inl at ↦ (let is = sym (pad_is shape stage at) ∙ e in cc)
-              | inr no4 ↦ elim (cases_eq stage (shape.members + 5)) [
-                | inl at ↦ (let is = sym (check_is shape stage at) ∙ e in cc)
-                | inr no5 ↦ (let is = sym (turn_a shape stage (stage - 1) (omega arith) (omega arith) (omega arith)) ∙ e in cc)
-              ]
-            ]
-          ]
-        ]
-      ]
-    ]
-
 pub confirm-late : (shape : Shape) (stage : ℕ) → kind_of_stage shape stage ≡ Some AtConfirm → shape.members + 5 < stage
-confirm-late shape stage e = elim (cases_lt (shape.members + 5) stage) [
-  | inl late ↦ late
-  | inr early ↦ absurd (early-not shape stage e early)
-]
+confirm-late shape stage e = omega (arith, confirm-at shape stage e)
 
 pub item-first : (c : Configuration) (own : List ℕ) (past : List (List ℕ)) → own_item c own past 1 ≡ own
 unfolding own_item

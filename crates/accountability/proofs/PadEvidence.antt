@@ -1,8 +1,8 @@
 -- What is written for a bad pad is accepted.
-use Rattle.std.proofs.Common.{arith, refl, zero, suc, List, None, Ok, Option, Some, ap, eq-eqb, length, rules, slice_get, slice_index_or, subst, sym, take, true, ◌≡◌, ◌∙◌, ◌∷◌, ◌++◌, ◌<◌, ◌≤◌, ◌+◌, ◌-◌, ◌*◌, ◌^◌, ◌==◌, [], ℕ}
+use Rattle.std.proofs.Common.{arith, refl, zero, suc, List, None, Ok, Option, Some, ap, eq-eqb, length, rules, slice_get, slice_index_or, subst, sym, take, true, ◌≡◌, ◌∙◌, ◌∷◌, ◌++◌, ◌<◌, ◌≤◌, ◌+◌, ◌-◌, ◌^◌, ◌==◌, [], ℕ}
 use Rattle.std.proofs.lemmas.List.{length-map, length-take-le, length-append, take-map}
 use Rattle.stage_log.proofs.Views.{slice_get-take}
-use Rattle.phase_message.specs.declared.stage.StageKind.TheVariants.{Keys as AtKeys, Submit as AtSubmit, Shuffle as AtShuffle, Go as AtGo, Final as AtFinal, Pad as AtPad}
+use Rattle.phase_message.specs.declared.stage.StageKind.TheVariants.{Go as AtGo, Final as AtFinal, Pad as AtPad}
 use Rattle.phase_message.specs.declared.content.Body.TheVariants.{Pads}
 use Rattle.transcript_form.specs.declared.claim.Claim.TheVariants.{Pad}
 use Rattle.shuffle_blame.specs.declared.fault.Cause.TheVariants.{View}
@@ -42,7 +42,7 @@ use Rattle.phase_message.specs.Offence.{content_read}
 use Rattle.stage_log.specs.Log.{contents_of, view_of}
 use Rattle.conviction.proofs.OwnFronts.{descriptors-front, front, keys-front}
 use Rattle.round_spec.proofs.AgreedClosings.{final-closes}
-use Rattle.phase_message.proofs.Table.{final_a_is, go_a_is, keys_is, pad_is, slice_get_right, submit_a_is, turn_a}
+use Rattle.phase_message.proofs.Table.{pad_is, slice_get_right}
 use Rattle.std.proofs.lemmas.Option.{get_or_from_slice_get, slice_get-map}
 use Rattle.accusation.proofs.AccusationLemmas.{holds_exactly, holds_looks_at_one}
 use Rattle.phase_message.specs.Stages.{is_member, is_slot, kind_of_stage, speaks}
@@ -54,34 +54,10 @@ use Rattle.round_spec.specs.Embedded.{posts_for}
 use Rattle.shuffle_blame.proofs.Faults.{right_view}
 use Rattle.phase_message.proofs.SlotBounds.{slot-bounds}
 use Rattle.phase_message.specs.Slots.{slot_number, slots_before, slots_of, stage_count}
-use Rattle.phase_message.proofs.Counts.{slots_next}
+use Rattle.phase_message.proofs.StageCounts.{before-pads}
 use Rattle.conviction.specs.Accepts.{table_of}
 use Rattle.stage_log.proofs.Fronts.{view_of-take}
 use Rattle.go_nogo.specs.Rows.{written}
-
--- ---- how many slots stand before the pads
-
-before-turn : (shape : Shape) (k : ℕ) → k ≤ shape.members → slots_before shape (2 + k) ≡ shape.members + shape.members + k
-before-turn shape zero most =
-    let keys = slots_next shape 0 AtKeys (keys_is shape 0 refl) in
-    let submit = slots_next shape 1 (AtSubmit 1) (submit_a_is shape 1 refl) in
-    omega (arith, keys, submit)
-before-turn shape (suc k) most =
-    let same : 2 + suc k ≡ 2 + k + 1 = omega arith in
-    let next = slots_next shape (2 + k) (AtShuffle 1 (k + 1)) (turn_a shape (2 + k) (k + 1) (omega arith) (omega arith) (omega arith)) in
-    omega (arith, ap (slots_before shape) same, next, before-turn shape k (omega arith))
-
--- five of each member
-pub before-pads : (shape : Shape) → slots_before shape (pad_stage shape) ≡ 5 * shape.members
-before-pads shape =
-    let n : ℕ = shape.members in
-    let turns = before-turn shape n (omega arith) in
-    let votes_at : 2 + n ≡ n + 2 = omega arith in
-    let votes = slots_next shape (n + 2) (AtGo 1) (go_a_is shape (n + 2) refl) in
-    let ends_at : n + 2 + 1 ≡ n + 3 = omega arith in
-    let ends = slots_next shape (n + 3) (AtFinal 1) (final_a_is shape (n + 3) refl) in
-    let pads_at : n + 3 + 1 ≡ n + 4 = omega arith in
-    omega (arith, turns, ap (slots_before shape) votes_at, votes, ap (slots_before shape) ends_at, ends, ap (slots_before shape) pads_at)
 
 -- ---- lists
 

@@ -26,7 +26,7 @@ use Rattle.round_spec.specs.Course.{closing_of}
 use Rattle.std.proofs.lemmas.Bool.{cond-false}
 use Rattle.phase_message.specs.Offence.{content_read, offence}
 use Rattle.stage_log.specs.Log.{contents_of}
-use Rattle.accountability.proofs.Culprits.{culprit-one}
+use Rattle.shuffle_blame.proofs.Blamed.{culprit-one}
 use Rattle.round_spec.proofs.Verdicts.{faithful}
 use Rattle.std.proofs.lemmas.List.{length-map}
 use Rattle.std.proofs.lemmas.Option.{get_or_from_slice_get, slice_get_within}

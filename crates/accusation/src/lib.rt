@@ -10,6 +10,3 @@ pub use holding::{AccusationRefusal, holds};
 pub use item::own_item;
 pub use laws::accusation_laws;
 pub use transcript_form::Accusation;
-
-#[cfg(test)]
-mod tests;

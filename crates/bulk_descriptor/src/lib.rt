@@ -22,6 +22,3 @@ pub use reading::decode;
 pub use ring_encrypt::{Capsule, KeySeed, PublicKey};
 pub use slot_state::{PadTable, SlotState};
 pub use wire_core::{List, Mem};
-
-#[cfg(test)]
-mod tests;

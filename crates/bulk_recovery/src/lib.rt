@@ -7,6 +7,3 @@ mod recovery;
 
 pub use bulk_descriptor::{Descriptor, PadTable, SlotState};
 pub use recovery::recover;
-
-#[cfg(test)]
-mod tests;

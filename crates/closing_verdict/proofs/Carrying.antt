@@ -1,18 +1,12 @@
 -- What was found of the stages before is right at the end of a closing stage too.
-use Rattle.std.proofs.Common.{◌≡◌, ℕ, zero, suc, ◌+◌, ◌<◌, ◌≤◌, List, ◌∷◌, map, Option, Some, None, refl, ap, sym, ◌∙◌, subst, arith}
-use Rattle.std.specs.Prelude.{option_and_then}
-use Rattle.std.specs.List.{range_with_len}
-use Rattle.phase_message.specs.declared.stage.Slot.{Slot}
-use Rattle.bulk_descriptor.specs.Descriptor.{descriptor_read}
+use Rattle.std.proofs.Common.{◌≡◌, ℕ, zero, suc, ◌+◌, ◌<◌, ◌≤◌, List, Option, Some, None, ◌∙◌, subst, arith}
 use Rattle.stage_log.specs.Table.{Log}
 use Rattle.shuffle_blame.specs.Asked.{past_of}
 use Rattle.honest_say.specs.declared.opening.Slots.{Slots}
 use Rattle.honest_say.specs.Opened.{AreSlotsSaid}
 use Rattle.honest_say.specs.Stays.{AreReached}
-use Rattle.honest_say.proofs.PastLemmas.{kept-said}
-use Rattle.honest_say.proofs.StageLemmas.{pad-slot}
-use Rattle.honest_say.proofs.Staying.{items_stay, keys_stay, slots_stay}
-use Rattle.round_spec.specs.Slots.{descriptors_opened, items_opened, keys_said, pad_stage, pads_in, pads_sent, said_in}
+use Rattle.honest_say.proofs.Staying.{descriptors-stay, items_stay, keys_stay, pads-stay, slots_stay}
+use Rattle.round_spec.specs.Slots.{items_opened, keys_said, pad_stage}
 use Rattle.closing_verdict.specs.Carried.{AreItemsOf, AreSlotsOf, CarriesOpened, CarriesSlots, stage_found, stage_opened}
 use Rattle.closing_verdict.specs.Judgement.{Completed, IsComplete}
 use Rattle.closing_verdict.proofs.PadPosts.{front-some}
@@ -48,40 +42,13 @@ pub items-now : (c : Completed) (items : List (Option (List ℕ))) → IsComplet
 items-now c items is le are = are.are ∙ items_stay c.log (stage_opened c.log) (c.stage + 1) 1 (reached-now c (stage_opened c.log) is le)
     (omega arith) (omega arith) (omega arith)
 
-same-range : {A : Type 0} (f g : ℕ → A) (a n : ℕ) → ((k : ℕ) → a ≤ k → k < a + n → f k ≡ g k)
-    → map f (range_with_len a n) ≡ map g (range_with_len a n)
-same-range {A} f g a zero each = refl
-same-range {A} f g a (suc n) each =
-    ap (λ (x : A). x ∷ map f (range_with_len (a + 1) n)) (each a (omega arith) (omega arith))
-    ∙ ap (λ (xs : List A). g a ∷ xs) (same-range f g (a + 1) n (λ k least lt. each k (omega arith) (omega arith)))
-
-pads-now : (log : Log) (stage later : ℕ) → AreReached log stage later → pad_stage log.shape < stage
-    → pads_sent log.shape (past_of log stage) ≡ pads_sent log.shape (past_of log later)
-unfolding pads_sent
-pads-now log stage later reached behind =
-    let at : ℕ = pad_stage log.shape in
-    let order = reached.order in
-    same-range (λ member. pads_in (said_in log.shape (past_of log stage) at member))
-    (λ member. pads_in (said_in log.shape (past_of log later) at member)) 1 log.shape.members (λ member least lt.
-    let slot : Slot = record { stage = at; sender = member } in
-    let there = pad-slot log.shape member least (omega arith) in
-    ap pads_in (sym (kept-said log stage slot reached.at there behind)
-    ∙ kept-said log later slot reached.at_later there (omega (arith, order, behind))))
-
-descriptors-now : (log : Log) (stage later : ℕ) → AreReached log stage later → pad_stage log.shape < stage
-    → descriptors_opened log.shape (past_of log stage) ≡ descriptors_opened log.shape (past_of log later)
-unfolding descriptors_opened
-descriptors-now log stage later reached behind =
-    ap (λ (items : List (Option (List ℕ))). map (option_and_then (descriptor_read log.shape.members)) items)
-    (items_stay log stage later 1 reached (omega arith) (omega arith) (omega (arith, behind)))
-
 pub slots-now : (c : Completed) (slots : Slots) → IsComplete c → stage_found c.log ≤ c.stage → AreSlotsOf c.log slots
     → AreSlotsSaid c.log.shape (past_of c.log (c.stage + 1)) slots
 slots-now c slots is le are =
     let reached = reached-now c (stage_found c.log) is le in
     let behind : pad_stage c.log.shape < stage_found c.log = omega arith in record {
-      descriptors = are.descriptors ∙ descriptors-now c.log (stage_found c.log) (c.stage + 1) reached behind;
-      pads = are.pads ∙ pads-now c.log (stage_found c.log) (c.stage + 1) reached behind;
+      descriptors = are.descriptors ∙ descriptors-stay c.log (stage_found c.log) (c.stage + 1) reached behind;
+      pads = are.pads ∙ pads-stay c.log (stage_found c.log) (c.stage + 1) reached behind;
       states = are.states ∙ slots_stay c.log (stage_found c.log) (c.stage + 1) reached behind;
       fit = are.fit;
       count = are.count;

@@ -1,7 +1,6 @@
 -- A closing stage all posts of which a log has.
-use Rattle.std.proofs.Common.{◌≡◌, ◌⊎◌, ℕ, ◌+◌, ◌-◌, ◌<◌, ◌≤◌, true, Option, Some, None, Ok, ap, sym, ◌∙◌, refl, subst, arith, inl, inr}
+use Rattle.std.proofs.Common.{◌≡◌, ◌⊎◌, ℕ, ◌+◌, ◌-◌, ◌≤◌, true, Option, Some, None, Ok, ap, sym, ◌∙◌, refl, subst, arith, inl, inr}
 use Rattle.std.specs.Prelude.{is_some, option_and_then}
-use Rattle.std.proofs.lemmas.Bool.{cases_eq, cases_lt}
 use Rattle.std.proofs.lemmas.Option.{none-some}
 use Rattle.phase_message.specs.declared.content.Content.{Content}
 use Rattle.phase_message.specs.declared.stage.StageKind.{StageKind}
@@ -10,7 +9,7 @@ use Rattle.phase_message.specs.Offence.{content_read}
 use Rattle.phase_message.specs.Shape.{Shape}
 use Rattle.phase_message.specs.Slots.{slots_before}
 use Rattle.phase_message.specs.Stages.{kind_of_stage, vote_of}
-use Rattle.phase_message.proofs.Table.{check_is, final_a_is, final_b_is, go_a_is, go_b_is, keys_is, nothing_is, pad_is, submit_a_is, submit_b_is, turn_a, turn_b}
+use Rattle.phase_message.proofs.StageCounts.{confirm-at}
 use Rattle.group_roster.specs.Roster.{shape_of_roster}
 use Rattle.shuffle_blame.proofs.Endings.{ends_at}
 use Rattle.round_spec.specs.Slots.{final_stage}
@@ -78,51 +77,6 @@ end-second shape stage shuffle kind second = elim (ends_at shape stage shuffle k
   | inr b ↦ (let at = b.1 in let final : final_stage shape 2 ≡ shape.members + 7 + (shape.members + 2) = refl in
       (b.0, omega (arith, at, final)))
 ]
-
--- the checks are closed at one stage
-pub confirm-at : (shape : Shape) (stage : ℕ) → kind_of_stage shape stage ≡ Some AtConfirm → stage ≡ shape.members + 6
-confirm-at shape stage e =
-    elim (cases_eq stage (shape.members + 6)) [
-      | inl at ↦ at
-      | inr not_there ↦ absurd (elim (cases_lt stage (shape.members + 6)) [ inl lt ↦ before_it lt | inr le ↦ behind_it (omega arith) ])
-    ]
-  where
-    before_it : stage < shape.members + 6 → ⊥
-    before_it lt = elim (cases_eq stage 0) [
-      | inl at ↦ (let is = sym (keys_is shape stage at) ∙ e in cc)
-      | inr no0 ↦ elim (cases_eq stage 1) [
-        | inl at ↦ (let is = sym (submit_a_is shape stage at) ∙ e in cc)
-        | inr no1 ↦ elim (cases_eq stage (shape.members + 2)) [
-          | inl at ↦ (let is = sym (go_a_is shape stage at) ∙ e in cc)
-          | inr no2 ↦ elim (cases_eq stage (shape.members + 3)) [
-            | inl at ↦ (let is = sym (final_a_is shape stage at) ∙ e in cc)
-            | inr no3 ↦ elim (cases_eq stage (shape.members + 4)) [
-              | inl at ↦ (let is = sym (pad_is shape stage at) ∙ e in cc)
-              | inr no4 ↦ elim (cases_eq stage (shape.members + 5)) [
-                | inl at ↦ (let is = sym (check_is shape stage at) ∙ e in cc)
-                | inr no5 ↦ (let is = sym (turn_a shape stage (stage - 1) (omega arith) (omega arith) (omega arith)) ∙ e in cc)
-              ]
-            ]
-          ]
-        ]
-      ]
-    ]
-
-    behind_it : shape.members + 6 < stage → ⊥
-    behind_it lt = elim (cases_eq stage (shape.members + 7)) [
-      | inl at ↦ (let is = sym (submit_b_is shape stage at) ∙ e in cc)
-      | inr no7 ↦ elim (cases_eq stage (shape.members + shape.members + 8)) [
-        | inl at ↦ (let is = sym (go_b_is shape stage at) ∙ e in cc)
-        | inr no8 ↦ elim (cases_eq stage (shape.members + shape.members + 9)) [
-          | inl at ↦ (let is = sym (final_b_is shape stage at) ∙ e in cc)
-          | inr no9 ↦ elim (cases_lt stage (shape.members + shape.members + 8)) [
-            | inl turn ↦ (let is = sym (turn_b shape stage (stage - (shape.members + 7)) (omega arith) (omega arith) (omega arith))
-                ∙ e in cc)
-            | inr past ↦ (let is = sym (nothing_is shape stage (omega arith)) ∙ e in cc)
-          ]
-        ]
-      ]
-    ]
 
 -- a closing stage is behind the keys and the first shuffle, and there are few
 pub record IsLate (shape : Shape) (stage : ℕ) : Type 0 where

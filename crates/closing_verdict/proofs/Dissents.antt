@@ -30,7 +30,7 @@ use Rattle.closing_verdict.specs.Telling.{tells_assent}
 use Rattle.closing_verdict.proofs.Agreements.{dissented-verdict, told-agree}
 use Rattle.closing_verdict.proofs.Charges.{charge_of, is-charge}
 use Rattle.closing_verdict.proofs.ClosedStages.{whole-stage}
-use Rattle.closing_verdict.proofs.Culprits.{culprit-one}
+use Rattle.shuffle_blame.proofs.Blamed.{culprit-one}
 use Rattle.closing_verdict.proofs.PadPosts.{front-there}
 
 -- a call replays what the verdict does

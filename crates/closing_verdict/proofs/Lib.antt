@@ -7,7 +7,6 @@ pub mod ClosedStages
 pub mod Agreements
 pub mod SecondContents
 pub mod Carrying
-pub mod Culprits
 pub mod SeedVerdicts
 pub mod Accusings
 pub mod Dissents

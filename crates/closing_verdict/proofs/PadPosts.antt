@@ -1,18 +1,16 @@
 -- The posts that show a bad pad: those of all slots before the pads, and the pads of a member.
-use Rattle.std.proofs.Common.{◌≡◌, ℕ, zero, suc, ◌+◌, ◌*◌, ◌<◌, ◌≤◌, ◌^◌, List, [], ◌∷◌, ◌++◌, All, length, get_or, map, take, Some, refl, sym, ap, subst, ◌∙◌, arith, inl, inr, length-append}
+use Rattle.std.proofs.Common.{◌≡◌, ℕ, zero, suc, ◌+◌, ◌*◌, ◌<◌, ◌≤◌, ◌^◌, List, [], ◌∷◌, ◌++◌, All, length, get_or, map, take, Some, sym, ap, subst, ◌∙◌, arith, inl, inr, length-append}
 use Rattle.std.specs.Prelude.{◌⊎◌, IsSome}
 use Rattle.std.proofs.lemmas.Bool.{cases_lt}
 use Rattle.std.proofs.lemmas.List.{get_or-map, get_or-take, length-map, length-take-le}
 use Rattle.std.proofs.lemmas.Option.{slice_get-get_or}
 use Rattle.phase_message.specs.declared.post.Post.{Post}
 use Rattle.phase_message.specs.declared.stage.Slot.{Slot}
-use Rattle.phase_message.specs.declared.stage.StageKind.TheVariants.{Keys as AtKeys, Submit as AtSubmit, Shuffle as AtShuffle, Go as AtGo, Final as AtFinal}
 use Rattle.phase_message.specs.Post.{post_spelling}
 use Rattle.phase_message.specs.Shape.{Shape}
 use Rattle.phase_message.specs.Slots.{slot_number, slots_before, slots_of}
-use Rattle.phase_message.proofs.Counts.{slots_next}
+use Rattle.phase_message.proofs.StageCounts.{before-pads}
 use Rattle.phase_message.proofs.SlotLists.{length-slots_of, slot_at-is, slot_number-within, slots_before-most, slots_before-rises}
-use Rattle.phase_message.proofs.Table.{final_a_is, go_a_is, keys_is, submit_a_is, turn_a}
 use Rattle.stage_log.specs.Log.{before}
 use Rattle.stage_log.proofs.Fronts.{before-front, some_is}
 use Rattle.honest_say.specs.Pasts.{posts_before}
@@ -21,30 +19,6 @@ use Rattle.round_spec.specs.Slots.{pad_stage}
 use Rattle.round_spec.specs.Verdict.{no_post}
 use Rattle.closing_verdict.specs.Judgement.{Completed, IsComplete}
 use Rattle.closing_verdict.proofs.ClosingPosts.{closed-long, closed-short}
-
--- ---- how many
-
-before-turn : (shape : Shape) (k : ℕ) → k ≤ shape.members → slots_before shape (2 + k) ≡ shape.members + shape.members + k
-before-turn shape zero most =
-    let keys = slots_next shape 0 AtKeys (keys_is shape 0 refl) in
-    let submit = slots_next shape 1 (AtSubmit 1) (submit_a_is shape 1 refl) in
-    omega (arith, keys, submit)
-before-turn shape (suc k) most =
-    let same : 2 + suc k ≡ 2 + k + 1 = omega arith in
-    let next = slots_next shape (2 + k) (AtShuffle 1 (k + 1)) (turn_a shape (2 + k) (k + 1) (omega arith) (omega arith) (omega arith)) in
-    omega (arith, ap (slots_before shape) same, next, before-turn shape k (omega arith))
-
--- five of each member
-pub before-pads : (shape : Shape) → slots_before shape (pad_stage shape) ≡ 5 * shape.members
-before-pads shape =
-    let n : ℕ = shape.members in
-    let turns = before-turn shape n (omega arith) in
-    let votes_at : 2 + n ≡ n + 2 = omega arith in
-    let votes = slots_next shape (n + 2) (AtGo 1) (go_a_is shape (n + 2) refl) in
-    let ends_at : n + 2 + 1 ≡ n + 3 = omega arith in
-    let ends = slots_next shape (n + 3) (AtFinal 1) (final_a_is shape (n + 3) refl) in
-    let pads_at : n + 3 + 1 ≡ n + 4 = omega arith in
-    omega (arith, turns, ap (slots_before shape) votes_at, votes, ap (slots_before shape) ends_at, ends, ap (slots_before shape) pads_at)
 
 -- ---- what they are
 

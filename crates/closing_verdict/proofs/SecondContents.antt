@@ -27,7 +27,7 @@ use Rattle.signed_post.specs.Frame.{frame_of}
 use Rattle.stage_log.specs.Table.{Log, kept_in}
 use Rattle.go_nogo.specs.Closing.{IsClosing, is_assent, posts_embedded, slots_embedded}
 use Rattle.go_nogo.specs.Differences.{Differ, HaveNoDifference, IsFirstDifference}
-use Rattle.go_nogo.proofs.LeastDifference.{kept-slot}
+use Rattle.stage_log.proofs.KeptPosts.{kept-slot}
 use Rattle.transcript_form.specs.declared.claim.Claim.TheVariants.{Equivocation}
 use Rattle.round_spec.specs.Embedded.{BadPost, WhyNot, post_for_slot, posts_for}
 use Rattle.round_spec.specs.Verdict.{ClosedStage, Verdict, closing_content, content_of_post, conviction, equivocation_in, pairs_read, post_in, second_content, sent_in}

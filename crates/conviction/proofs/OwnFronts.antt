@@ -1,9 +1,9 @@
 -- What a member submits looks at nothing that is said at its stage or later.
 use Rattle.std.proofs.Common.{◌≡◌, ℕ, zero, suc, ◌+◌, ◌<◌, ◌≤◌, true, false, List, [], map, take, Option, Some, ap, sym, ◌∙◌, refl, arith, rules, inl, inr}
 use Rattle.std.specs.Prelude.{◌==◌, option_and_then, slice_index_or}
-use Rattle.std.specs.List.{range_with_len}
 use Rattle.std.proofs.lemmas.Bool.{cases_Bool, cond-false, cond-true, eq-eqb}
 use Rattle.std.proofs.lemmas.List.{get_or-take}
+use Rattle.wire_core.proofs.ListLemmas.{map-range}
 use Rattle.phase_message.specs.declared.content.Body.{Body}
 use Rattle.phase_message.specs.declared.stage.StageKind.{StageKind}
 use Rattle.phase_message.specs.Offence.{content_read}
@@ -34,15 +34,6 @@ said-front shape past later stage member speaks lt =
     ap (λ (bytes : List ℕ). body_of (content_read shape bytes))
     (get_or-take (slots_before shape later) past number [] (omega
     (arith, within, slots_before-rises shape (stage + 1) later (omega arith))))
-
-pub map-range : {A : Type 0} (f g : ℕ → A) (a n : ℕ) → ((m : ℕ) → a ≤ m → m < a + n → f m ≡ g m)
-    → map f (range_with_len a n) ≡ map g (range_with_len a n)
-map-range f g a zero each = refl
-map-range f g a (suc n) each = rw (
-  each a (omega arith) (omega arith),
-  map-range f g (a + 1) n
-      (λ m le lt. each m (omega arith) (omega arith)),
-) refl
 
 is-there : (n member : ℕ) → 1 ≤ member → member < 1 + n → is_member n member ≡ true
 is-there n member first last = search rules

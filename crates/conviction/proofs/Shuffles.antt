@@ -13,6 +13,7 @@ use Rattle.layer_cipher.specs.Stripping.{HasBody, OpensTo, stripped, stripped_th
 use Rattle.layer_cipher.proofs.LayerLemmas.{layer_adds}
 use Rattle.layer_cipher.proofs.StrippingLemmas.{strips_all, strips_exactly, strips_in_any_order}
 use Rattle.layer_cipher.proofs.ThroughLemmas.{strips_through_exactly, strips_through_more}
+use Rattle.wire_core.proofs.ListLemmas.{map-range}
 use Rattle.phase_message.specs.declared.content.Body.{Body}
 use Rattle.phase_message.specs.declared.content.Body.TheVariants.{Shuffled}
 use Rattle.phase_message.specs.declared.content.Content.{Content}
@@ -94,15 +95,6 @@ zip-range R f g a (suc n) each = (
   zip-range R f g (a + 1) n
       (λ m le lt. each m (omega arith) (omega arith)),
 )
-
-map-range : (f g : ℕ → List ℕ) (a n : ℕ) → ((m : ℕ) → a ≤ m → m < a + n → f m ≡ g m)
-    → map f (range_with_len a n) ≡ map g (range_with_len a n)
-map-range f g a zero each = refl
-map-range f g a (suc n) each = rw (
-  each a (omega arith) (omega arith),
-  map-range f g (a + 1) n
-      (λ m le lt. each m (omega arith) (omega arith)),
-) refl
 
 -- ---- what was said, in the words of both
 

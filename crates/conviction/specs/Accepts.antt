@@ -1,5 +1,5 @@
 -- What convicts a member: what each claim asks of the posts that a transcript lists.
-use Rattle.std.specs.Prelude.{◌≡◌, ◌≢◌, ◌≤◌, ℕ, ◌-◌, List, [], ◌∷◌, length, Option, Some, Ok, false, ◌==◌, IsTrue, IsSome, slice_get, slice_index_or, option_and_then, if◌then◌else◌}
+use Rattle.std.specs.Prelude.{◌≡◌, ◌≢◌, ◌≤◌, ℕ, ◌-◌, List, [], ◌∷◌, length, Option, Some, Ok, false, ◌==◌, IsTrue, IsSome, slice_get, slice_index_or, if◌then◌else◌}
 use Rattle.ring_encrypt.specs.Capsule.{key_of_seed}
 use Rattle.phase_message.specs.declared.content.Body.TheVariants.{Keys, Reveal, Pads}
 use Rattle.phase_message.specs.declared.content.Content.{Content}
@@ -7,10 +7,11 @@ use Rattle.phase_message.specs.declared.header.Header.{Header}
 use Rattle.phase_message.specs.declared.post.Post.{Post}
 use Rattle.phase_message.specs.declared.stage.StageKind.{StageKind}
 use Rattle.phase_message.specs.declared.stage.StageKind.TheVariants.{Keys as AtKeys, Final}
+use Rattle.phase_message.specs.Closing.{ClosesVotes}
 use Rattle.phase_message.specs.Grammar.{OfGrammar, content_text}
 use Rattle.phase_message.specs.Shape.{Shape}
 use Rattle.phase_message.specs.Slots.{slots_before}
-use Rattle.phase_message.specs.Stages.{kind_of_stage, vote_of}
+use Rattle.phase_message.specs.Stages.{kind_of_stage}
 use Rattle.group_roster.specs.Roster.{Roster, shape_of_roster}
 use Rattle.signed_post.specs.Admission.{IsPostFile, Says}
 use Rattle.stage_log.specs.Log.{contents_of, view_of}
@@ -130,7 +131,7 @@ inquiry_by shape round stage past said = record {
 pub record ReplaysFault (roster : Roster) (t : Transcript) : Type 0 where
   pub count : length t.posts ≡ (shape_of_roster roster).members
   pub stage : ℕ
-  pub closing : IsSome (option_and_then vote_of (kind_of_stage (shape_of_roster roster) stage))
+  pub closing : ClosesVotes (shape_of_roster roster) stage
   pub past : List (List ℕ)
   pub said : ℕ → Content
   pub object : (member : ℕ) → 1 ≤ member → member ≤ (shape_of_roster roster).members →

@@ -1,9 +1,10 @@
 -- Why the replay of what an honest member kept does not blame the member.
-use Rattle.std.specs.Prelude.{◌≡◌, ◌≢◌, ℕ, List, Contains, IsSome, length, option_and_then, Some, None}
+use Rattle.std.specs.Prelude.{◌≡◌, ◌≢◌, ℕ, List, Contains, length, Some, None}
 use Rattle.wire_core.specs.Bytes.{IsBytes}
 use Rattle.phase_message.specs.declared.post.Post.{Post}
 use Rattle.phase_message.specs.declared.stage.StageKind.TheVariants.{Final}
-use Rattle.phase_message.specs.Stages.{kind_of_stage, vote_of}
+use Rattle.phase_message.specs.Closing.{ClosesVotes}
+use Rattle.phase_message.specs.Stages.{kind_of_stage}
 use Rattle.stage_log.specs.Log.{before, contents_of}
 use Rattle.transcript_form.specs.declared.transcript.Transcript.{Transcript}
 use Rattle.transcript_form.specs.Transcript.{IsTranscript, transcript_spelling}
@@ -66,7 +67,7 @@ ShuffleNotOwn = (run : Run) (q : Inquiry) (shuffle : ℕ) (fault : Fault) (strin
 -- is yes
 abbrev pub NoGoNotOwn : Type 0
 NoGoNotOwn = (run : Run) (q : Inquiry) (fault : Fault) → HonestRun run → IsOwnInquiry run q →
-    IsSome (option_and_then vote_of (kind_of_stage q.shape q.stage)) → view_fault q ≡ None →
+    ClosesVotes q.shape q.stage → view_fault q ≡ None →
     ((shuffle : ℕ) → kind_of_stage q.shape q.stage ≡ Some (Final shuffle) →
     (seed_fault q shuffle ≡ None) × (submission_fault q shuffle ≡ None) × (turn_fault q ≡ None)) →
     vote_fault q ≡ Some fault → fault.member ≢ run.config.number
@@ -75,7 +76,7 @@ NoGoNotOwn = (run : Run) (q : Inquiry) (fault : Fault) → HonestRun run → IsO
 -- the layer seeds that are shown are among some of which no two have one hash
 abbrev pub ReplayNotOwn : Type 0
 ReplayNotOwn = (run : Run) (q : Inquiry) (strings : List (List ℕ)) (fault : Fault) → HonestRun run → IsOwnInquiry run q →
-    IsSome (option_and_then vote_of (kind_of_stage q.shape q.stage)) →
+    ClosesVotes q.shape q.stage →
     ((shuffle : ℕ) → kind_of_stage q.shape q.stage ≡ Some (Final shuffle) → HasShownStrings q shuffle strings) →
     culprit_of q ≡ Some fault → fault.member ≢ run.config.number
 

@@ -15,6 +15,3 @@ pub use laws::nothing_is_torn;
 pub use memory_disk::MemoryDisk;
 pub use room::overwrite;
 pub use steps_taken::Pick;
-
-#[cfg(test)]
-mod tests;

@@ -23,7 +23,6 @@ fn commands_end_as_they_ought_to(rt: HostRuntime) -> Result<(), Fail> {
     assert_eq!(rt; first_other_end(&rt, alloc)?, None);
     assert_eq!(rt; first_other_line(&rt, alloc)?, None);
     assert!(rt; is_roster_made(&rt, alloc)?);
-    assert!(rt; is_evidence_accepted(&rt, alloc)?);
     assert!(rt; is_failed_write_told(&rt, alloc)?);
     assert!(rt; is_real_key_made(&rt, alloc)?);
     Ok(())
@@ -122,9 +121,6 @@ enum Content {
     PostOfRound7,
     // This number of bytes 0.
     Zeros(usize),
-    Bytes(&'static [u8]),
-    // A script of this number of members, from its messages on.
-    Script { members: u8, rest: &'static [u8] },
 }
 
 impl Content {
@@ -135,8 +131,6 @@ impl Content {
             Content::TomlOfTwo => toml_of_two(alloc),
             Content::PostOfRound7 => post_of_round_7(alloc),
             Content::Zeros(count) => vec![in alloc; 0; count],
-            Content::Bytes(bytes) => Vec::from_slice(alloc, bytes),
-            Content::Script { members, rest } => script_of(alloc, members, rest),
         }
     }
 }
@@ -150,19 +144,6 @@ fn roster_of_two(alloc: Global, count: u8) -> Result<Vec<u8>, AllocError> {
         bytes.extend_from_slice(&[member; 48])?;
     }
     Ok(bytes)
-}
-
-// A script of round 1 with a seed of 32 bytes 7.
-fn script_of(alloc: Global, members: u8, rest: &[u8]) -> Result<Vec<u8>, AllocError> {
-    let mut text = Vec::from_slice(alloc, b"dissent-script 1\nmembers ")?;
-    text.push(b'0' + members % 10)?;
-    text.extend_from_slice(b"\nround 1\nseed ")?;
-    for _ in 0..32 {
-        text.extend_from_slice(b"07")?;
-    }
-    text.push(b'\n')?;
-    text.extend_from_slice(rest)?;
-    Ok(text)
 }
 
 fn toml_of_two(alloc: Global) -> Result<Vec<u8>, AllocError> {
@@ -227,22 +208,12 @@ const ROSTER: [&str; 5] = ["roster", "--toml", "t", "--out", "o"];
 
 const KEYGEN: [&str; 7] = ["keygen", "--key", "k", "--height", "5", "--width", "8"];
 
-const GROUP: [&str; 7] = [
-    "group",
-    "--script",
-    "s",
-    "--roster",
-    "r",
-    "--transcript",
-    "t",
-];
-
 // Words that are not those of a command.
-const OTHER_WORDS: [&[&str]; 17] = [
-    &[],
-    &["live", "--script", "s"],
+const OTHER_WORDS: [&[&str]; 15] = [
     &["judge", "--roster", "r"],
+    &["judge", "--roster", "", "--transcript", "t"],
     &["judge", "--roster", "r", "--transcript", "-t"],
+    &["judge", "--transcript", "t", "--roster", "r"],
     &["show", "--roster", "r", "--round", "0", "--post", "t"],
     &["show", "--roster", "r", "--round", "08", "--post", "t"],
     &[
@@ -254,66 +225,14 @@ const OTHER_WORDS: [&[&str]; 17] = [
         "--post",
         "t",
     ],
+    &["roster", "--toml", "", "--out", "o"],
+    &["roster", "--out", "o", "--toml", "t"],
     &["keygen", "--key", "--height", "5", "--width", "8"],
+    &["keygen", "--key", "", "--height", "5", "--width", "8"],
     &["keygen", "--key", "k", "--height", "6", "--width", "8"],
     &["keygen", "--key", "k", "--height", "05", "--width", "8"],
     &["keygen", "--key", "k", "--height", "5", "--width", "3"],
-    &["group", "--script", "s", "--roster", "r"],
-    &[
-        "make",
-        "--number",
-        "00",
-        "--members",
-        "2",
-        "--bytes",
-        "0",
-        "--fault",
-        "none",
-    ],
-    &[
-        "make",
-        "--number",
-        "0",
-        "--members",
-        "1",
-        "--bytes",
-        "0",
-        "--fault",
-        "none",
-    ],
-    &[
-        "make",
-        "--number",
-        "0",
-        "--members",
-        "9",
-        "--bytes",
-        "0",
-        "--fault",
-        "none",
-    ],
-    &[
-        "make",
-        "--number",
-        "0",
-        "--members",
-        "2",
-        "--bytes",
-        "65537",
-        "--fault",
-        "none",
-    ],
-    &[
-        "make",
-        "--number",
-        "0",
-        "--members",
-        "2",
-        "--bytes",
-        "0",
-        "--fault",
-        "None",
-    ],
+    &["keygen", "--key", "k", "--width", "8", "--height", "5"],
 ];
 
 // The first of these words that is not answered by `usage`.
@@ -332,21 +251,13 @@ fn first_other_usage<R: Threads + Sync>(
 }
 
 // Missing, failing and wrong files, each with its status and its line.
-const CASES: [Case; 20] = [
+const CASES: [Case; 9] = [
     Case {
         words: &JUDGE,
         named: &[],
         failing: NOTHING_FAILS,
         number: 5,
         line: b"read fault\n",
-    },
-    // Options in another order, one joined to its value.
-    Case {
-        words: &["judge", "--transcript=t", "--roster", "r"],
-        named: &[("r", Content::RosterOfOne)],
-        failing: NOTHING_FAILS,
-        number: 11,
-        line: b"bad roster at 5 rule 3\n",
     },
     // The transcript can't be read.
     Case {
@@ -418,140 +329,6 @@ const CASES: [Case; 20] = [
         number: 8,
         line: b"disk fault\n",
     },
-    Case {
-        words: &GROUP,
-        named: &[("s", Content::Zeros(2_097_153))],
-        failing: NOTHING_FAILS,
-        number: 13,
-        line: b"too long limit 2097152\n",
-    },
-    Case {
-        words: &GROUP,
-        named: &[(
-            "s",
-            Content::Bytes(b"dissent-script 1\nmembers 3\nround 0\n"),
-        )],
-        failing: NOTHING_FAILS,
-        number: 15,
-        line: b"bad script line 3\n",
-    },
-    // Which slots the messages stand in is what another program said.
-    Case {
-        words: &GROUP,
-        named: &[(
-            "s",
-            Content::Script {
-                members: 2,
-                rest: b"message 1 61\nmessage 2 -\n",
-            },
-        )],
-        failing: NOTHING_FAILS,
-        number: 0,
-        line: b"member 1 done\nmember 2 done\nslot 1 message 0 -\nslot 2 message 1 61\n",
-    },
-    Case {
-        words: &GROUP,
-        named: &[(
-            "s",
-            Content::Script {
-                members: 3,
-                rest: b"message 1 61\nmessage 2 61\nmessage 3 61\n",
-            },
-        )],
-        failing: NOTHING_FAILS,
-        number: 0,
-        line: b"member 1 done\nmember 2 done\nmember 3 done\nslot 1 message 1 61\nslot 2 message 1 61\nslot 3 message 1 61\n",
-    },
-    Case {
-        words: &GROUP,
-        named: &[(
-            "s",
-            Content::Script {
-                members: 3,
-                rest: b"message 1 61\nmessage 2 62\nmessage 3 63\ndrop 0 3\n",
-            },
-        )],
-        failing: NOTHING_FAILS,
-        number: 0,
-        line: b"member 1 open stage 0 missing 3\nmember 2 open stage 0 missing 3\nmember 3 open stage 1 missing 1,2\n",
-    },
-    Case {
-        words: &GROUP,
-        named: &[(
-            "s",
-            Content::Script {
-                members: 3,
-                rest: b"message 1 61\nmessage 2 62\nmessage 3 63\ndrop 3 2\n",
-            },
-        )],
-        failing: NOTHING_FAILS,
-        number: 0,
-        line: b"member 1 open stage 3 missing 2\nmember 2 open stage 4 missing 3\nmember 3 open stage 3 missing 2\n",
-    },
-    Case {
-        words: &GROUP,
-        named: &[(
-            "s",
-            Content::Script {
-                members: 3,
-                rest: b"message 1 61\nmessage 2 62\nmessage 3 63\nfault 2 bad-descriptor\n",
-            },
-        )],
-        failing: NOTHING_FAILS,
-        number: 0,
-        line: b"member 1 done\nmember 2 faulty\nmember 3 done\nslot 1 bad 1\nslot 2 message 1 61\nslot 3 message 1 63\n",
-    },
-    Case {
-        words: &[
-            "make",
-            "--number",
-            "7",
-            "--members",
-            "3",
-            "--bytes",
-            "1000",
-            "--fault",
-            "flip-pad",
-        ],
-        named: &[],
-        failing: NOTHING_FAILS,
-        number: 0,
-        line: b"members 3 done 0 open 0 blamed 2\nmessages 0 bytes 0\n",
-    },
-    Case {
-        words: &[
-            "make",
-            "--number",
-            "7",
-            "--members",
-            "3",
-            "--bytes",
-            "1000",
-            "--fault",
-            "none",
-        ],
-        named: &[],
-        failing: NOTHING_FAILS,
-        number: 0,
-        line: b"members 3 done 3 open 0 blamed 0\nmessages 3 bytes 3000\n",
-    },
-    Case {
-        words: &[
-            "make",
-            "--number",
-            "4",
-            "--members",
-            "4",
-            "--bytes",
-            "64",
-            "--fault",
-            "silent",
-        ],
-        named: &[],
-        failing: NOTHING_FAILS,
-        number: 0,
-        line: b"members 4 done 0 open 3 blamed 0\nmessages 0 bytes 0\n",
-    },
 ];
 
 // The first of these cases that ends otherwise.
@@ -607,19 +384,6 @@ fn is_failed_write_told<R: Threads + Sync>(rt: &R, alloc: Global) -> Result<bool
     };
     let (ended, read) = roster_made(rt, alloc, failing)?;
     Ok(ended.is(6, b"") && matches!(read, FileRead::Failed))
-}
-
-// Whether a member whose vote is false is blamed, and `judge` accepts what is written of it.
-fn is_evidence_accepted<R: Threads + Sync>(rt: &R, alloc: Global) -> Result<bool, AllocError> {
-    let script = Content::Script {
-        members: 3,
-        rest: b"message 1 61\nmessage 2 62\nmessage 3 63\nfault 2 false-nogo\n",
-    };
-    let mut files = files_of(alloc, NOTHING_FAILS, &[("s", script)])?;
-    let group = run_words(rt, alloc, &GROUP, &mut files, NOTHING_FAILS)?;
-    let judged = run_words(rt, alloc, &JUDGE, &mut files, NOTHING_FAILS)?;
-    let lines = b"member 1 blames 2 Replay\nmember 2 faulty\nmember 3 blames 2 Replay\n";
-    Ok(group.is(0, lines) && judged.is(0, b"accepted member 2 claim Replay\n"))
 }
 
 #[test]

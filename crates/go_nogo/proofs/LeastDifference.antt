@@ -1,37 +1,16 @@
 -- The first difference of two logs, by stage and then by sender, comes before all others.
-use Rattle.std.proofs.Common.{◌≡◌, ℕ, zero, suc, ◌+◌, ◌-◌, ◌<◌, ◌≤◌, Bool, true, false, List, [], ◌∷◌, ◌++◌, map, Option, Some, None, ◌⊎◌, inl, inr, refl, ap, sym, ◌∙◌, subst, arith, eqb-true}
+use Rattle.std.proofs.Common.{◌≡◌, ℕ, ◌+◌, ◌-◌, ◌<◌, ◌≤◌, Bool, true, false, Option, Some, None, ◌⊎◌, inl, inr, refl, ap, sym, ◌∙◌, subst, arith}
 use Rattle.std.specs.Prelude.{MatchOption, bytes_eq, not}
-use Rattle.std.specs.List.{range_with_len, slice_get}
-use Rattle.std.specs.Option.{option_flatten}
-use Rattle.std.proofs.lemmas.Bool.{and_parts, both_ways, cases_Bool, cases_lt, cond-true, cond-false, false_from_ne_true, leb-true, not-true}
+use Rattle.std.proofs.lemmas.Bool.{both_ways, cases_Bool, cases_lt, cond-true, cond-false, false_from_ne_true, not-true}
 use Rattle.std.proofs.lemmas.Slice.Eq.{bytes_eq-Decides}
 use Rattle.wire_core.proofs.AnswerLemmas.{first_below-each, first_below-found}
 use Rattle.phase_message.specs.declared.post.Post.{Post}
 use Rattle.phase_message.specs.declared.stage.Slot.{Slot}
-use Rattle.phase_message.specs.declared.stage.StageKind.{StageKind}
-use Rattle.phase_message.specs.declared.stage.StageKind.TheVariants.{Keys, Submit, Shuffle, Go, Final, Pad, Check, Confirm}
-use Rattle.phase_message.specs.Shape.{Shape}
-use Rattle.phase_message.specs.Slots.{slot_number, stage_count}
-use Rattle.phase_message.specs.Stages.{is_sender, is_slot, kind_of_stage, speaks, stages, turns}
+use Rattle.phase_message.specs.Slots.{stage_count}
 use Rattle.phase_message.proofs.SlotBounds.{slot-bounds}
 use Rattle.stage_log.specs.Table.{Log, kept_in}
+use Rattle.stage_log.proofs.KeptPosts.{kept-slot}
 use Rattle.go_nogo.specs.Differences.{Differ, HaveNoDifference, IsFirstDifference, are_different, difference_at, difference_of, differing}
-
--- ---- what is kept stands in a slot
-
-pub kept-slot : (log : Log) (slot : Slot) (post : Post) → kept_in log slot ≡ Some post → is_slot log.shape slot.stage slot.sender ≡ true
-kept-slot log slot post e =
-    elim (cases_Bool (is_slot log.shape slot.stage slot.sender)) [
-      | inl speaks_there ↦ speaks_there
-      | inr silent ↦
-          let none : kept_in log slot ≡ None = cond-false (is_slot log.shape slot.stage slot.sender)
-          (option_flatten (slice_get log.posts (slot_number log.shape slot.stage slot.sender))) None silent in
-          absurd (nothing (kept_in log slot) post none e)
-    ]
-  where
-    nothing : (o : Option Post) (p : Post) → o ≡ None → o ≡ Some p → ⊥
-    nothing None p none some = absurd cc
-    nothing (Some q) p none some = absurd cc
 
 -- ---- a slot in which two logs differ
 

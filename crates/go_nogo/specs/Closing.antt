@@ -1,5 +1,5 @@
 -- Closing contents: which posts they embed, and when they are justified.
-use Rattle.std.specs.Prelude.{ℕ, ◌+◌, ◌-◌, List, [], take, Bool, true, false, not, ◌&&◌, IsTrue, IsSome, option_and_then, bytes_eq, if◌then◌else◌}
+use Rattle.std.specs.Prelude.{ℕ, ◌+◌, ◌-◌, List, [], take, Bool, true, false, not, ◌&&◌, IsTrue, IsSome, bytes_eq, if◌then◌else◌}
 use Rattle.std.specs.List.{slice_range}
 use Rattle.phase_message.specs.declared.content.Body.{Body}
 use Rattle.phase_message.specs.declared.content.Body.TheVariants.{Reveal, Dispute, Confirm, Differ}
@@ -7,7 +7,7 @@ use Rattle.phase_message.specs.declared.content.Content.{Content}
 use Rattle.phase_message.specs.declared.stage.Slot.{Slot}
 use Rattle.phase_message.specs.Shape.{Shape}
 use Rattle.phase_message.specs.Slots.{slots_before, slots_of}
-use Rattle.phase_message.specs.Stages.{kind_of_stage, vote_of}
+use Rattle.phase_message.specs.Closing.{ClosesVotes}
 use Rattle.stage_log.specs.Log.{before, view_of}
 use Rattle.stage_log.specs.Table.{Log, is_complete}
 use Rattle.go_nogo.specs.Votes.{are_unanimous, votes_agree}
@@ -42,7 +42,7 @@ slots_embedded shape content = embedded_of shape content (slots_of shape)
 
 -- a content of a closing stage
 abbrev pub IsClosing : Shape → Content → Type 0
-IsClosing shape content = IsSome (option_and_then vote_of (kind_of_stage shape content.header.stage))
+IsClosing shape content = ClosesVotes shape content.header.stage
 
 -- a log keeps all posts of the stage before, for one that assents, or else those of all stages before
 abbrev pub HoldsFor : Bool → ℕ → Log → Type 0

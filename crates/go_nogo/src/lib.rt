@@ -13,6 +13,3 @@ pub use laws::{embedded_slots, one_kind, own_closing_justified, standing_is_kept
 pub use phase_message::{Content, Slot};
 pub use stage_log::StageLog;
 pub use votes::{Vote, unanimous, votes_of};
-
-#[cfg(test)]
-mod tests;

@@ -1,6 +1,6 @@
 -- Where no post is lost, whatever a member posts is delivered to each other.
-use Rattle.std.proofs.Common.{◌≡◌, ◌⊎◌, ℕ, zero, suc, ◌+◌, ◌≤◌, Bool, true, false, List, [], ◌∷◌, ◌++◌, Option, Some, None, length, drop, map, ap, sym, ◌∙◌, refl, subst, arith, inl, inr}
-use Rattle.std.specs.Prelude.{Contains, Result, Ok, Err, replicate, unwrap_or, if◌then◌else◌}
+use Rattle.std.proofs.Common.{◌≡◌, ◌⊎◌, ℕ, zero, suc, ◌≤◌, true, false, List, [], ◌∷◌, ◌++◌, length, drop, map, ap, sym, ◌∙◌, refl, subst, arith, inl, inr}
+use Rattle.std.specs.Prelude.{Contains, Result, Ok, Err, replicate}
 use Rattle.std.specs.Fn.{iterate}
 use Rattle.std.specs.List.{flat_map}
 use Rattle.std.proofs.lemmas.Bool.{false≢true}
@@ -12,9 +12,9 @@ use Rattle.phase_message.specs.declared.stage.Slot.{Slot}
 use Rattle.phase_message.specs.Header.{header_of}
 use Rattle.phase_message.specs.Post.{post_spelling}
 use Rattle.round_spec.specs.Say.{shape_in}
-use Rattle.round_spec.proofs.Contained.{contains-cases, contains-flat, contains-flat-from, contains-here, contains-later, contains-map, contains-nothing}
+use Rattle.round_spec.proofs.Contained.{contains-cases, contains-flat, contains-flat-from, contains-here, contains-map, contains-nothing}
 use Rattle.group_spec.specs.Faulty.{faulty_member, faulty_replies}
-use Rattle.group_spec.specs.World.{Carriage, Entry, Seat, World, actor_of, entries_behind, entries_beyond, entries_of, first_world, greatest_steps, is_dropped, is_for, is_of_slots, last_world, seat_behind, second_content, world_behind_entry, world_behind_queue, world_behind_step}
+use Rattle.group_spec.specs.World.{Carriage, Entry, Seat, World, actor_of, entries_behind, entries_beyond, entries_of, first_world, greatest_steps, is_dropped, is_for, is_of_slots, last_world, seat_behind, second_content, world_behind_queue, world_behind_step}
 use Rattle.group_spec.proofs.Deliveries.{grows, with-same}
 use Rattle.group_spec.proofs.Made.{choose}
 use Rattle.group_spec.proofs.Queues.{queues_empty}

@@ -1,7 +1,7 @@
 -- In the group of a script in which nobody is faulty and nothing is lost, each member is done.
-use Rattle.std.proofs.Common.{◌≡◌, ◌≢◌, ◌⊎◌, ℕ, zero, suc, ◌+◌, ◌<◌, ◌≤◌, Bool, true, false, List, [], ◌∷◌, Option, Some, None, length, take, map, ap, sym, ◌∙◌, refl, subst, arith, rules, inl, inr}
-use Rattle.std.specs.Prelude.{◌&&◌, ◌==◌, All, Contains, IfSome, IsSome, nat_le, not, unwrap_or}
-use Rattle.std.specs.List.{AllByRecursion, range_with_len, slice_get}
+use Rattle.std.proofs.Common.{◌≡◌, ◌≢◌, ℕ, zero, suc, ◌+◌, ◌<◌, ◌≤◌, true, false, List, [], ◌∷◌, Option, Some, None, length, take, map, ap, sym, ◌∙◌, refl, subst, arith, rules, inl, inr}
+use Rattle.std.specs.Prelude.{◌&&◌, ◌==◌, All, Contains, nat_le, not, unwrap_or}
+use Rattle.std.specs.List.{AllByRecursion}
 use Rattle.std.proofs.lemmas.Bool.{cases_Bool, cases_lt, cond-false, cond-true}
 use Rattle.std.proofs.lemmas.List.Elements.{All-contains, All-take}
 use Rattle.std.proofs.lemmas.Option.{none-some}
@@ -11,7 +11,7 @@ use Rattle.phase_message.specs.declared.post.Post.{Post}
 use Rattle.phase_message.specs.declared.stage.Slot.{Slot}
 use Rattle.phase_message.specs.Post.{post_spelling}
 use Rattle.phase_message.specs.Shape.{Shape}
-use Rattle.phase_message.specs.Slots.{slot_number, slots_before, stage_count}
+use Rattle.phase_message.specs.Slots.{slot_number, stage_count}
 use Rattle.phase_message.specs.Stages.{is_slot}
 use Rattle.phase_message.proofs.SlotBounds.{slot-bounds}
 use Rattle.phase_message.proofs.SlotLists.{slot_at-number, slot_number-within, slots_before-rises}
@@ -20,7 +20,6 @@ use Rattle.stage_log.specs.Table.{IsLog, Log, first_incomplete_of, incomplete_st
 use Rattle.stage_log.proofs.Fronts.{before-complete}
 use Rattle.stage_log.proofs.Pasts.{some_of}
 use Rattle.bulk_descriptor.specs.declared.slot_state.SlotState.{SlotState}
-use Rattle.transcript_form.specs.declared.claim.Claim.{Claim}
 use Rattle.transcript_form.specs.declared.claim.Claim.TheVariants.{Pad}
 use Rattle.transcript_form.specs.declared.transcript.Transcript.{Transcript}
 use Rattle.group_roster.specs.Roster.{Roster, shape_of_roster}
@@ -31,8 +30,7 @@ use Rattle.round_spec.specs.Course.{closing_of, course_of}
 use Rattle.round_spec.specs.Justified.{IsPostOf}
 use Rattle.round_spec.specs.Premises.{NoRunsCollide}
 use Rattle.round_spec.specs.Result.{Outcome, Waiting, Blamed, DoneWith, first_posts, log_after, result_of}
-use Rattle.round_spec.specs.Rows.{IsRunOf}
-use Rattle.round_spec.specs.Runs.{ChecksIn, HasNumber, HonestRun, Run, own_slot, posts_said, run_after}
+use Rattle.round_spec.specs.Runs.{ChecksIn, HonestRun, Run, posts_said, run_after}
 use Rattle.round_spec.specs.Say.{Configuration, shape_in}
 use Rattle.round_spec.specs.Slots.{final_stage}
 use Rattle.round_spec.specs.Verdict.{Convicts, Goes, Verdict, verdict_of}
@@ -63,8 +61,8 @@ use Rattle.round_script.specs.Script.{IsRepeat, IsScript}
 use Rattle.group_spec.proofs.Made.{choose}
 use Rattle.group_spec.specs.Driver.{MemberShown, group_end, is_faulty, shown_of}
 use Rattle.group_spec.specs.Scripts.{fault_in, script_carriage, script_configuration, script_end, script_members, script_roster, script_seat}
-use Rattle.group_spec.specs.World.{Entry, Seat, actor_of, entries_beyond, entries_of, entries_with, is_for, second_content}
-use Rattle.group_laws.specs.AllHonest.{IsServed, IsUndisturbed, UndisturbedGroupsAreDone}
+use Rattle.group_spec.specs.World.{Entry, Seat, actor_of, entries_beyond, entries_of, entries_with, second_content}
+use Rattle.group_laws.specs.AllHonest.{IsUndisturbed, UndisturbedGroupsAreDone}
 use Rattle.group_laws.specs.Entering.{IsMemberOf}
 use Rattle.group_laws.specs.Forging.{honest_runs}
 use Rattle.group_laws.specs.Promises.{IsHonestIn, config_shown}
@@ -74,7 +72,7 @@ use Rattle.group_laws.proofs.Forging.{config-is, fault-is, made-same, run-there,
 use Rattle.group_laws.proofs.Honest.{kept-delivered, past-kept, past-long, said-own}
 use Rattle.group_laws.proofs.Kept.{members_keep_their_promise, shown-faulty}
 use Rattle.group_laws.proofs.Served.{honest_stand_among, honest_members_are_served}
-use Rattle.group_laws.proofs.Worlds.{IsSeatOf, emptied, last-steady, last_seats, shown-at, shown-delivered, whole-entry}
+use Rattle.group_laws.proofs.Worlds.{emptied, last-steady, last_seats, shown-at, shown-delivered, whole-entry}
 
 -- ---- a log
 

@@ -7,8 +7,6 @@ mod refusal;
 mod roster;
 mod rule;
 mod spelling;
-#[cfg(test)]
-mod tests;
 mod toml_form;
 
 pub use binary::decode;

@@ -1,7 +1,7 @@
 -- What was said stays.
-use Rattle.std.proofs.Common.{◌≡◌, ℕ, zero, suc, ◌+◌, ◌<◌, ◌≤◌, List, [], ◌∷◌, map, true, Option, Some, refl, ap, sym, ◌∙◌, arith}
+use Rattle.std.proofs.Common.{◌≡◌, ℕ, zero, suc, ◌+◌, ◌<◌, ◌≤◌, List, [], map, true, Option, Some, ap, sym, ◌∙◌, arith}
 use Rattle.std.specs.Prelude.{option_and_then, slice_index_or}
-use Rattle.std.specs.List.{range_with_len}
+use Rattle.wire_core.proofs.ListLemmas.{map-range}
 use Rattle.phase_message.specs.declared.content.Body.{Body}
 use Rattle.phase_message.specs.declared.stage.Slot.{Slot}
 use Rattle.phase_message.specs.Shape.{Shape}
@@ -23,16 +23,9 @@ said-stays log stage later at sender reached speaks lt =
     let order = reached.order in
     sym (kept-said log stage slot reached.at speaks lt) ∙ kept-said log later slot reached.at_later speaks (omega (arith, order))
 
-same-range : {A : Type 0} (f g : ℕ → A) (a n : ℕ) → ((k : ℕ) → a ≤ k → k < a + n → f k ≡ g k)
-    → map f (range_with_len a n) ≡ map g (range_with_len a n)
-same-range {A} f g a zero each = refl
-same-range {A} f g a (suc n) each =
-    ap (λ (x : A). x ∷ map f (range_with_len (a + 1) n)) (each a (omega arith) (omega arith))
-    ∙ ap (λ (xs : List A). g a ∷ xs) (same-range f g (a + 1) n (λ k least lt. each k (omega arith) (omega arith)))
-
 same-members : {A : Type 0} (shape : Shape) (f g : ℕ → A) → ((member : ℕ) → 1 ≤ member → member ≤ shape.members → f member ≡ g member)
     → by_member shape f ≡ by_member shape g
-same-members {A} shape f g each = same-range f g 1 shape.members (λ member least lt. each member least (omega arith))
+same-members shape f g each = map-range f g 1 shape.members (λ member least lt. each member least (omega arith))
 
 pub keys_stay : KeysStay
 keys_stay log stage later place reached behind =
@@ -74,7 +67,7 @@ items_stay log stage later shuffle reached first last behind =
     (seeds-stay log stage later shuffle reached first last behind)
     ∙ ap (entries_opened log.shape (seeds_revealed log.shape (past_of log later) shuffle)) list
 
-pads-stay : (log : Log) (stage later : ℕ) → AreReached log stage later → pad_stage log.shape < stage
+pub pads-stay : (log : Log) (stage later : ℕ) → AreReached log stage later → pad_stage log.shape < stage
     → pads_sent log.shape (past_of log stage) ≡ pads_sent log.shape (past_of log later)
 unfolding pads_sent
 pads-stay log stage later reached behind =
@@ -83,7 +76,7 @@ pads-stay log stage later reached behind =
     (λ member least most. ap pads_in (said-stays log stage later (pad_stage log.shape) member reached (pad-slot log.shape member least most)
     behind))
 
-descriptors-stay : (log : Log) (stage later : ℕ) → AreReached log stage later → pad_stage log.shape < stage
+pub descriptors-stay : (log : Log) (stage later : ℕ) → AreReached log stage later → pad_stage log.shape < stage
     → descriptors_opened log.shape (past_of log stage) ≡ descriptors_opened log.shape (past_of log later)
 unfolding descriptors_opened
 descriptors-stay log stage later reached behind =

@@ -1,9 +1,9 @@
 //! The rows where votes are closed.
 
-ghost use Rattle.std.specs.Prelude.{◌≡◌, ◌≤◌, ◌+◌, ◌-◌, IfOk, IsSome, Some, option_and_then};
+ghost use Rattle.std.specs.Prelude.{◌≡◌, ◌≤◌, ◌+◌, ◌-◌, IfOk, IsSome, Some};
 ghost use Rattle.std.specs.Option.{option_map};
+ghost use Rattle.phase_message.specs.Closing.{ClosesVotes};
 ghost use Rattle.phase_message.specs.Post.{post_spelling};
-ghost use Rattle.phase_message.specs.Stages.{kind_of_stage, vote_of};
 ghost use Rattle.stage_log.specs.Log.{before};
 ghost use Rattle.stage_log.specs.Table.{IsLog, kept_in};
 ghost use Rattle.go_nogo.specs.Rows.{confirm_row, final_row, posts_at, written};
@@ -104,7 +104,7 @@ pub fn confirm_body(alloc: Global, log: &StageLog) -> Mem<Body>
 
 // The posts that a content of a closing stage embeds.
 fn embedded_posts(alloc: Global, log: &StageLog, stage: u8) -> Mem<Embedded>
-    requires closing { IsSome (option_and_then vote_of (kind_of_stage log.now.shape stage)) }
+    requires closing { ClosesVotes log.now.shape stage }
     requires complete { IsSome (before log.now stage) }
     requires stand { StandAt log.now (stage - 1) }
     requires form { IsLog log.now }
@@ -122,7 +122,7 @@ fn embedded_posts(alloc: Global, log: &StageLog, stage: u8) -> Mem<Embedded>
 
 // The votes before a closing stage, as they were sent.
 fn votes_written(alloc: Global, log: &StageLog, stage: u8) -> Mem<List<List<u8>>>
-    requires closing { IsSome (option_and_then vote_of (kind_of_stage log.now.shape stage)) }
+    requires closing { ClosesVotes log.now.shape stage }
     requires complete { IsSome (before log.now stage) }
     ensures { IfOk result (λ votes. votes ≡ written (posts_at log.now.shape (posts_before log.now stage) (stage - 1))) }
 {

@@ -54,7 +54,8 @@ use Rattle.judge_core.proofs.Hearings.{list_is, taken-heard}
 use Rattle.judge_core.proofs.Listed.{asked-again, asked-found, both-true, file-taken, heard-found, says-bytes, taken-found}
 use Rattle.judge_core.proofs.PadPosts.{asked-last, asked-slot, each-taken, heard-pad, pad-at}
 use Rattle.judge_core.proofs.PadReadings.{all-revealed}
-use Rattle.judge_core.proofs.PadSlots.{before-pads, pads-said}
+use Rattle.phase_message.proofs.StageCounts.{before-pads}
+use Rattle.judge_core.proofs.PadSlots.{pads-said}
 
 -- ---- the slots before the pads
 

@@ -17,36 +17,15 @@ use Rattle.phase_message.specs.Slots.{senders_of, slot_at, slot_number, slots_be
 use Rattle.phase_message.specs.Stages.{is_member, is_sender, is_slot, kind_of_stage, speaks}
 use Rattle.phase_message.proofs.BodyKinds.{bodies_are_of_kinds}
 use Rattle.phase_message.proofs.Counts.{slots_next}
+use Rattle.phase_message.proofs.StageCounts.{before-pads}
 use Rattle.phase_message.proofs.SlotLists.{past-stage, slot_at-number, slot_number-within, slots_before-rises}
-use Rattle.phase_message.proofs.Table.{final_a_is, go_a_is, keys_is, submit_a_is, turn_a}
+use Rattle.phase_message.proofs.Table.{final_a_is, keys_is, turn_a}
 use Rattle.shuffle_blame.specs.Replay.{list_of}
 use Rattle.round_spec.specs.Slots.{pad_stage}
 use Rattle.judge_core.specs.Pad.{count_before_pads}
 use Rattle.judge_core.specs.PadLog.{AreEntries, AreFiveKeys}
 
 -- ---- how many
-
-before-turn : (shape : Shape) (k : ℕ) → k ≤ shape.members → slots_before shape (2 + k) ≡ shape.members + shape.members + k
-before-turn shape zero most =
-    let keys = slots_next shape 0 AtKeys (keys_is shape 0 refl) in
-    let submit = slots_next shape 1 (AtSubmit 1) (submit_a_is shape 1 refl) in
-    omega (arith, keys, submit)
-before-turn shape (suc k) most =
-    let same : 2 + suc k ≡ 2 + k + 1 = omega arith in
-    let next = slots_next shape (2 + k) (AtShuffle 1 (k + 1)) (turn_a shape (2 + k) (k + 1) (omega arith) (omega arith) (omega arith)) in
-    omega (arith, ap (slots_before shape) same, next, before-turn shape k (omega arith))
-
--- five of each member
-pub before-pads : (shape : Shape) → slots_before shape (pad_stage shape) ≡ count_before_pads shape
-before-pads shape =
-    let n : ℕ = shape.members in
-    let turns = before-turn shape n (omega arith) in
-    let votes_at : 2 + n ≡ n + 2 = omega arith in
-    let votes = slots_next shape (n + 2) (AtGo 1) (go_a_is shape (n + 2) refl) in
-    let ends_at : n + 2 + 1 ≡ n + 3 = omega arith in
-    let ends = slots_next shape (n + 3) (AtFinal 1) (final_a_is shape (n + 3) refl) in
-    let pads_at : n + 3 + 1 ≡ n + 4 = omega arith in
-    omega (arith, turns, ap (slots_before shape) votes_at, votes, ap (slots_before shape) ends_at, ends, ap (slots_before shape) pads_at)
 
 senders-some : (shape : Shape) (kind : StageKind) → IsShape shape.version shape.members → 0 < senders_of shape kind
 senders-some shape (AtShuffle shuffle k) is = omega arith

@@ -18,7 +18,7 @@ use Rattle.phase_message.proofs.SlotLists.{length-slots_of, slot_at-is, slot_num
 use Rattle.stage_log.specs.Log.{contents_of}
 use Rattle.stage_log.specs.Table.{Log, kept_in}
 use Rattle.go_nogo.specs.Differences.{Differ, HaveNoDifference, IsFirstDifference}
-use Rattle.go_nogo.proofs.LeastDifference.{kept-slot}
+use Rattle.stage_log.proofs.KeptPosts.{kept-slot}
 use Rattle.embedded_log.specs.Embedding.{places_of}
 use Rattle.judge_core.specs.Replay.{unlike_place}
 use Rattle.judge_core.specs.Showing.{KeepsPast}

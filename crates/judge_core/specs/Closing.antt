@@ -1,12 +1,12 @@
 -- What a closing post that is listed shows: whether it is justified, and what it embeds.
-use Rattle.std.specs.Prelude.{◌≡◌, ℕ, List, [], Bool, false, IsOk, IsSome, option_and_then, Option, Some, None, Result, Ok, Err}
+use Rattle.std.specs.Prelude.{◌≡◌, ℕ, List, [], Bool, false, IsOk, Option, Some, None, Result, Ok, Err}
 use Rattle.phase_message.specs.declared.content.Body.{Body}
 use Rattle.phase_message.specs.declared.content.Body.TheVariants.{Dispute}
 use Rattle.phase_message.specs.declared.content.Content.{Content}
 use Rattle.phase_message.specs.declared.offence.Offence.{Offence}
 use Rattle.phase_message.specs.declared.post.Post.{Post}
 use Rattle.phase_message.specs.Header.{header_of}
-use Rattle.phase_message.specs.Stages.{kind_of_stage, vote_of}
+use Rattle.phase_message.specs.Closing.{ClosesVotes}
 use Rattle.group_roster.specs.Roster.{Roster}
 use Rattle.stage_log.specs.Log.{contents_of}
 use Rattle.shuffle_blame.specs.declared.fault.Shown.{Shown}
@@ -43,4 +43,4 @@ shown_by body = None
 pub record IsClosingPost (case : Case) (said : Said) : Type 0 where
   pub grammar : IsOk (read_of case said)
   pub header : header_of said.content ≡ Ok said.header
-  pub closing : IsSome (option_and_then vote_of (kind_of_stage (shape_in case) said.header.stage))
+  pub closing : ClosesVotes (shape_in case) said.header.stage

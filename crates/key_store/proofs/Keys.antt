@@ -124,7 +124,7 @@ pub says_raised : (key : KeyState) (image now : List ℕ) (secret : SecretState)
     → IfOk (key_read key.image) (λ content. key_read now ≡ Ok record content { kept = record { round = round; next = content.kept.next + n } })
 says_raised key image now secret failed content round n view read again =
     subst (λ (r : Result KeyContent ℕ). IfOk r (λ content. key_read now
-        ≡ Ok record content { kept = record { round = round; next = content.kept.next + n } }))
+    ≡ Ok record content { kept = record { round = round; next = content.kept.next + n } }))
     (sym (ap key_read (sym (ap (λ (k : KeyState). k.image) view)) ∙ read)) again
 
 -- the key file as its callers see it then

@@ -12,6 +12,3 @@ pub use crash_disk::{Disk, DiskAnswer, DiskRead, MemoryDisk, Pick};
 pub use laws::leaves_are_used_once;
 pub use refusals::StoreRefusal;
 pub use store::{KeyFile, create};
-
-#[cfg(test)]
-mod tests;

@@ -14,6 +14,3 @@ pub use peeling::{Peeled, peel, peel_with};
 pub use ring_encrypt::{KeySeed, PublicKey};
 pub use sealing::{LAYER_BYTES, seal, wrap};
 pub use wire_core::List;
-
-#[cfg(test)]
-mod tests;

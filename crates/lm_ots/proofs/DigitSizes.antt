@@ -18,6 +18,13 @@ digit_in_string W2 i h = omega arith
 digit_in_string W4 i h = omega arith
 digit_in_string W8 i h = omega arith
 
+-- a table has room for the chains of each type
+pub chains_in_table : (width : OtsType) → chain_count width ≤ 268
+chains_in_table W1 = omega arith
+chains_in_table W2 = omega arith
+chains_in_table W4 = omega arith
+chains_in_table W8 = omega arith
+
 -- n digits lack at most n times the greatest digit
 pub complement_sum_small : (s : List ℕ) (w n : ℕ) → complement_sum s w n ≤ n * (2 ^ w - 1)
 unfolding complement_sum

@@ -12,38 +12,6 @@ use Rattle.lm_ots.specs.Signing.{KeyParts, LeadsToKey, chain_start, chains_to, o
 use Rattle.lm_ots.proofs.Steps.{stepped-add}
 use Rattle.lm_ots.proofs.Words.{head_word-take, length-u32str}
 
--- no chains, and one more behind other bytes
-chains_to-none : (key : KeyParts) (to : ℕ → ℕ) → chains_to key to 0 ≡ []
-unfolding chains_to
-chains_to-none key to = refl
-
-chains_to-more : (key : KeyParts) (to : ℕ → ℕ) (n : ℕ) (front value : List ℕ)
-    → value ≡ chain key.identifier key.q n 0 (to n) (chain_start key n)
-    → front ++ chains_to key to n ++ value ≡ front ++ chains_to key to (n + 1)
-unfolding chains_to
-chains_to-more key to n front value is = append_assoc front (chains_to key to n) value ∙ rw (add-one, is) refl
-
-pub own_ends-none : (key : KeyParts) (front : List ℕ) → front ++ own_ends key 0 ≡ front
-unfolding own_ends
-own_ends-none key front = ap (λ (x : List ℕ). front ++ x) (chains_to-none key (λ i. 2 ^ digit_bits key.width - 1)) ∙ append-nil front
-
-pub own_ends-more : (key : KeyParts) (n : ℕ) (front value : List ℕ)
-    → value ≡ chain key.identifier key.q n 0 (2 ^ digit_bits key.width - 1) (chain_start key n)
-    → front ++ own_ends key n ++ value ≡ front ++ own_ends key (n + 1)
-unfolding own_ends
-own_ends-more key n front value is = chains_to-more key (λ i. 2 ^ digit_bits key.width - 1) n front value is
-
-pub own_values-none : (key : KeyParts) (signed front : List ℕ) → front ++ own_values key signed 0 ≡ front
-unfolding own_values
-own_values-none key signed front = ap (λ (x : List ℕ). front ++ x) (chains_to-none key (λ i. coef signed i (digit_bits key.width)))
-    ∙ append-nil front
-
-pub own_values-more : (key : KeyParts) (signed : List ℕ) (n : ℕ) (front value : List ℕ)
-    → value ≡ chain key.identifier key.q n 0 (coef signed n (digit_bits key.width)) (chain_start key n)
-    → front ++ own_values key signed n ++ value ≡ front ++ own_values key signed (n + 1)
-unfolding own_values
-own_values-more key signed n front value is = chains_to-more key (λ i. coef signed i (digit_bits key.width)) n front value is
-
 -- ---- sizes
 
 -- a value stays a hash's size along its chain

@@ -1,2 +1,3 @@
 pub mod OneTime
 pub mod Signing
+pub mod Walks

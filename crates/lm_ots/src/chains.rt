@@ -3,10 +3,13 @@
 ghost use Rattle.std.specs.Prelude.{◌≡◌, ℕ, ◌+◌, ◌<◌, ◌≤◌, ◌^◌, ◌++◌, ◌∷◌, length, take};
 ghost use Rattle.sha2.specs.Sha256.{sha256};
 ghost use Rattle.lm_ots.specs.OneTime.{candidate, chain, chain_count, chain_ends, digit_bits, key_string, message_hash, signature_bytes};
+ghost use Rattle.lm_ots.specs.Walks.{signature_walk, values, walk_at};
 
 use crate::digits::{coef, signed_string};
+use crate::step_strings::{set_head, set_step};
 use crate::strings::{head_word, u16str, u32str};
 use crate::types::OtsType;
+use crate::walks::{Walk, Walks, walk_to_ends, walks_to};
 use sha2::{Digest, Sha256};
 
 // D_PBLC and D_MESG of the RFC.
@@ -36,23 +39,6 @@ pub fn message_hash(identifier: &[u8; 16], q: u32, randomizer: &[u8], message: &
     hasher.finalize()
 }
 
-// Writes the first 22 bytes of the string that a step of a chain hashes.
-fn set_head(block: &mut [u8; 55], identifier: &[u8; 16], q: [u8; 4], i: [u8; 2])
-    ensures { take 22 block.new ≡ identifier.now ++ q ++ i }
-{
-    block[..16].copy_from_slice(identifier);
-    block[16..20].copy_from_slice(&q);
-    block[20..22].copy_from_slice(&i);
-}
-
-// Writes the other 33 bytes: the place and the value that the step takes.
-fn set_step(block: &mut [u8; 55], j: u8, tmp: &[u8; 32])
-    ensures { block.new ≡ take 22 block.old ++ (j ∷ tmp.now) }
-{
-    block[22] = j;
-    block[23..].copy_from_slice(tmp);
-}
-
 /// The value `x` of chain `i`, stepped from place `from` to place `to` (RFC 8554, sections 4.3 and
 /// 4.6). Where `to` is not above `from` it is `x`.
 pub fn chain(identifier: &[u8; 16], q: u32, i: u16, from: u8, to: u8, x: [u8; 32]) -> [u8; 32]
@@ -68,6 +54,38 @@ pub fn chain(identifier: &[u8; 16], q: u32, i: u16, from: u8, to: u8, x: [u8; 32
     tmp
 }
 
+/// K over the values of the chains of a key.
+pub(crate) fn key_over(width: OtsType, identifier: &[u8; 16], q: u32, walks: &Walks) -> [u8; 32]
+    ensures { result ≡ sha256 (key_string identifier.now q (values walks.now (chain_count width))) }
+{
+    let mut hasher = Sha256::new();
+    hasher.update(identifier);
+    hasher.update(u32str(q));
+    hasher.update(u16str(D_PBLC));
+    for i in 0..width.p() {
+        hasher.update(walks[usize::from(i)].value);
+    }
+    hasher.finalize()
+}
+
+// The values of the signature `sig`, each at its digit of `signed`, on their way to the ends of their chains.
+fn walks_of_signature(width: OtsType, signed: &[u8; 34], sig: &[u8]) -> Walks
+    requires { length sig.now ≡ signature_bytes width }
+    ensures { (i : ℕ) → i < chain_count width → walk_at result i ≡ signature_walk width signed.now sig.now i }
+{
+    let w = width.w();
+    let end = width.last_place();
+    let mut walks = walks_to(end);
+    for i in 0..width.p() {
+        let place = coef(signed, u32::from(i), w) as u8;
+        let at = 36 + 32 * usize::from(i);
+        let mut value = [0; 32];
+        value.copy_from_slice(&sig[at..at + 32]);
+        walks[usize::from(i)] = Walk { place, end, value };
+    }
+    walks
+}
+
 // K over the ends of the chains of the signature `sig`, whose digits are those of `signed`.
 fn key_of_ends(
     width: OtsType,
@@ -80,20 +98,9 @@ fn key_of_ends(
     ensures { result ≡ sha256 (key_string identifier.now q
         (chain_ends width identifier.now q signed.now sig.now (chain_count width))) }
 {
-    let w = width.w();
-    let last = ((1u32 << w) - 1) as u8;
-    let mut hasher = Sha256::new();
-    hasher.update(identifier);
-    hasher.update(u32str(q));
-    hasher.update(u16str(D_PBLC));
-    for i in 0..width.p() {
-        let digit = coef(signed, u32::from(i), w) as u8;
-        let at = 36 + 32 * usize::from(i);
-        let mut value = [0; 32];
-        value.copy_from_slice(&sig[at..at + 32]);
-        hasher.update(chain(identifier, q, i, digit, last, value));
-    }
-    hasher.finalize()
+    let mut walks = walks_of_signature(width, signed, sig);
+    walk_to_ends(identifier, q, width.p(), &mut walks);
+    key_over(width, identifier, q, &walks)
 }
 
 /// The public key K that a signature of `message` leads to, for leaf `q` of the tree `identifier`

@@ -4,10 +4,10 @@
 mod chains;
 mod digits;
 mod one_time_keys;
+mod step_strings;
 mod strings;
-#[cfg(test)]
-mod tests;
 mod types;
+mod walks;
 
 pub use chains::{OtsRefusal, candidate, chain, message_hash};
 pub use digits::{checksum, coef, signed_string};

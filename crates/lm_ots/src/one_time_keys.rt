@@ -1,14 +1,18 @@
 //! One-time keys: each signs one message (RFC 8554, sections 4.3 and 4.5, and appendix A).
 
-ghost use Rattle.std.specs.Prelude.{◌≡◌, ◌-◌, ◌^◌, ◌++◌, ◌<◌, Ok, IfOk, IfErr};
+ghost use Rattle.std.specs.Prelude.{◌≡◌, ℕ, ◌+◌, ◌-◌, ◌^◌, ◌++◌, ◌<◌, ◌≤◌, [], slice_index_or, Ok, IfOk, IfErr};
 ghost use Rattle.sha2.specs.Sha256.{sha256};
-ghost use Rattle.lm_ots.specs.OneTime.{chain, chain_count};
+ghost use Rattle.lm_ots.specs.OneTime.{chain, chain_count, coef, digit_bits};
+ghost use Rattle.lm_ots.specs.Walks.{own_walk, walk_at};
 ghost use Rattle.lm_ots.specs.Signing.{LeadsToKey, chain_start, ots_public, ots_signature, own_values, parts_of, seed_string};
 
-use crate::chains::{D_PBLC, chain, message_hash};
+use crate::chains::{key_over, message_hash};
 use crate::digits::{coef, signed_string};
-use crate::strings::{u16str, u32str};
+use crate::step_strings::step_string;
+use crate::strings::u32str;
 use crate::types::OtsType;
+use crate::walks::{Walk, Walks, walk_to_ends, walks_to};
+use sha_lanes::four_digests;
 use sha2::{Digest, Sha256};
 use std::alloc::{AllocError, Global};
 
@@ -40,15 +44,9 @@ impl OtsKey {
     pub fn public(&self) -> [u8; 32]
         ensures { result ≡ ots_public (parts_of self.now) }
     {
-        let last = self.width.last_place();
-        let mut hasher = Sha256::new();
-        hasher.update(&self.identifier);
-        hasher.update(u32str(self.q));
-        hasher.update(u16str(D_PBLC));
-        for i in 0..self.width.p() {
-            hasher.update(self.chain_to(i, last));
-        }
-        hasher.finalize()
+        let mut walks = walks_to(self.width.last_place());
+        self.walk(&mut walks);
+        key_over(self.width, &self.identifier, self.q, &walks)
     }
 
     /// The signature of a message (section 4.5), after which the key is gone: 36 bytes and 32 for each
@@ -93,39 +91,95 @@ impl OtsKey {
     fn put_values(&self, signed: &[u8; 34], to: &mut Vec<u8>) -> Result<(), AllocError>
         ensures { IfOk result (λ _. to.new.items ≡ to.old.items ++ own_values (parts_of self.now) signed.now (chain_count self.now.width)) }
     {
+        let mut walks = walks_to_digits(self.width, signed);
+        self.walk(&mut walks);
         for i in 0..self.width.p() {
-            let digit = coef(signed, u32::from(i), self.width.w()) as u8;
-            to.extend_from_slice(&self.chain_to(i, digit))?;
+            to.extend_from_slice(&walks[usize::from(i)].value)?;
         }
         Ok(())
     }
 
-    // Chain `i` from its start to a place.
-    fn chain_to(&self, i: u16, to: u8) -> [u8; 32]
-        ensures { result ≡ chain self.now.identifier self.now.q i 0 to (chain_start (parts_of self.now) i) }
+    // Takes each chain from its start to the end that the table has for it.
+    fn walk(&self, walks: &mut Walks)
+        ensures { (i : ℕ) → i < chain_count self.now.width → (walk_at walks.new i).value
+            ≡ chain self.now.identifier self.now.q i 0 (walk_at walks.old i).end (chain_start (parts_of self.now) i) }
     {
-        chain(&self.identifier, self.q, i, 0, to, self.secret(i))
+        self.begin(walks);
+        walk_to_ends(&self.identifier, self.q, self.width.p(), walks);
+    }
+
+    // Puts each chain at its start.
+    fn begin(&self, walks: &mut Walks)
+        ensures { (i : ℕ) → i < chain_count self.now.width → walk_at walks.new i
+            ≡ own_walk (parts_of self.now) (walk_at walks.old i).end i }
+    {
+        let groups = self.width.p().div_ceil(4);
+        for group in 0..groups {
+            self.begin_four(4 * group, walks);
+        }
+    }
+
+    // Puts four chains from `first` on at their starts.
+    fn begin_four(&self, first: u16, walks: &mut Walks)
+        requires { first + 4 ≤ 268 }
+        ensures before { (i : ℕ) → i < first → walk_at walks.new i ≡ walk_at walks.old i }
+        ensures begun { (i : ℕ) → first ≤ i → i < first + 4
+            → walk_at walks.new i ≡ own_walk (parts_of self.now) (walk_at walks.old i).end i }
+        ensures behind { (i : ℕ) → first + 4 ≤ i → walk_at walks.new i ≡ walk_at walks.old i }
+    {
+        let starts = self.four_starts(first);
+        for i in first..first + 4 {
+            let at = usize::from(i);
+            let end = walks[at].end;
+            let value = starts[usize::from(i - first)];
+            walks[at] = Walk {
+                place: 0,
+                end,
+                value,
+            };
+        }
+    }
+
+    // The starts of four chains from `first` on.
+    fn four_starts(&self, first: u16) -> [[u8; 32]; 4]
+        requires { first + 4 ≤ 268 }
+        ensures { (k : ℕ) → k < 4 → slice_index_or result k [] ≡ chain_start (parts_of self.now) (first + k) }
+    {
+        let strings = [
+            self.seed_string(first),
+            self.seed_string(first + 1),
+            self.seed_string(first + 2),
+            self.seed_string(first + 3),
+        ];
+        four_digests(&strings)
+    }
+
+    // The string of the secret of the leaf at a place.
+    fn seed_string(&self, i: u16) -> [u8; 55]
+        ensures { result ≡ seed_string self.now.identifier self.now.q i self.now.seed }
+    {
+        step_string(&self.identifier, self.q, i, 0xff, &self.seed)
     }
 
     // The secret of the leaf at a place: the start of a chain, or C.
     fn secret(&self, i: u16) -> [u8; 32]
         ensures { result ≡ sha256 (seed_string self.now.identifier self.now.q i self.now.seed) }
     {
-        seeded(&self.identifier, self.q, i, &self.seed)
+        Sha256::digest(&self.seed_string(i))
     }
 }
 
-// The hash of the string of a secret.
-fn seeded(identifier: &[u8; 16], q: u32, i: u16, seed: &[u8; 32]) -> [u8; 32]
-    ensures { result ≡ sha256 (seed_string identifier.now q i seed.now) }
+// No values yet, to be walked to the digits of the string that is signed.
+fn walks_to_digits(width: OtsType, signed: &[u8; 34]) -> Walks
+    ensures { (i : ℕ) → i < chain_count width → (walk_at result i).end ≡ coef signed.now i (digit_bits width) }
 {
-    let mut hasher = Sha256::new();
-    hasher.update(identifier);
-    hasher.update(u32str(q));
-    hasher.update(u16str(i));
-    hasher.update([0xff]);
-    hasher.update(seed);
-    hasher.finalize()
+    let mut walks = walks_to(0);
+    for i in 0..width.p() {
+        let at = usize::from(i);
+        let end = coef(signed, u32::from(i), width.w()) as u8;
+        walks[at] = Walk { end, ..walks[at] };
+    }
+    walks
 }
 
 /// The candidate of a key's own signature is the key's K.

@@ -7,8 +7,6 @@ mod leaf_runs;
 mod nodes;
 mod own_trees;
 mod secrets;
-#[cfg(test)]
-mod tests;
 mod verifier;
 
 pub use keys::{KeyRefusal, LmsPublic, LmsType};

@@ -4,7 +4,6 @@ use Rattle.std.specs.Prelude.{◌==◌, IsSome, option_map, if◌then◌else◌}
 use Rattle.std.specs.Int.{to_be_bytes, w32}
 use Rattle.std.specs.List.{flat_map, slice_get}
 use Rattle.std.proofs.lemmas.Bool.{cases_Bool, cases_eq, cases_lt, cond-false, cond-true, eq-eqb}
-use Rattle.std.proofs.lemmas.Nat.{mul-le}
 use Rattle.std.proofs.lemmas.List.{drop-map, length-map, length-replicate, take-map}
 use Rattle.std.proofs.lemmas.Option.{slice_get-map, slice_get_within}
 use Rattle.wire_core.specs.Bytes.{prefixed}
@@ -17,24 +16,23 @@ use Rattle.phase_message.specs.declared.post.TheConstants.{POST_LIMIT}
 use Rattle.phase_message.specs.declared.stage.Slot.{Slot}
 use Rattle.phase_message.specs.declared.stage.StageKind.{StageKind}
 use Rattle.phase_message.specs.declared.stage.StageKind.TheVariants.{Keys, Submit, Shuffle, Go, Final, Pad, Check, Confirm}
-use Rattle.phase_message.specs.Body.{level}
 use Rattle.phase_message.specs.Grammar.{IsBody, OfGrammar, body_text, content_text}
 use Rattle.phase_message.specs.Post.{post_spelling}
 use Rattle.phase_message.specs.Shape.{Shape}
 use Rattle.phase_message.specs.Slots.{slot_at, slot_number, slots_before, slots_of}
 use Rattle.phase_message.specs.Stages.{is_slot, kind_of_stage, speaks}
 use Rattle.phase_message.proofs.Counts.{slots_next}
-use Rattle.phase_message.proofs.Lengths.{fixed-length, pads-length, turn-length}
+use Rattle.phase_message.proofs.StageCounts.{before-confirm, before-end}
 use Rattle.phase_message.proofs.SlotLists.{length-slots_of, slot_at-is, slot_number-within, slots_before-most, slots_before-past, slots_before-rises}
-use Rattle.phase_message.proofs.Table.{check_is, confirm_is, final_a_is, final_b_is, go_a_is, keys_is, pad_is, submit_a_is, turn_a}
+use Rattle.phase_message.proofs.Table.{confirm_is, final_b_is}
 use Rattle.signed_post.specs.declared.post.TheConstants.{LONGEST_SIGNATURE}
 use Rattle.stage_log.specs.Log.{before, contents_of}
 use Rattle.stage_log.specs.Table.{IsLog, Log, kept_in}
 use Rattle.go_nogo.specs.Rows.{confirm_row, final_row, posts_at, written}
 use Rattle.go_nogo.specs.Votes.{votes_agree}
-use Rattle.round_spec.specs.Slots.{final_stage, pad_stage}
+use Rattle.round_spec.specs.Slots.{final_stage}
 use Rattle.round_spec.proofs.GoLists.{there}
-use Rattle.round_spec.proofs.OwnLengths.{content-long, take-less}
+use Rattle.round_spec.proofs.OwnLengths.{IsClosingKind, content-long, open-length, open-most, take-less}
 use Rattle.round_spec.proofs.SealedBytes.{all-from}
 use Rattle.honest_say.specs.Pasts.{posts_before}
 use Rattle.honest_say.proofs.PastLemmas.{complete-posts, kept-at, past-length}
@@ -51,41 +49,24 @@ IsPlain (Final shuffle) = ⊥
 IsPlain Confirm = ⊥
 IsPlain _ = Unit {0}
 
-level-most : (n shuffle k : ℕ) → n ≤ 8 → level n shuffle k ≤ 54564
-level-most n shuffle k few = elim (cases_Bool (shuffle == 1)) [
-  | inl a ↦ (let item = cond-true (shuffle == 1) (36 + 2272 * n) 34 a in layers (if shuffle == 1 then 36 + 2272 * n else 34)
-      (omega (arith, item, few)))
-  | inr b ↦ (let item = cond-false (shuffle == 1) (36 + 2272 * n) 34 b in layers (if shuffle == 1 then 36 + 2272 * n else 34)
-      (omega (arith, item, few)))
-]
-  where
-    layers : (item : ℕ) → item ≤ 18212 → item + 2272 * (2 * n - k) ≤ 54564
-    layers item small = omega (arith, small, few)
+plain-open : (kind : StageKind) → IsPlain kind → IsClosingKind kind → ⊥
+plain-open (Final shuffle) plain closing = plain
+plain-open Confirm plain closing = plain
+plain-open Keys plain closing = closing
+plain-open (Submit shuffle) plain closing = closing
+plain-open (Shuffle shuffle k) plain closing = closing
+plain-open (Go shuffle) plain closing = closing
+plain-open Pad plain closing = closing
+plain-open Check plain closing = closing
 
 open-long : (shape : Shape) (x : Content) (kind : StageKind) → 1 ≤ shape.members → shape.members ≤ 8 → OfGrammar shape x
     → kind_of_stage shape x.header.stage ≡ Some kind → IsPlain kind
     → length (content_text x) ≤ POST_LIMIT
-open-long shape x Keys some few is at plain = omega (arith, fixed-length shape x Keys is at (omega arith))
-open-long shape x (Submit shuffle) some few is at plain =
-    let long : 0 < level shape.members shuffle 0 = layers (if shuffle == 1 then 36 + 2272 * shape.members else 34) in
-    omega (arith, fixed-length shape x (Submit shuffle) is at long, level-most shape.members shuffle 0 few)
-  where
-    layers : (item : ℕ) → 0 < item + 2272 * (2 * shape.members - 0)
-    layers item = omega (arith, some)
-open-long shape x (Shuffle shuffle k) some few is at plain = elim (turn-length shape x shuffle k is at) [
-  | inl abort ↦ omega (arith, abort.1)
-  | inr list ↦ omega (
-    arith,
-    list,
-    mul-le shape.members (level shape.members shuffle k) 8 54564 few
-        (level-most shape.members shuffle k few),
-  )
-]
-open-long shape x (Go shuffle) some few is at plain = omega (arith, fixed-length shape x (Go shuffle) is at (omega arith))
-open-long shape x Pad some few is at plain = omega (arith, pads-length shape x is at, few)
-open-long shape x Check some few is at plain = omega (arith, fixed-length shape x Check is at (omega arith))
-open-long shape x (Final shuffle) some few is at plain = absurd plain
-open-long shape x Confirm some few is at plain = absurd plain
+open-long shape x kind some few is at plain = omega (
+  arith,
+  open-length shape x kind some is at (plain-open kind plain),
+  open-most shape kind few (plain-open kind plain),
+)
 
 -- a body of such a stage leaves room for its content
 pub plain-short : (shape : Shape) (stage sender : ℕ) (kind : StageKind) (body : Body) → 1 ≤ shape.members → shape.members ≤ 8
@@ -330,47 +311,6 @@ posts-short log stage number is complete most short =
 
 -- ---- how many posts stand before a closing stage
 
-before-turn : (shape : Shape) (k : ℕ) → k ≤ shape.members → slots_before shape (2 + k) ≡ shape.members + shape.members + k
-before-turn shape zero most =
-    let keys = slots_next shape 0 Keys (keys_is shape 0 refl) in
-    let submit = slots_next shape 1 (Submit 1) (submit_a_is shape 1 refl) in
-    omega (arith, keys, submit)
-before-turn shape (suc k) most =
-    let same : 2 + suc k ≡ 2 + k + 1 = omega arith in
-    let next = slots_next shape (2 + k) (Shuffle 1 (k + 1)) (turn_a shape (2 + k) (k + 1) (omega arith) (omega arith) (omega arith)) in
-    omega (arith, ap (slots_before shape) same, next, before-turn shape k (omega arith))
-
-before-first : (shape : Shape) → slots_before shape (final_stage shape 1) ≡ 4 * shape.members
-before-first shape =
-    let n : ℕ = shape.members in
-    let turns = before-turn shape n (omega arith) in
-    let votes_at : 2 + n ≡ n + 2 = omega arith in
-    let votes = slots_next shape (n + 2) (Go 1) (go_a_is shape (n + 2) refl) in
-    let at : n + 2 + 1 ≡ final_stage shape 1 = omega arith in
-    omega (arith, turns, ap (slots_before shape) votes_at, votes, ap (slots_before shape) at)
-
-before-checks : (shape : Shape) → slots_before shape (shape.members + 6) ≡ 7 * shape.members
-before-checks shape =
-    let n : ℕ = shape.members in
-    let ends_at : final_stage shape 1 ≡ n + 3 = omega arith in
-    let ends = slots_next shape (final_stage shape 1) (Final 1) (final_a_is shape (final_stage shape 1) ends_at) in
-    let pads_at : final_stage shape 1 + 1 ≡ pad_stage shape = omega arith in
-    let pads = slots_next shape (pad_stage shape) Pad (pad_is shape (pad_stage shape) refl) in
-    let checks_at : pad_stage shape + 1 ≡ n + 5 = omega arith in
-    let checks = slots_next shape (n + 5) Check (check_is shape (n + 5) refl) in
-    let at : n + 5 + 1 ≡ n + 6 = omega arith in
-    omega (
-      arith,
-      before-first shape,
-      ends,
-      ap (slots_before shape) pads_at,
-      pads,
-      ap (slots_before shape) checks_at,
-      checks,
-      ap
-          (slots_before shape) at,
-    )
-
 before-second : (shape : Shape) → slots_before shape (final_stage shape 2) ≡ 11 * shape.members
 before-second shape =
     let at : final_stage shape 2 ≡ shape.members + shape.members + 9 = omega arith in
@@ -420,7 +360,8 @@ posts-first : (log : Log) (stage number : ℕ) → IsClosedBy log stage number �
 posts-first log stage number is at =
     let n : ℕ = slots_before log.shape stage in
     let few = is.few in
-    let count : n ≡ 4 * log.shape.members = ap (slots_before log.shape) at ∙ before-first log.shape in
+    let ends : final_stage log.shape 1 ≡ log.shape.members + 3 = omega arith in
+    let count : n ≡ 4 * log.shape.members = ap (slots_before log.shape) at ∙ ap (slots_before log.shape) ends ∙ before-end log.shape in
     let same = ap (slots_before log.shape) at in
     let own = first-behind log.shape number is.first is.last in
     let later = checks-behind log.shape number is.first is.last in
@@ -434,7 +375,7 @@ posts-checks : (log : Log) (stage number : ℕ) → IsClosedBy log stage number 
 posts-checks log stage number is at =
     let n : ℕ = slots_before log.shape stage in
     let few = is.few in
-    let count : n ≡ 7 * log.shape.members = ap (slots_before log.shape) at ∙ before-checks log.shape in
+    let count : n ≡ 7 * log.shape.members = ap (slots_before log.shape) at ∙ before-confirm log.shape in
     let same = ap (slots_before log.shape) at in
     let later = checks-behind log.shape number is.first is.last in
     let whole = sum-checks 16786548 (first_end log.shape number) (checks_end log.shape number) 536870912 1476395008 n

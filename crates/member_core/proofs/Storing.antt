@@ -1,10 +1,9 @@
 -- A post of another member that is kept: what is true of a member stays true.
-use Rattle.std.proofs.Common.{◌≡◌, ◌⊎◌, ℕ, zero, suc, ◌+◌, ◌*◌, ◌^◌, ◌<◌, ◌≤◌, Bool, true, false, List, [], ◌∷◌, length, Option, Some, None, ap, sym, ◌∙◌, refl, subst, arith, inl, inr}
+use Rattle.std.proofs.Common.{◌≡◌, ℕ, zero, suc, ◌+◌, ◌*◌, ◌^◌, ◌<◌, ◌≤◌, Bool, true, false, List, [], ◌∷◌, length, Option, Some, None, ap, sym, ◌∙◌, refl, subst, arith, inl, inr}
 use Rattle.std.specs.Prelude.{◌++◌, IsSome, ◌==◌, unwrap_or, if◌then◌else◌}
 use Rattle.std.specs.List.{slice_get, slice_set}
 use Rattle.std.specs.Option.{option_flatten, option_map, option_to_list}
 use Rattle.std.proofs.lemmas.Bool.{cases_Bool, cond-false, cond-true, ltb-true}
-use Rattle.std.proofs.lemmas.Option.{none-some}
 use Rattle.phase_message.specs.declared.post.Post.{Post}
 use Rattle.phase_message.specs.declared.post.TheConstants.{POST_LIMIT}
 use Rattle.phase_message.specs.declared.stage.Slot.{Slot}
@@ -12,14 +11,14 @@ use Rattle.phase_message.specs.declared.stage.StageKind.{StageKind}
 use Rattle.phase_message.specs.declared.stage.StageKind.TheVariants.{Keys, Submit, Shuffle, Go, Final, Pad, Check, Confirm}
 use Rattle.phase_message.specs.Post.{post_spelling}
 use Rattle.phase_message.specs.Shape.{Shape}
-use Rattle.phase_message.specs.Slots.{slot_at, slot_number, stage_count}
+use Rattle.phase_message.specs.Slots.{slot_number, stage_count}
 use Rattle.phase_message.specs.Stages.{is_slot, kind_of_stage}
-use Rattle.phase_message.proofs.SlotLists.{slot_at-number}
 use Rattle.signed_post.specs.declared.post.TheConstants.{LONGEST_SIGNATURE}
 use Rattle.stage_log.specs.Log.{before, contents_of}
 use Rattle.stage_log.specs.Seen.{HasSeen}
 use Rattle.stage_log.specs.Table.{Log, filled, kept_in}
 use Rattle.stage_log.proofs.Entries.{filled-is_log}
+use Rattle.stage_log.proofs.KeptPosts.{kept-post, one-slot}
 use Rattle.stage_log.proofs.Fronts.{before-front, before-put, some_is}
 use Rattle.stage_log.proofs.Pasts.{some_of}
 use Rattle.shuffle_blame.specs.Asked.{past_of}
@@ -60,27 +59,12 @@ get-other (z ∷ xs) zero (suc i) y apart = refl
 get-other (z ∷ xs) (suc k) zero y apart = refl
 get-other (z ∷ xs) (suc k) (suc i) y apart = get-other xs k i y (λ e. apart (ap (λ (n : ℕ). suc n) e))
 
-get-set : {A : Type 0} (xs : List A) (k i : ℕ) (y x : A) → slice_get (slice_set xs k y) i ≡ Some x → (slice_get xs i ≡ Some x) ⊎ (x ≡ y)
-get-set [] k i y x e = absurd cc
-get-set (z ∷ xs) zero zero y x e = inr cc
-get-set (z ∷ xs) zero (suc i) y x e = inl e
-get-set (z ∷ xs) (suc k) zero y x e = inl e
-get-set (z ∷ xs) (suc k) (suc i) y x e = get-set xs k i y x e
-
-flatten-some : {A : Type 0} (o : Option (Option A)) (x : A) → option_flatten o ≡ Some x → o ≡ Some (Some x)
-flatten-some (Some (Some y)) x e = ap (λ (o : Option _). Some o) e
-flatten-some (Some None) x e = absurd cc
-flatten-some None x e = absurd cc
-
 -- slots of two senders have two numbers
 numbers-apart : (shape : Shape) (slot other : Slot) → is_slot shape slot.stage slot.sender ≡ true
     → is_slot shape other.stage other.sender ≡ true
     → (slot.sender ≡ other.sender → ⊥) → slot_number shape other.stage other.sender ≡ slot_number shape slot.stage slot.sender → ⊥
 numbers-apart shape slot other speaks there apart same =
-    let at : Some other ≡ Some slot = sym (slot_at-number shape other.stage other.sender there) ∙ ap (slot_at shape) same
-    ∙ slot_at-number shape slot.stage slot.sender speaks in
-    let one : other ≡ slot = cc in
-    apart (sym (ap (λ (s : Slot). s.sender) one))
+    apart (sym (ap (λ (s : Slot). s.sender) (one-slot shape slot other speaks there same)))
 
 -- ---- one slot of another is filled
 
@@ -101,27 +85,6 @@ unfolding own_posts_kept
 made-stays log number slot post is = filter-in (λ stage. kept_in (filled log slot post) (record { stage = stage; sender = number }))
     (λ stage. kept_in log (record { stage = stage; sender = number })) 0 (stage_count log.shape)
     (λ x le lt. own-stays log number slot post x is)
-
--- a post that is kept was kept before, or fills the slot
-kept-filled : (log : Log) (slot other : Slot) (post kept : Post) → kept_in (filled log slot post) other ≡ Some kept
-    → (kept_in log other ≡ Some kept) ⊎ (kept ≡ post)
-kept-filled log slot other post kept e = elim (cases_Bool (is_slot log.shape other.stage other.sender)) [
-  | inr silent ↦ absurd (none-some kept (sym (cond-false (is_slot log.shape other.stage other.sender) _ None silent) ∙ e))
-  | inl speaks ↦
-      let number : ℕ = slot_number log.shape other.stage other.sender in
-      let k : ℕ = slot_number log.shape slot.stage slot.sender in
-      let entry = sym (cond-true (is_slot log.shape other.stage other.sender)
-      (option_flatten (slice_get (slice_set log.posts k (Some post)) number)) None speaks) ∙ e in
-      elim (get-set log.posts k number (Some post) (Some kept) (flatten-some (slice_get (slice_set log.posts k (Some post)) number) kept
-      entry)) [
-        | inl old ↦ inl (cond-true (is_slot log.shape other.stage other.sender) (option_flatten (slice_get log.posts number)) None speaks
-            ∙ ap option_flatten old)
-        | inr new ↦ inr (told_same kept post new)
-      ]
-]
-  where
-    told_same : (x y : Post) → (let told : Post → Option Post = λ z. Some z in told x ≡ told y) → x ≡ y
-    told_same x y e = cc
 
 -- what was said before a stage stays
 pub before-stays : (log : Log) (number : ℕ) (slot : Slot) (post : Post) (stage : ℕ) (posts : List Post) → IsOthers log number slot
@@ -205,7 +168,7 @@ kept-short number log slot post short e =
 short-stays : (log : Log) (number : ℕ) (slot : Slot) (post : Post) → length (post_spelling post) ≤ POST_LIMIT → IsShortLog number log
     → IsShortLog number (filled log slot post)
 short-stays log number slot post small short stage sender kept e = elim
-    (kept-filled log slot (record { stage = stage; sender = sender }) post kept e) [
+    (kept-post log slot (record { stage = stage; sender = sender }) post kept e) [
       | inl old ↦ short stage sender kept old
       | inr new ↦
           let least = most-least log.shape number stage sender in

@@ -12,7 +12,7 @@ use Rattle.round_link.proofs.Recvs.{no_recv, recv-push}
 abbrev pub MadeAll : Configuration → List (List ℕ) → ℕ → List LinkCall → Type 0
 MadeAll c delivered handed calls = posts_in calls ≡ posts_due c (delivered ++ frames_in calls) handed
 
-pub no_exchange : (c : Configuration) (delivered : List (List ℕ)) (handed : ℕ) (t : Traffic) → Exchange c delivered handed [] t t
+abbrev pub no_exchange : (c : Configuration) (delivered : List (List ℕ)) (handed : ℕ) (t : Traffic) → Exchange c delivered handed [] t t
 no_exchange c delivered handed t = record {
   calls = [];
   made = sym (append-nil t.calls);
@@ -21,8 +21,11 @@ no_exchange c delivered handed t = record {
   at_recv = no_recv (MadeAll c delivered handed);
 }
 
+pub post-is-no-recv : (bytes : List ℕ) (frame : Option (List ℕ)) → Posted bytes ≡ Received frame → ⊥
+post-is-no-recv bytes frame is = cc
+
 -- of a post
-pub with_post : (c : Configuration) (delivered : List (List ℕ)) (handed : ℕ) (frames : List (List ℕ)) (before now : Traffic)
+abbrev pub with_post : (c : Configuration) (delivered : List (List ℕ)) (handed : ℕ) (frames : List (List ℕ)) (before now : Traffic)
     (bytes : List ℕ)
     → Exchange c delivered handed frames before now
     → Exchange c delivered handed frames before (with_call now (Posted bytes))
@@ -31,11 +34,11 @@ with_post c delivered handed frames before now bytes x = record {
   made = ap (λ (l : List LinkCall). l ++ Posted bytes ∷ []) x.made ∙ append_assoc before.calls x.calls (Posted bytes ∷ []);
   taken = frames_in-append x.calls (Posted bytes ∷ []) ∙ append-nil (frames_in x.calls) ∙ x.taken;
   left = x.left;
-  at_recv = recv-push (MadeAll c delivered handed) x.calls (Posted bytes) x.at_recv (λ frame is. absurd cc);
+  at_recv = recv-push (MadeAll c delivered handed) x.calls (Posted bytes) x.at_recv (λ frame is. absurd (post-is-no-recv bytes frame is));
 }
 
 -- of a `recv` that takes none
-pub with_none : (c : Configuration) (delivered : List (List ℕ)) (handed : ℕ) (frames : List (List ℕ)) (before now : Traffic)
+abbrev pub with_none : (c : Configuration) (delivered : List (List ℕ)) (handed : ℕ) (frames : List (List ℕ)) (before now : Traffic)
     → (x : Exchange c delivered handed frames before now) → posts_in x.calls ≡ posts_due c (delivered ++ frames) handed
     → Exchange c delivered handed frames before (with_call now (Received None))
 with_none c delivered handed frames before now x all = record {
@@ -47,7 +50,7 @@ with_none c delivered handed frames before now x all = record {
 }
 
 -- and of one that takes a frame
-pub with_frame : (c : Configuration) (delivered : List (List ℕ)) (handed : ℕ) (frames : List (List ℕ)) (before now : Traffic)
+abbrev pub with_frame : (c : Configuration) (delivered : List (List ℕ)) (handed : ℕ) (frames : List (List ℕ)) (before now : Traffic)
     (frame : List ℕ) (rest : List (List ℕ))
     → (x : Exchange c delivered handed frames before now) → posts_in x.calls ≡ posts_due c (delivered ++ frames) handed
     → now.left ≡ frame ∷ rest

@@ -1,5 +1,6 @@
 -- A run goes on: from where it begins, with a post more, and with a frame more.
 use Rattle.std.proofs.Common.{◌≡◌, ℕ, suc, ◌+◌, ◌≤◌, List, [], ◌∷◌, ◌++◌, length, map, drop, Option, Some, None, refl, sym, ap, ◌∙◌, subst, arith, add-one, append_assoc, append-nil, length-append}
+use Rattle.std.proofs.Math.Seq.{drop-length}
 use Rattle.std.specs.Prelude.{IfSome, IsSomeAnd, slice_get}
 use Rattle.std.proofs.lemmas.List.{length-map}
 use Rattle.std.proofs.lemmas.Option.{get_or_from_slice_get, slice_get_within}
@@ -71,9 +72,9 @@ pub way-posted : (c : Configuration) (delivered frames : List (List ℕ)) (hande
 way-posted c delivered frames handed now next t u bytes e is way = (
   with_post c delivered handed frames t u bytes way.0,
   ap (λ (l : List (List ℕ)). l ++ due next) (posts_in-append way.0.calls (Posted bytes ∷ []))
-  ∙ append_assoc (posts_in way.0.calls) (bytes ∷ []) (due next)
-  ∙ ap (λ (l : List (List ℕ)). posts_in way.0.calls ++ l) (ap (λ (n : ℕ). bytes ∷ due n) e ∙ sym (drop-next (map post_spelling (posts_of c (delivered ++ frames))) now bytes is))
-  ∙ way.1,
+      ∙ append_assoc (posts_in way.0.calls) (bytes ∷ []) (due next)
+      ∙ ap (λ (l : List (List ℕ)). posts_in way.0.calls ++ l) (ap (λ (n : ℕ). bytes ∷ due n) e ∙ sym (drop-next (map post_spelling (posts_of c (delivered ++ frames))) now bytes is))
+      ∙ way.1,
 )
   where
     due : ℕ → List (List ℕ)
@@ -113,7 +114,7 @@ pub none-due : {A : Type 0} (replies_of : A → Replies) (c : Configuration) (de
     → IsPlainMember replies_of c delivered m → IsHandedOut m → posts_due c delivered m.holds.handed ≡ []
 none-due replies_of c delivered m is all =
     ap (λ (n : ℕ). drop n (map post_spelling (posts_of c delivered)))
-        (all ∙ ap length (plain-made replies_of is.start c delivered m is.stands is.plain) ∙ sym (length-map (posts_of c delivered) post_spelling))
+    (all ∙ ap length (plain-made replies_of is.start c delivered m is.stands is.plain) ∙ sym (length-map (posts_of c delivered) post_spelling))
     ∙ drop-length (map post_spelling (posts_of c delivered))
 
 -- and all that were due were made
@@ -185,6 +186,6 @@ taken replies_of b frames frame m m' s s' g all takes counts ends_same faults ar
           with_frame c delivered b.member.holds.handed frames t u frame rest way.0 made first,
           ap (λ (l : List (List ℕ)). l ++ posts_due c (delivered ++ (frames ++ frame ∷ [])) m'.holds.handed)
               (posts_in-append way.0.calls (Received (Some frame) ∷ []) ∙ append-nil (posts_in way.0.calls) ∙ made)
-          ∙ ap (λ (l : List (List ℕ)). posts_due c (delivered ++ frames) b.member.holds.handed ++ l) now
-          ∙ sym (more.1 b.member.holds.handed (let before = g.handed in omega arith)),
+              ∙ ap (λ (l : List (List ℕ)). posts_due c (delivered ++ frames) b.member.holds.handed ++ l) now
+              ∙ sym (more.1 b.member.holds.handed (let before = g.handed in omega arith)),
         )

@@ -1,3 +1,6 @@
 mod Growing
 mod Exchanges
 mod Going
+mod Ending
+mod Handing
+mod Answers

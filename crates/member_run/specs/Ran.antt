@@ -1,5 +1,5 @@
 -- What a run of a member over a link comes to.
-use Rattle.std.specs.Prelude.{◌≡◌, ◌⊎◌, ℕ, zero, suc, ◌<◌, ◌≤◌, List, ◌++◌, length, map, take, drop, slice_get, Option, Some, IfSome, IsSomeAnd}
+use Rattle.std.specs.Prelude.{◌≡◌, ◌⊎◌, ℕ, zero, suc, ◌<◌, ◌≤◌, List, [], ◌++◌, length, map, take, drop, slice_get, Option, Some, IfSome, IsSomeAnd}
 use Rattle.outside.specs.Faults.{Rose, counted}
 use Rattle.phase_message.specs.Post.{post_spelling}
 use Rattle.round_spec.specs.Result.{posts_of}
@@ -50,10 +50,14 @@ abbrev pub count_after : (more : ℕ) → ℕ → ℕ
 count_after zero count = count
 count_after (suc more) count = counted (count_after more count)
 
+-- no frame is left, where the link tells it
+abbrev pub IsAllTaken : Shown → Type 0
+IsAllTaken now = IfSome now.traffic (λ (traffic : Traffic). traffic.left ≡ [])
+
 -- an end is right, by what the member holds, how many frames were taken, and what the link shows before and now
 abbrev pub EndsSo : Holdings → (frames : ℕ) → Shown → Shown → RunEnd → Type 0
 EndsSo h frames before now Ended = HasEnded h.ending
-EndsSo h frames before now Waiting = IsOpen h.ending × (frames < FRAME_LIMIT) × Rose before.ends now.ends
+EndsSo h frames before now Waiting = IsOpen h.ending × (frames < FRAME_LIMIT) × Rose before.ends now.ends × IsAllTaken now
 EndsSo h frames before now Flooded = IsOpen h.ending × (frames ≡ FRAME_LIMIT)
 EndsSo h frames before now LinkFault = Rose before.faults now.faults
 EndsSo h frames before now OutOfMemory = Unit {0}
@@ -75,5 +79,6 @@ pub record Ran {A : Type 0} (replies_of : A → Replies) (old new : Membership A
   pub at_most : length frames ≤ FRAME_LIMIT
   pub ends : EndsSo new.holds (length frames) before now end
   pub at_end : before.ends < now.ends → end ≡ Waiting
+  pub faults : before.faults ≤ now.faults
   pub plain : (c : Configuration) (delivered : List (List ℕ)) → IsPlainMember replies_of c delivered old →
       RanFrom replies_of c delivered frames old new before now end

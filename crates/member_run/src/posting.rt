@@ -1,7 +1,7 @@
 //! Making the posts that are due.
 ghost use Rattle.std.specs.Prelude.{◌≡◌, ◌≤◌, ◌<◌, ◌-◌, ℕ, true, false, List, IfErr, IfOk, Ok, OnOk, length};
 ghost use Rattle.round_link.specs.Traffic.{shown_by};
-ghost use Rattle.member_core.specs.Membership.{posts_made};
+ghost use Rattle.member_core.specs.Membership.{IsRunning};
 ghost use Rattle.member_run.specs.Begun.{Begun, Going, IsHandedOut, posts_left};
 ghost use Rattle.member_run.specs.Ran.{Ran};
 
@@ -20,6 +20,7 @@ pub(crate) fn hand_out<L: Link>(
         Going ⟦<Honest as Conduct>⟧.replies begun frames member.old (shown_by L.faults L.frames L.ends L.told link.old) →
         Going ⟦<Honest as Conduct>⟧.replies begun frames member.new (shown_by L.faults L.frames L.ends L.told link.new)) }
     ensures all { OnOk result (IsHandedOut member.new) }
+    ensures runs { OnOk result (IsRunning member.new.holds.ending) }
     ensures err { IfErr result (λ end. (begun : Begun Honest) (frames : List (List ℕ)) → length frames ≤ FRAME_LIMIT →
         Going ⟦<Honest as Conduct>⟧.replies begun frames member.old (shown_by L.faults L.frames L.ends L.told link.old) →
         Ran ⟦<Honest as Conduct>⟧.replies begun.member member.new begun.link (shown_by L.faults L.frames L.ends L.told link.new) end) }
@@ -38,6 +39,7 @@ fn post_next<L: Link>(
         Going ⟦<Honest as Conduct>⟧.replies begun frames member.old (shown_by L.faults L.frames L.ends L.told link.old) →
         Going ⟦<Honest as Conduct>⟧.replies begun frames member.new (shown_by L.faults L.frames L.ends L.told link.new)) }
     ensures none { result ≡ Ok false → IsHandedOut member.new }
+    ensures runs { OnOk result (IsRunning member.new.holds.ending) }
     ensures one { result ≡ Ok true → posts_left member.new < posts_left member.old }
     ensures err { IfErr result (λ end. (begun : Begun Honest) (frames : List (List ℕ)) → length frames ≤ FRAME_LIMIT →
         Going ⟦<Honest as Conduct>⟧.replies begun frames member.old (shown_by L.faults L.frames L.ends L.told link.old) →

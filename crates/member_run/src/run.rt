@@ -1,8 +1,9 @@
 //! The run of a member over a link.
-ghost use Rattle.std.specs.Prelude.{◌≡◌, ◌×◌, ◌<◌, ◌↔◌, ℕ, List, [], ◌∷◌, ◌++◌, IfErr, IfOk, IsTrue, OnOk, length};
+ghost use Rattle.std.specs.Prelude.{◌≡◌, ◌<◌, ◌↔◌, false, ℕ, List, [], ◌∷◌, ◌++◌, IfErr, IfOk, IsTrue, OnOk, length};
+ghost use Rattle.wire_core.specs.Bytes.{IsBytes};
 ghost use Rattle.round_link.specs.Traffic.{shown_by};
 ghost use Rattle.round_spec.specs.Say.{Configuration};
-ghost use Rattle.member_core.specs.Membership.{HasEnded, IsOutOfMemory};
+ghost use Rattle.member_core.specs.Membership.{HasEnded, IsOpen, IsOutOfMemory, IsRunning};
 ghost use Rattle.member_core.specs.Promises.{IsPlainMember};
 ghost use Rattle.member_run.specs.Begun.{Begun, Going};
 ghost use Rattle.member_run.specs.Ran.{Ran};
@@ -24,14 +25,9 @@ pub fn run_member<L: Link>(alloc: Global, member: &mut Member<Honest>, link: &mu
             return end;
         }
     }
-    match hand_out(alloc, member, link) {
-        Ok(()) => end_of(member),
-        Err(end) => end,
+    if let Err(end) = hand_out(alloc, member, link) {
+        return end;
     }
-}
-
-// How the run ends where all frames were taken that it takes.
-fn end_of(member: &Member<Honest>) -> RunEnd {
     if has_ended(member) {
         return RunEnd::Ended;
     }
@@ -40,7 +36,8 @@ fn end_of(member: &Member<Honest>) -> RunEnd {
 
 // Whether the round has ended for a member.
 fn has_ended(member: &Member<Honest>) -> bool
-    ensures { IsTrue result ↔ HasEnded member.now.holds.ending }
+    ensures value { IsTrue result ↔ HasEnded member.now.holds.ending }
+    ensures open { IsRunning member.now.holds.ending → result ≡ false → IsOpen member.now.holds.ending }
 {
     matches!(member.state(), State::Done | State::Blamed { .. })
 }
@@ -50,7 +47,7 @@ fn turn<L: Link>(alloc: Global, member: &mut Member<Honest>, link: &mut L) -> Re
     ensures ok { IfOk result (λ _. (begun : Begun Honest) (frames : List (List ℕ)) →
         Going ⟦<Honest as Conduct>⟧.replies begun frames member.old (shown_by L.faults L.frames L.ends L.told link.old) →
         (frame : List ℕ) × Going ⟦<Honest as Conduct>⟧.replies begun (frames ++ frame ∷ []) member.new
-            (shown_by L.faults L.frames L.ends L.told link.new)) }
+        (shown_by L.faults L.frames L.ends L.told link.new)) }
     ensures err { IfErr result (λ end. (begun : Begun Honest) (frames : List (List ℕ)) → length frames < FRAME_LIMIT →
         Going ⟦<Honest as Conduct>⟧.replies begun frames member.old (shown_by L.faults L.frames L.ends L.told link.old) →
         Ran ⟦<Honest as Conduct>⟧.replies begun.member member.new begun.link (shown_by L.faults L.frames L.ends L.told link.new) end) }
@@ -74,6 +71,7 @@ fn take(alloc: Global, member: &mut Member<Honest>, frame: &[u8]) -> Result<(), 
         IsPlainMember ⟦<Honest as Conduct>⟧.replies c (delivered ++ frame.now ∷ []) member.new) }
     ensures handed { OnOk result (member.new.holds.handed ≡ member.old.holds.handed) }
     ensures err { IfErr result (λ end. (end ≡ RunEnd.OutOfMemory) × IsOutOfMemory member.new.holds.ending) }
+    ensures bytes { IsBytes frame.now }
 {
     match member.deliver(alloc, frame) {
         Ok(_) => Ok(()),

@@ -1,9 +1,7 @@
 -- Deliveries that change nothing. What a member keeps is of the grammar, whatever its conduct is.
 use Rattle.std.proofs.Common.{◌≡◌, ◌⊎◌, ℕ, zero, suc, true, false, List, [], ◌∷◌, Option, Some, None, Result, Ok, Err, ap, sym, ◌∙◌, refl, subst, inl, inr}
-use Rattle.std.specs.Prelude.{◌==◌, ◌*◌, fold, is_ok, is_some, option_and_then, replicate, unwrap_or, if◌then◌else◌}
+use Rattle.std.specs.Prelude.{◌==◌, ◌*◌, fold, is_ok, is_some, option_and_then, unwrap_or, if◌then◌else◌}
 use Rattle.std.specs.Fn.{iterate}
-use Rattle.std.specs.List.{slice_get, slice_set}
-use Rattle.std.specs.Option.{option_flatten}
 use Rattle.std.specs.Result.{result_ok}
 use Rattle.std.proofs.lemmas.Bool.{cases_Bool, cond-false, cond-true}
 use Rattle.std.proofs.lemmas.Option.{none-some}
@@ -12,13 +10,13 @@ use Rattle.phase_message.specs.declared.header.Header.{Header}
 use Rattle.phase_message.specs.declared.post.Post.{Post}
 use Rattle.phase_message.specs.declared.stage.Slot.{Slot}
 use Rattle.phase_message.specs.Offence.{content_read}
-use Rattle.phase_message.specs.Slots.{slot_count, slot_number, stage_count}
-use Rattle.phase_message.specs.Stages.{is_slot}
+use Rattle.phase_message.specs.Slots.{stage_count}
 use Rattle.signed_post.specs.declared.post.PostRefusal.{PostRefusal}
 use Rattle.signed_post.specs.declared.post.PostRefusal.TheVariants.{Frame}
 use Rattle.signed_post.specs.Admission.{admission_of_bytes, framed_admission_of}
 use Rattle.signed_post.specs.Frame.{frame_of}
 use Rattle.stage_log.specs.Table.{Log, empty_log, filled, kept_in}
+use Rattle.stage_log.proofs.KeptPosts.{empty-keeps, kept-post}
 use Rattle.round_spec.specs.Embedded.{slot_named}
 use Rattle.round_spec.specs.Say.{Configuration, shape_in, signed_at}
 use Rattle.round_spec.specs.Verdict.{Convicts, Done, Goes, Verdict}
@@ -41,63 +39,18 @@ use Rattle.member_spec.proofs.Hearing.{contradiction-full, contradiction-same, f
 pub KeepsRead : Configuration → Log → Type 0
 KeepsRead c log = (slot : Slot) (post : Post) → kept_in log slot ≡ Some post → is_ok (content_read (shape_in c) post.content) ≡ true
 
-flatten-some : {A : Type 0} (o : Option (Option A)) (x : A) → option_flatten o ≡ Some x → o ≡ Some (Some x)
-flatten-some (Some (Some y)) x e = ap (λ (o : Option _). Some o) e
-flatten-some (Some None) x e = absurd cc
-flatten-some None x e = absurd cc
-
-get-set : {A : Type 0} (xs : List A) (k i : ℕ) (y x : A) → slice_get (slice_set xs k y) i ≡ Some x → (slice_get xs i ≡ Some x) ⊎ (x ≡ y)
-get-set [] k i y x e = absurd cc
-get-set (z ∷ xs) zero zero y x e = inr cc
-get-set (z ∷ xs) zero (suc i) y x e = inl e
-get-set (z ∷ xs) (suc k) zero y x e = inl e
-get-set (z ∷ xs) (suc k) (suc i) y x e = get-set xs k i y x e
-
--- where a slot was filled, a kept post is one from before, or the new one
-kept-filled : (log : Log) (slot other : Slot) (post kept : Post) → kept_in (filled log slot post) other ≡ Some kept
-    → (kept_in log other ≡ Some kept) ⊎ (kept ≡ post)
-kept-filled log slot other post kept e = elim (cases_Bool (is_slot log.shape other.stage other.sender)) [
-  | inr silent ↦ absurd (none-some kept (sym (cond-false (is_slot log.shape other.stage other.sender) _ None silent) ∙ e))
-  | inl speaks ↦
-      let number : ℕ = slot_number log.shape other.stage other.sender in
-      let k : ℕ = slot_number log.shape slot.stage slot.sender in
-      let entry = sym (cond-true (is_slot log.shape other.stage other.sender)
-      (option_flatten (slice_get (slice_set log.posts k (Some post)) number)) None speaks) ∙ e in
-      elim (get-set log.posts k number (Some post) (Some kept) (flatten-some (slice_get (slice_set log.posts k (Some post)) number) kept
-      entry)) [
-        | inl old ↦ inl (cond-true (is_slot log.shape other.stage other.sender) (option_flatten (slice_get log.posts number)) None speaks
-            ∙ ap option_flatten old)
-        | inr new ↦ inr (told_same kept post new)
-      ]
-]
-  where
-    told_same : (x y : Post) → (let told : Post → Option Post = λ z. Some z in told x ≡ told y) → x ≡ y
-    told_same x y e = cc
-
 filled-read : (c : Configuration) (log : Log) (slot : Slot) (post : Post) → is_ok (content_read (shape_in c) post.content) ≡ true
     → KeepsRead c log
     → KeepsRead c (filled log slot post)
 unfolding KeepsRead
-filled-read c log slot post reads keeps other kept e = elim (kept-filled log slot other post kept e) [
+filled-read c log slot post reads keeps other kept e = elim (kept-post log slot other post kept e) [
   | inl old ↦ keeps other kept old
   | inr new ↦ ap (λ (p : Post). is_ok (content_read (shape_in c) p.content)) new ∙ reads
 ]
 
-nothing-there : {A : Type 0} (n i : ℕ) (x : A) → slice_get (replicate n None) i ≡ Some (Some x) → ⊥
-nothing-there zero i x e = absurd cc
-nothing-there (suc n) zero x e = absurd cc
-nothing-there (suc n) (suc i) x e = nothing-there n i x e
-
 empty-read : (c : Configuration) → KeepsRead c (empty_log (shape_in c))
 unfolding KeepsRead
-empty-read c slot post e = elim (cases_Bool (is_slot (shape_in c) slot.stage slot.sender)) [
-  | inr silent ↦ absurd (none-some post (sym (cond-false (is_slot (shape_in c) slot.stage slot.sender) _ None silent) ∙ e))
-  | inl speaks ↦ absurd (nothing-there (slot_count (shape_in c)) (slot_number (shape_in c) slot.stage slot.sender) post
-      (flatten-some (slice_get (replicate (slot_count (shape_in c)) None) (slot_number (shape_in c) slot.stage slot.sender)) post
-      (sym (cond-true (is_slot (shape_in c) slot.stage slot.sender)
-      (option_flatten (slice_get (replicate (slot_count (shape_in c)) None) (slot_number (shape_in c) slot.stage slot.sender))) None
-      speaks) ∙ e)))
-]
+empty-read c slot post e = absurd (empty-keeps (shape_in c) slot post e)
 
 post-read : (c : Configuration) (a : Actor) (post : Post) → KeepsRead c a.log → KeepsRead c (actor_behind_post c a post).log
 post-read c a post keeps = by_read (cases_Bool (is_ok (content_read (shape_in c) post.content)))

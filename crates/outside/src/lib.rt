@@ -5,6 +5,3 @@
 mod plan;
 
 pub use plan::FaultPlan;
-
-#[cfg(test)]
-mod tests;

@@ -8,6 +8,3 @@ mod pads;
 pub use draws::{stream, stream_laws};
 pub use exclusive_or::{exclusive_or_laws, xor_into};
 pub use pads::{is_pad, pad, pad_hash};
-
-#[cfg(test)]
-mod tests;

@@ -13,3 +13,4 @@ pub mod Lengths
 pub mod Written
 pub mod Read
 pub mod BodyKinds
+pub mod StageCounts

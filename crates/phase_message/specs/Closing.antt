@@ -1,5 +1,5 @@
 -- What is said where votes are closed.
-use Rattle.std.specs.Prelude.{◌≡◌, ℕ, List, length, Some, Ok}
+use Rattle.std.specs.Prelude.{◌≡◌, ℕ, List, length, Some, Ok, IsSome, option_and_then}
 use Rattle.phase_message.specs.declared.content.Body.{Body}
 use Rattle.phase_message.specs.declared.content.Body.TheVariants.{Reveal, Dispute, Confirm as ConfirmBody, Differ}
 use Rattle.phase_message.specs.declared.content.Content.{Content}
@@ -9,6 +9,10 @@ use Rattle.phase_message.specs.Offence.{content_read}
 use Rattle.phase_message.specs.Shape.{Shape}
 use Rattle.phase_message.specs.Slots.{slots_before}
 use Rattle.phase_message.specs.Stages.{kind_of_stage, vote_of}
+
+-- a stage that closes votes: the end of a shuffle, or the stage behind the checks
+abbrev pub ClosesVotes : Shape → ℕ → Type 0
+ClosesVotes shape stage = IsSome (option_and_then vote_of (kind_of_stage shape stage))
 
 -- at the end of a shuffle a Reveal or a Dispute, and behind the checks a Confirm or a Differ; the first embeds a post of
 -- each member, and the second one of each slot before

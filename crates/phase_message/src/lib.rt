@@ -31,6 +31,3 @@ pub use shape::Shape;
 pub use slots::{slot_number, slots_before};
 pub use stage::{Slot, StageKind, is_slot, stage_kind};
 pub use wire_core::List;
-
-#[cfg(test)]
-mod tests;

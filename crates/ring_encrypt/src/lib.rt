@@ -20,6 +20,3 @@ pub use ring_poly::{CoefficientTooLarge, KEY_BYTES};
 
 /// How many bytes a capsule has: two packed lists of coefficients, of 1,024 and of 256.
 pub const CAPSULE_BYTES: usize = 2240;
-
-#[cfg(test)]
-mod tests;

@@ -22,6 +22,3 @@ pub const PACKED_BYTES: usize = 1792;
 
 /// How many bytes a public key has: 32, from which a polynomial is drawn, and a packed polynomial.
 pub const KEY_BYTES: usize = 1824;
-
-#[cfg(test)]
-mod tests;

@@ -1,5 +1,5 @@
 -- The frames and the posts of calls, and of more calls behind them.
-use Rattle.std.proofs.Common.{◌≡◌, ℕ, List, [], ◌∷◌, ◌++◌, Option, Some, None, refl, ap}
+use Rattle.std.proofs.Common.{◌≡◌, ℕ, List, [], ◌∷◌, ◌++◌, Some, None, refl, ap}
 use Rattle.round_link.specs.declared.link_call.LinkCall.{LinkCall}
 use Rattle.round_link.specs.declared.link_call.LinkCall.TheVariants.{Received, Posted}
 use Rattle.round_link.specs.Traffic.{frames_in, posts_in}

@@ -1,12 +1,12 @@
 -- Calls with more behind them, at each `recv`.
-use Rattle.std.proofs.Common.{◌≡◌, ℕ, zero, suc, ◌+◌, ◌-◌, ◌<◌, ◌≤◌, List, [], ◌∷◌, ◌++◌, length, take, Option, Some, None, refl, sym, ap, ◌∙◌, subst, ⊎_elim, arith, length-append}
+use Rattle.std.proofs.Common.{◌≡◌, ℕ, zero, suc, ◌<◌, List, [], ◌∷◌, ◌++◌, length, take, Option, Some, None, refl, sym, ap, ◌∙◌, subst, ⊎_elim, arith, length-append}
 use Rattle.std.specs.Prelude.{slice_get}
 use Rattle.std.proofs.lemmas.Bool.{cases_lt}
 use Rattle.std.proofs.lemmas.List.{take-append-le}
 use Rattle.std.proofs.lemmas.Option.{slice_get_past}
 use Rattle.std.proofs.Math.Seq.{take-length}
 use Rattle.round_link.specs.declared.link_call.LinkCall.{LinkCall}
-use Rattle.round_link.specs.declared.link_call.LinkCall.TheVariants.{Received, Posted}
+use Rattle.round_link.specs.declared.link_call.LinkCall.TheVariants.{Received}
 use Rattle.round_link.specs.Traffic.{AtEachRecv}
 
 slice_get-front : {A : Type 0} (xs ys : List A) (i : ℕ) → i < length xs → slice_get (xs ++ ys) i ≡ slice_get xs i
@@ -26,7 +26,7 @@ pub recv-push : (P : List LinkCall → Type 0) (calls : List LinkCall) (call : L
     → ((frame : Option (List ℕ)) → call ≡ Received frame → P calls) → AtEachRecv (calls ++ call ∷ []) P
 recv-push P calls call each last place frame is =
     ⊎_elim (λ lt. before lt) (λ le. ⊎_elim (λ lt. absurd (behind lt)) (λ le'. here (omega (arith, le, le'))) (cases_lt (length calls) place))
-        (cases_lt place (length calls))
+    (cases_lt place (length calls))
   where
     before : place < length calls → P (take place (calls ++ call ∷ []))
     before lt =

@@ -5,7 +5,7 @@ use Rattle.outside.specs.Faults.{counted}
 use Rattle.round_link.specs.declared.link.Arrival.{Arrival}
 use Rattle.round_link.specs.declared.link.Arrival.TheVariants.{Frame, End, Failed, OutOfMemory}
 use Rattle.round_link.specs.declared.link.LinkAnswer.{LinkAnswer}
-use Rattle.round_link.specs.declared.link.LinkAnswer.TheVariants.{Done, Failed as PostFailed, OutOfMemory as PostOutOfMemory}
+use Rattle.round_link.specs.declared.link.LinkAnswer.TheVariants.{Done}
 use Rattle.round_link.specs.declared.link_call.LinkCall.{LinkCall}
 use Rattle.round_link.specs.declared.link_call.LinkCall.TheVariants.{Received, Posted}
 

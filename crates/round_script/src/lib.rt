@@ -16,6 +16,3 @@ pub use making::make_script;
 pub use reading::parse_script;
 pub use refusal::ScriptRefusal;
 pub use script::{FaultLine, MESSAGE_LIMIT, Script};
-
-#[cfg(test)]
-mod tests;

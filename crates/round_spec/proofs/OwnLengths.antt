@@ -69,7 +69,7 @@ longest shape Check = 77
 longest shape Confirm = 76 + shape.members * 9409
 
 -- a closing stage
-abbrev IsClosingKind : StageKind → Type 0
+abbrev pub IsClosingKind : StageKind → Type 0
 IsClosingKind (Final shuffle) = Unit {0}
 IsClosingKind Confirm = Unit {0}
 IsClosingKind kind = ⊥
@@ -127,7 +127,8 @@ confirm-length shape before _ is assents short = absurd is
 
 -- ---- contents that embed nothing
 
-open-length : (shape : Shape) (x : Content) (kind : StageKind) → 1 ≤ shape.members → OfGrammar shape x
+-- a content of a stage that closes nothing is no longer than the longest of its kind
+pub open-length : (shape : Shape) (x : Content) (kind : StageKind) → 1 ≤ shape.members → OfGrammar shape x
     → kind_of_stage shape x.header.stage ≡ Some kind → (IsClosingKind kind → ⊥)
     → length (content_text x) ≤ longest shape kind
 open-length shape x Keys some is at open_kind = omega (arith, fixed-length shape x Keys is at (omega arith))
@@ -432,7 +433,7 @@ level-most n shuffle k few = elim (cases_Bool (shuffle == 1)) [
     layers : (item : ℕ) → item ≤ 18212 → item + 2272 * (2 * n - k) ≤ 54564
     layers item small = omega (arith, small, few)
 
-open-most : (shape : Shape) (kind : StageKind) → shape.members ≤ 8 → (IsClosingKind kind → ⊥) → longest shape kind ≤ 11539924
+pub open-most : (shape : Shape) (kind : StageKind) → shape.members ≤ 8 → (IsClosingKind kind → ⊥) → longest shape kind ≤ 11539924
 open-most shape Keys few open_kind = omega arith
 open-most shape (Submit shuffle) few open_kind = omega (arith, level-most shape.members shuffle 0 few)
 open-most shape (Shuffle shuffle k) few open_kind = omega (

@@ -10,3 +10,4 @@ pub mod Looks
 pub mod Steps
 pub mod Shorts
 pub mod Culprits
+pub mod Blamed

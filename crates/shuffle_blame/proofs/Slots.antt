@@ -14,7 +14,8 @@ use Rattle.stage_log.proofs.Pasts.{some_of}
 use Rattle.shuffle_blame.specs.declared.ended.Ended.{Ended}
 use Rattle.shuffle_blame.specs.declared.fault.Shown.{Shown}
 use Rattle.shuffle_blame.specs.declared.parts.Part.{Part}
-use Rattle.shuffle_blame.specs.Asked.{IsClosing, inquiry_of}
+use Rattle.phase_message.specs.Closing.{ClosesVotes}
+use Rattle.shuffle_blame.specs.Asked.{inquiry_of}
 use Rattle.shuffle_blame.specs.Rules.{IsEnd, body_kept, inquiry_at, shown_by}
 use Rattle.shuffle_blame.specs.Replay.{body_in, submit_stage}
 use Rattle.shuffle_blame.proofs.Endings.{ends_at, submit_there, turn_there}
@@ -42,7 +43,7 @@ record HasVotes (shape : Shape) (stage : ℕ) : Type 0 where
   at : kind_of_stage shape (stage - 1) ≡ Some kind
   all_speak : (member : ℕ) → is_member shape.members member ≡ true → is_sender shape kind member ≡ true
 
-votes-before : (shape : Shape) (stage : ℕ) → IsClosing shape stage → HasVotes shape stage
+votes-before : (shape : Shape) (stage : ℕ) → ClosesVotes shape stage → HasVotes shape stage
 votes-before shape stage closing = by_kind (kind_of_stage shape stage) refl closing
   where
     by_kind : (o : Option StageKind) → kind_of_stage shape stage ≡ o → IsSome (option_and_then vote_of o) → HasVotes shape stage
@@ -60,10 +61,10 @@ votes-before shape stage closing = by_kind (kind_of_stage shape stage) refl clos
     by_kind (Some Pad) e is = absurd cc
     by_kind (Some Check) e is = absurd cc
 
-pub closing-least : (shape : Shape) (stage : ℕ) → IsClosing shape stage → 1 ≤ stage
+pub closing-least : (shape : Shape) (stage : ℕ) → ClosesVotes shape stage → 1 ≤ stage
 closing-least shape stage closing = (votes-before shape stage closing).least
 
-pub vote-said : (log : Log) (stage round member : ℕ) (shown : List Shown) → IsClosing log.shape stage → IsSome (before log stage)
+pub vote-said : (log : Log) (stage round member : ℕ) (shown : List Shown) → ClosesVotes log.shape stage → IsSome (before log stage)
     → 1 ≤ member → member ≤ log.shape.members
     → body_kept log (record { stage = stage - 1; sender = member }) ≡ body_in (inquiry_of log stage round shown) (stage - 1) member
 vote-said log stage round member shown closing complete least most =

@@ -1,9 +1,8 @@
 -- What a replay looks at, in a log.
-use Rattle.std.specs.Prelude.{◌≡◌, ℕ, List, [], length, Option, Some, IsSome, option_and_then, unwrap_or}
+use Rattle.std.specs.Prelude.{◌≡◌, ℕ, List, [], length, Option, Some, unwrap_or}
 use Rattle.phase_message.specs.declared.stage.StageKind.{StageKind}
 use Rattle.phase_message.specs.declared.stage.StageKind.TheVariants.{Final}
 use Rattle.phase_message.specs.Shape.{Shape}
-use Rattle.phase_message.specs.Stages.{kind_of_stage, vote_of}
 use Rattle.stage_log.specs.Log.{before, contents_of}
 use Rattle.stage_log.specs.Table.{Log}
 use Rattle.shuffle_blame.specs.declared.fault.Shown.{Shown}
@@ -17,10 +16,6 @@ past_of log stage = contents_of (unwrap_or (before log stage) [])
 abbrev pub inquiry_of : Log → ℕ → ℕ → List Shown → Inquiry
 inquiry_of log stage round shown =
     record { shape = log.shape; past = past_of log stage; stage = stage; round = round; shown = shown }
-
--- a stage that closes votes
-abbrev pub IsClosing : Shape → ℕ → Type 0
-IsClosing shape stage = IsSome (option_and_then vote_of (kind_of_stage shape stage))
 
 -- at the end of a shuffle each member shows its part; elsewhere nothing that is shown is looked at
 abbrev pub AreShown : Shape → Option StageKind → List Shown → Type 0

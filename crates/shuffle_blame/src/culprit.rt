@@ -4,7 +4,8 @@ ghost use Rattle.std.specs.Prelude.{◌≡◌, ◌∷◌, [], Ok, Some, IsSome, 
 ghost use Rattle.wire_core.specs.Answers.{first_some};
 ghost use Rattle.phase_message.specs.Stages.{kind_of_stage};
 ghost use Rattle.stage_log.specs.Log.{before};
-ghost use Rattle.shuffle_blame.specs.Asked.{AreShown, IsClosing, inquiry_of};
+ghost use Rattle.phase_message.specs.Closing.{ClosesVotes};
+ghost use Rattle.shuffle_blame.specs.Asked.{AreShown, inquiry_of};
 ghost use Rattle.shuffle_blame.specs.Rules.{IsEnd, fault_shown, inquiry_at};
 ghost use Rattle.shuffle_blame.specs.Replay.{culprit_of, seed_fault, submission_fault, turn_fault, view_fault};
 
@@ -41,7 +42,7 @@ pub fn replay(
     round: u64,
     shown: &Vec<Shown>,
 ) -> Mem<Option<Fault>>
-    requires closing { IsClosing log.now.shape stage }
+    requires closing { ClosesVotes log.now.shape stage }
     requires complete { IsSome (before log.now stage) }
     requires shown { AreShown log.now.shape (kind_of_stage log.now.shape stage) shown.now.items }
     ensures culprit { IfOk result (λ fault. fault ≡ culprit_of (inquiry_of log.now stage round shown.now.items)) }

@@ -23,6 +23,3 @@ pub use laws::{
     stripped_distinct, unlike_votes_blame,
 };
 pub use stage_log::StageLog;
-
-#[cfg(test)]
-mod tests;

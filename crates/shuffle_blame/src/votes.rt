@@ -2,7 +2,8 @@
 
 ghost use Rattle.std.specs.Prelude.{◌≡◌, [], IsSome, IfOk};
 ghost use Rattle.stage_log.specs.Log.{before};
-ghost use Rattle.shuffle_blame.specs.Asked.{IsClosing, inquiry_of};
+ghost use Rattle.phase_message.specs.Closing.{ClosesVotes};
+ghost use Rattle.shuffle_blame.specs.Asked.{inquiry_of};
 ghost use Rattle.shuffle_blame.specs.Replay.{vote_fault};
 
 use crate::fault::{Cause, Fault};
@@ -14,7 +15,7 @@ use wire_core::Mem;
 
 // The least member that voted no in the stage before.
 pub(crate) fn vote_fault(alloc: Global, log: &StageLog, stage: u8) -> Mem<Option<Fault>>
-    requires closing { IsClosing log.now.shape stage }
+    requires closing { ClosesVotes log.now.shape stage }
     requires complete { IsSome (before log.now stage) }
     ensures { IfOk result (λ fault. fault ≡ vote_fault (inquiry_of log.now stage 0 [])) }
 {

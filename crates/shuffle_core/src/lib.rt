@@ -22,6 +22,3 @@ pub use seeds::layer_seeds;
 pub use submitting::{MOST_KEYS, submission};
 pub use turn::anonymize;
 pub use wire_core::List;
-
-#[cfg(test)]
-mod tests;

@@ -3,8 +3,6 @@
 
 mod laws;
 mod post;
-#[cfg(test)]
-mod tests;
 
 pub use group_roster::Roster;
 pub use laws::{

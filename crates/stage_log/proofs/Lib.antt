@@ -8,3 +8,4 @@ pub mod Views
 pub mod Fronts
 pub mod EqualViews
 pub mod Sights
+pub mod KeptPosts

@@ -11,6 +11,3 @@ pub use log::{Put, StageLog};
 pub use phase_message::{Post, Shape, Slot};
 pub use running::RunningView;
 pub use seen::Seen;
-
-#[cfg(test)]
-mod tests;

@@ -17,6 +17,3 @@ pub use phase_message::Shape;
 pub use refusal::{FailedForm, Refused};
 pub use transcript::{Transcript, read_transcript, write_transcript};
 pub use wire_core::{List, Mem};
-
-#[cfg(test)]
-mod tests;

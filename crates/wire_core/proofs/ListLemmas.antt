@@ -1,4 +1,4 @@
--- Lists: a test of each of some numbers, and joined lists.
+-- Lists: what is made of a range, a test of each of some numbers, and joined lists.
 use Rattle.std.proofs.Common.{◌≡◌, ℕ, zero, suc, ◌+◌, ◌<◌, ◌≤◌, Bool, false, ◌||◌, List, [], ◌∷◌, ◌++◌, length, map, refl, ap, arith, inl, inr}
 use Rattle.std.specs.List.{list_any, range_with_len}
 use Rattle.std.proofs.lemmas.Bool.{cases_lt, or_parts}
@@ -23,6 +23,16 @@ pub pass_none : (p : ℕ → Bool) (a n : ℕ) → ((i : ℕ) → a ≤ i → i 
 pass_none p a zero h = refl
 pass_none p a (suc n) h =
     rw (h a (omega arith) (omega arith)) (pass_none p (a + 1) n (λ i le lt. h i (omega arith) (omega arith)))
+
+-- functions that agree on a range map it to one list
+pub map-range : {A : Type 0} (f g : ℕ → A) (a n : ℕ) → ((m : ℕ) → a ≤ m → m < a + n → f m ≡ g m)
+    → map f (range_with_len a n) ≡ map g (range_with_len a n)
+map-range f g a zero each = refl
+map-range f g a (suc n) each = rw (
+  each a (omega arith) (omega arith),
+  map-range f g (a + 1) n
+      (λ m le lt. each m (omega arith) (omega arith)),
+) refl
 
 -- of two joined lists with fronts of one length the fronts and the rests are equal
 pub split_once : {A : Type 0} (p q x y : List A) → length p ≡ length q → p ++ x ≡ q ++ y → (p ≡ q) × (x ≡ y)

@@ -21,6 +21,3 @@ pub use places::{copy_part, first_unlike, long_at, word_at};
 pub use put::{Mem, put_bytes, put_u8, put_u16, put_u32, put_u64};
 pub use register::Register;
 pub use tag::Tag;
-
-#[cfg(test)]
-mod tests;

@@ -10,7 +10,7 @@ use Rattle.round_spec.specs.Slots.{slots_of_past}
 use Rattle.round_spec.specs.Verdict.{Goes, Done, is_bad}
 use Rattle.closing_verdict.specs.Judgement.{completed_of}
 use Rattle.closing_verdict.proofs.Carrying.{items-now, opened-there}
-use Rattle.closing_verdict.proofs.ClosedStages.{confirm-at}
+use Rattle.phase_message.proofs.StageCounts.{confirm-at}
 use Rattle.closing_verdict.proofs.judging.Closing.judge_slots.Goals as goal
 
 pub slots_said-requires-clause-opened : goal.slots_said-requires-clause-opened

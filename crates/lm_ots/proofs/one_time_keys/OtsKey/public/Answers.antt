@@ -1,22 +1,17 @@
-use Rattle.std.proofs.Common.{[], ◌++◌}
-use Rattle.lm_ots.specs.OneTime.{d_pblc, u16str, u32str}
-use Rattle.lm_ots.specs.Signing.{parts_of}
-use Rattle.lm_ots.proofs.Signatures.{own_ends-more, own_ends-none}
+use Rattle.std.proofs.Common.{◌∙◌, List, ℕ, ap, arith}
+use Rattle.sha2.specs.Sha256.{sha256}
+use Rattle.lm_ots.specs.OneTime.{chain, chain_count, key_string}
+use Rattle.lm_ots.specs.Signing.{chain_start, parts_of}
+use Rattle.lm_ots.proofs.DigitSizes.{chains_in_table}
+use Rattle.lm_ots.proofs.Walking.{values-own_ends}
 use Rattle.lm_ots.proofs.one_time_keys.OtsKey.public.Goals as goal
 
-pub loop-i-init : goal.loop-i-init
-loop-i-init c =
-    rw (
-      own_ends-none (parts_of c.args.self.now) (c.args.self.now.identifier ++ u32str c.args.self.now.q ++ u16str d_pblc),
-      ←
-          c.u32str.ensures,
-      ← c.u16str.ensures,
-    )
-    (c.update-3.ensures _ (c.update-2.ensures _ (c.update.ensures [] c.new-hasher.ensures)))
-
-pub loop-i-preserved : goal.loop-i-preserved
-loop-i-preserved c =
+pub returns : goal.returns
+returns c =
     let key = parts_of c.args.self.now in
-    rw (← own_ends-more key c.loop-i.i (key.identifier ++ u32str key.q ++ u16str d_pblc) c.chain_to.result
-    (rw (← c.last_place-last.ensures) c.chain_to.ensures))
-    (c.update-in-loop-i.ensures _ c.loop-i.invariant)
+    c.key_over.ensures
+    ∙ ap (λ (ends : List ℕ). sha256 (key_string key.identifier key.q ends))
+    (values-own_ends key c.walk.new.walks (chain_count key.width)
+    (λ i below. c.walk.ensures i below
+    ∙ ap (λ (end : ℕ). chain key.identifier key.q i 0 end (chain_start key i))
+    (c.walks_to-walks.ensures i (omega (arith, below, chains_in_table key.width)) ∙ c.last_place.ensures)))

@@ -1,0 +1,5 @@
+mod FourLanes
+mod OneBlock
+mod Rotations
+mod Schedules
+pub mod Lanes

@@ -1,0 +1,17 @@
+use Rattle.std.proofs.Common.{ℕ, ◌/◌, ◌^◌, bit_xor, slice_index, ap, arith}
+use Rattle.sha_lanes.proofs.FourLanes.{lane-lt}
+use Rattle.sha_lanes.proofs.Rotations.{rotation_within}
+use Rattle.sha_lanes.proofs.words.small_sigma0.Goals as goal
+
+pub returns : goal.returns
+returns c j below =
+    let x = slice_index c.args.x j in
+    let fits = lane-lt c.args.x c.fits-x j below in
+    rw (
+      c.xor.ensures j below,
+      c.shift_right.ensures j below,
+      c.rotate_right-2.ensures j below,
+      c.xor-both.ensures j below,
+      c.rotate_right.ensures j below,
+    )
+    (ap (λ (y : ℕ). bit_xor y (x / 2 ^ 3)) (rotation_within x x 7 11 fits fits (omega arith) (omega arith) (omega arith)))

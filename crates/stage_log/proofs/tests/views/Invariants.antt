@@ -1,6 +1,0 @@
-use Rattle.std.proofs.Common.{◌≡◌, ◌<◌, ℕ, true}
-use Rattle.stage_log.specs.Table.{is_complete}
-use Rattle.stage_log.proofs.tests.views.Given as goal
-
-abbrev pub invariant-loop-earlier : goal.invariant-loop-earlier
-invariant-loop-earlier l = (earlier : ℕ) → earlier < l.earlier → is_complete l.log earlier ≡ true
