@@ -5,3 +5,4 @@ pub mod Promised
 pub mod Written
 pub mod Showing
 pub mod Adapters
+pub mod Convicting
