@@ -1,11 +1,11 @@
 #!/usr/bin/env python3
 """Runs the built program as three members of a group, each a process of its own, and says what comes out.
 
-  tools/three_members.py PROGRAM [PORT]
+  tools/three_members.py PROGRAM [PORT [WAIT]]
 
-PROGRAM is the program as `rt run` builds it, crates/dissent/out/dissent. The members listen at PORT and the two ports behind
-it on this machine. Each line is one round: what was done, and whether the members ended as they ought to. The status is 0
-where all did.
+PROGRAM is the program as `rt run` builds it, crates/dissent/out/dissent. The rounds use the ports from PORT on, which is 47101
+where it is left out, on this machine, and members wait for WAIT seconds, 10 where it is left out. Each line is one round:
+what was done, and whether the members ended as they ought to. The status is 0 where all did.
 
 - started in each of the six orders: all three print the same slots, which have their messages;
 - a member that is killed behind its second post: the two others end open, and miss it;
@@ -31,8 +31,8 @@ HOST = "127.0.0.1"
 class Group:
     """Three keys and a roster in a folder."""
 
-    def __init__(self, program, port, folder):
-        self.program, self.port, self.folder = program, port, folder
+    def __init__(self, program, port, wait, folder):
+        self.program, self.port, self.wait, self.folder = program, port, wait, folder
         keys = [self.run("keygen", "--key", "key%d" % i, "--height", "5", "--width", "4") for i in (1, 2, 3)]
         with open(self.path("group.toml"), "w") as file:
             file.write("version = 1\n" + "".join('[[member]]\nkey = "%s"\n' % key for key in keys))
@@ -51,18 +51,18 @@ class Group:
     def address(self, number):
         return (HOST, self.port + number - 1)
 
-    def start(self, number, wait, addresses=None):
+    def start(self, number, addresses=None):
         """A member's process. Its own list of addresses may lead elsewhere than to the others."""
         addresses = addresses or [self.address(i) for i in (1, 2, 3)]
         words = ["member", "--roster", "roster", "--key", "key%d" % number, "--round", "1",
-                 "--message", "message%d" % number, "--transcript", "transcript%d" % number, "--wait", str(wait)]
+                 "--message", "message%d" % number, "--transcript", "transcript%d" % number, "--wait", str(self.wait)]
         words += ["%s:%d" % address for address in addresses]
         return subprocess.Popen([self.program, *words], cwd=self.folder, stdout=subprocess.PIPE, stderr=subprocess.PIPE)
 
 
 def ended(process):
     """Status and output of a member."""
-    out, err = process.communicate(timeout=120)
+    out, err = process.communicate(timeout=3600)
     return process.returncode, out.decode() + err.decode()
 
 
@@ -217,7 +217,7 @@ class Relay:
 def in_order(group, order):
     started = {}
     for number in order:
-        started[number] = group.start(number, 30)
+        started[number] = group.start(number)
         time.sleep(0.3)
     ends = [ended(started[number]) for number in (1, 2, 3)]
     return are_done(ends), ends
@@ -230,17 +230,17 @@ def with_a_killed_member(group):
     addresses = [(HOST, group.port + 3), (HOST, group.port + 4), group.address(3)]
     for number in (1, 2):
         Relay(addresses[number - 1], group.address(number), 2, both.wait)
-    others = [group.start(1, 5), group.start(2, 5)]
-    killed.append(group.start(3, 5, addresses))
+    others = [group.start(1), group.start(2)]
+    killed.append(group.start(3, addresses))
     ends = [ended(process) for process in others]
     return ends == [(2, "open stage 4 missing 3\n")] * 2, ends
 
 
 def beside_a_stranger(group):
     peer = WrongPeer(group, (1, 2, 3))
-    started = [group.start(number, 30) for number in (1, 2)]
+    started = [group.start(number) for number in (1, 2)]
     time.sleep(3)
-    started.append(group.start(3, 30))
+    started.append(group.start(3))
     ends = [ended(process) for process in started]
     peer.leave()
     return are_done(ends) and peer.sent > 0, ends
@@ -248,7 +248,7 @@ def beside_a_stranger(group):
 
 def with_a_wrong_peer(group):
     peer = WrongPeer(group, (1, 2), own=3)
-    ends = [ended(process) for process in [group.start(1, 5), group.start(2, 5)]]
+    ends = [ended(process) for process in [group.start(1), group.start(2)]]
     peer.leave()
     return ends == [(2, "open stage 0 missing 3\n")] * 2 and peer.sent > 0, ends
 
@@ -256,6 +256,7 @@ def with_a_wrong_peer(group):
 def main(words):
     program = os.path.abspath(words[0])
     port = int(words[1]) if len(words) > 1 else 47101
+    wait = int(words[2]) if len(words) > 2 else 10
     rounds = [("started in the order %d %d %d" % order, lambda group, order=order: in_order(group, order))
               for order in itertools.permutations((1, 2, 3))]
     rounds += [("member 3 killed behind its second post", with_a_killed_member),
@@ -264,7 +265,7 @@ def main(words):
     good = True
     for number, (what, do) in enumerate(rounds):
         with tempfile.TemporaryDirectory() as folder:
-            well, ends = do(Group(program, port + 10 * number, folder))
+            well, ends = do(Group(program, port + 10 * number, wait, folder))
         good = good and well
         first = ends[0][1].strip().replace("\n", "; ")
         print("%s: %s: %s" % (what, "as it ought to" if well else "NOT as it ought to", first if well else ends), flush=True)
