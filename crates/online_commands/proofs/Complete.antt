@@ -43,9 +43,9 @@ same-parts a b c d k l x y z = cc
 -- where all is told, there is one thing that was found
 same-found : (outside : Outside) (words : MemberWords) (a b : Found) → WasTold outside words a → WasFound outside words b → a ≡ b
 same-found outside words a b told other = same-parts a.roster_file b.roster_file a.message_file b.message_file a.key_file b.key_file
-    (same-file outside.files.before words.roster a.roster_file b.roster_file told.files told.found.roster other.roster)
-    (same-file outside.files.before words.message a.message_file b.message_file told.files told.found.message other.message)
-    (same-key (key_file_told outside.disk.before words.key) a.key_file b.key_file told.disk told.found.key other.key)
+    (same-file outside.files.before words.roster a.roster_file b.roster_file told.files told.stood.roster other.roster)
+    (same-file outside.files.before words.message a.message_file b.message_file told.files told.stood.message other.message)
+    (same-key (key_file_told outside.disk.before words.key) a.key_file b.key_file told.disk told.stood.key other.key)
 
 -- ---- what was taken
 
@@ -146,7 +146,7 @@ complete outside sink fresh words status run found entrant c runs told is all no
     let answered = run.ends.1.answers in
     let same = same-found outside words found answered.0 told answered.1 in
     let entrance : entrance_by words fresh answered.0 ≡ Ok (entrant, c) = ap (entrance_by words fresh) (sym same) ∙ is in
-    delivers-all sink c runs run.ends.0 status none.sink run.ends.2
+    delivers-all sink c runs run.ends.0 status none.out run.ends.2
     (comes-all outside sink words entrant c runs run.ends.0 none told.link all
     (subst (λ (r : Result (Entrant × Configuration) Status). ComesOf outside words r run.ends.0) entrance answered.2))
 

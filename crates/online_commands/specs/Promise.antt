@@ -113,7 +113,7 @@ pub record HasNoFault (outside : Outside) (sink : Change (Option (List ℕ))) : 
   pub files : ¬ Failed outside.files
   pub disk : ¬ Failed outside.disk
   pub link : ¬ Rose outside.link_before.faults outside.link_now.faults
-  pub sink : ¬ Failed sink
+  pub out : ¬ Failed sink
 
 -- the whole list is printed, with each honest member's message; or memory ran out
 abbrev pub PrintsAllMessages : Change (Option (List ℕ)) → Configuration → List Run → Status → Type 0
@@ -125,7 +125,7 @@ pub record WasTold (outside : Outside) (words : MemberWords) (found : Found) : T
   pub files : IsSome outside.files.before
   pub disk : IsSome (key_file_told outside.disk.before words.key)
   pub link : IsSome outside.link_before.traffic
-  pub found : WasFound outside words found
+  pub stood : WasFound outside words found
 
 -- so it is where the words, the files and the key file refuse nothing, and there was no fault
 abbrev pub IsComplete : Outside → Change (Option (List ℕ)) → List ℕ → MemberWords → Status → Type 0
