@@ -8,7 +8,10 @@ use round_link::{LinkCall, MemoryLink};
 use std::alloc::{AllocError, Global};
 use std::sync::Wait;
 use std::thread::Threads;
-use wire_core::{List, Mem};
+use wire_core::{List, Mem, Register, Tag};
+
+const SEED: [u8; 32] =
+    *b"\xa9\x5a\xdc\x64\x4b\x94\xc1\x0c\x3a\x3f\x49\x5e\x83\x24\x17\x0d\x5c\x85\x6b\x86\x6a\xb3\x84\x8f\xe8\xa4\xb1\x75\xbf\x65\x1b\xdc";
 
 const KEYGEN: [&str; 7] = ["keygen", "--key", "k", "--height", "5", "--width", "4"];
 
@@ -42,7 +45,7 @@ impl Computer {
         let letter = if member == 1 { b'a' } else { b'b' };
         computer.put(alloc, "m", &vec![in alloc; letter; 1]?)?;
         let key = Given {
-            fresh: member,
+            fresh: of_seed(Tag::ScriptKey, member),
             arrivals: Vec::new(alloc),
             failing: 0,
         };
@@ -76,11 +79,11 @@ impl Computer {
     }
 }
 
-/// What a command is given beside its words: bytes for secrets, all alike; the frames that arrive; and the number, from
+/// What a command is given beside its words: bytes for secrets; the frames that arrive; and the number, from
 /// 1, of the call of the link that fails, or 0.
 #[derive(Drop)]
 pub(crate) struct Given {
-    pub(crate) fresh: u8,
+    pub(crate) fresh: [u8; 32],
     pub(crate) arrivals: Vec<List<u8>>,
     pub(crate) failing: u64,
 }
@@ -105,16 +108,7 @@ pub(crate) fn run_over<R: Threads + Wait + Sync, F: Files, D: Disk>(
         return Err(AllocError);
     };
     let mut out = MemorySink::new(alloc, Vec::new(alloc));
-    let status = run(
-        rt,
-        alloc,
-        &words,
-        files,
-        disk,
-        &mut link,
-        [fresh; 32],
-        &mut out,
-    );
+    let status = run(rt, alloc, &words, files, disk, &mut link, fresh, &mut out);
     Ok(Ended {
         number: status.number(),
         posts: posts_on(alloc, &link)?,
@@ -141,11 +135,20 @@ fn posts_on(alloc: Global, link: &MemoryLink) -> Mem<Vec<List<u8>>> {
     Ok(posts)
 }
 
-/// The file of a roster of the keys that `keygen` makes of these numbers.
+/// What is made of the round's seed for a member.
+pub(crate) fn of_seed(tag: Tag, member: u8) -> [u8; 32] {
+    let mut register = Register::new(tag);
+    register.piece(&SEED);
+    register.piece(&[member]);
+    register.end()
+}
+
+/// The file of a roster of the keys of these members.
 pub(crate) fn roster_of(alloc: Global, first: u8, second: u8) -> Mem<Vec<u8>> {
     let mut roster = Vec::from_slice(alloc, b"DSRO\x01\x02")?;
     for member in [first, second] {
-        let key = LmsSecret::make(alloc, MadeHeight::H5, OtsType::W4, &[member; 32], 0)?;
+        let master = of_seed(Tag::ScriptKey, member);
+        let key = LmsSecret::make(alloc, MadeHeight::H5, OtsType::W4, &master, 0)?;
         roster.extend_from_slice(&key.public().bytes())?;
     }
     Ok(roster)

@@ -38,8 +38,8 @@ fn print_end<R: Runtime>(rt: &R, ended: &Ended) -> Result<()> {
 fn print_silence<R: Runtime<A = Global> + Threads + Wait + Sync>(rt: &R) -> Result<()> {
     let alloc = rt.alloc();
     let mut computer = Computer::of_member(rt, alloc, 1)?;
-    print_end(rt, &computer.run(rt, alloc, &MEMBER, silence(alloc))?)?;
-    print_end(rt, &computer.run(rt, alloc, &MEMBER, silence(alloc))?)
+    print_end(rt, &computer.run(rt, alloc, &MEMBER, silence(alloc, 1))?)?;
+    print_end(rt, &computer.run(rt, alloc, &MEMBER, silence(alloc, 1))?)
 }
 
 // Links that fail or flood.
@@ -65,7 +65,7 @@ fn print_blame<R: Runtime<A = Global> + Threads + Wait + Sync>(rt: &R) -> Result
     let mut computer = Computer::of_member(rt, alloc, 1)?;
     let given = two_in_one_slot(rt, alloc)?;
     print_end(rt, &computer.run(rt, alloc, &MEMBER, given)?)?;
-    print_end(rt, &computer.run(rt, alloc, &JUDGE, silence(alloc))?)
+    print_end(rt, &computer.run(rt, alloc, &JUDGE, silence(alloc, 1))?)
 }
 
 // Both members of a whole round.
@@ -80,7 +80,7 @@ fn print_stored<R: Runtime<A = Global> + Threads + Wait + Sync>(rt: &R) -> Resul
     let alloc = rt.alloc();
     let mut files = HostFiles::new(rt, alloc);
     let mut disk = MemoryDisk::new(alloc, 0, Vec::new(alloc))?;
-    let given = silence(alloc);
+    let given = silence(alloc, 1);
     print_end(
         rt,
         &run_over(rt, alloc, &JUDGE_STORED, &mut files, &mut disk, given)?,

@@ -1,10 +1,10 @@
 //! Commands of members over links in memory, and how each ends.
 
-use crate::computer::{Computer, Ended, Given, roster_of};
+use crate::computer::{Computer, Ended, Given, of_seed, roster_of};
 use std::alloc::Global;
 use std::sync::Wait;
 use std::thread::Threads;
-use wire_core::{List, Mem};
+use wire_core::{List, Mem, Tag};
 
 pub(crate) const MEMBER: [&str; 15] = [
     "member",
@@ -24,10 +24,10 @@ pub(crate) const MEMBER: [&str; 15] = [
     "b",
 ];
 
-/// A link on which nothing arrives.
-pub(crate) fn silence(alloc: Global) -> Given {
+/// A link on which nothing arrives, for a member.
+pub(crate) fn silence(alloc: Global, member: u8) -> Given {
     Given {
-        fresh: 7,
+        fresh: of_seed(Tag::ScriptFresh, member),
         arrivals: Vec::new(alloc),
         failing: 0,
     }
@@ -35,14 +35,14 @@ pub(crate) fn silence(alloc: Global) -> Given {
 
 /// A link of which the first `recv` fails, behind `begin` and a post.
 pub(crate) fn failing_link(alloc: Global) -> Given {
-    let mut given = silence(alloc);
+    let mut given = silence(alloc, 1);
     given.failing = 3;
     given
 }
 
 /// A link on which 1,000,001 empty frames arrive.
 pub(crate) fn flood(alloc: Global) -> Mem<Given> {
-    let mut given = silence(alloc);
+    let mut given = silence(alloc, 1);
     for _ in 0..1_000_001 {
         given.arrivals.push(List::of(Vec::new(alloc)))?;
     }
@@ -69,7 +69,7 @@ pub(crate) fn with_file<R: Threads + Wait + Sync>(
 ) -> Mem<Ended> {
     let mut computer = Computer::of_member(rt, alloc, 1)?;
     computer.put(alloc, name, bytes)?;
-    computer.run(rt, alloc, &MEMBER, silence(alloc))
+    computer.run(rt, alloc, &MEMBER, silence(alloc, 1))
 }
 
 /// How it ends where the roster has the keys of two others.
@@ -81,7 +81,7 @@ pub(crate) fn with_other_roster<R: Threads + Wait + Sync>(rt: &R, alloc: Global)
 pub(crate) fn with_zero_key<R: Threads + Wait + Sync>(rt: &R, alloc: Global) -> Mem<Ended> {
     let mut computer = Computer::of_member(rt, alloc, 1)?;
     computer.hold(alloc, &vec![in alloc; 0; 128]?)?;
-    computer.run(rt, alloc, &MEMBER, silence(alloc))
+    computer.run(rt, alloc, &MEMBER, silence(alloc, 1))
 }
 
 /// How it ends with a key file of 32 leaves that says in its first slot that the next one is 21.
@@ -92,7 +92,7 @@ pub(crate) fn with_used_key<R: Threads + Wait + Sync>(rt: &R, alloc: Global) -> 
         *next = 21;
     }
     computer.hold(alloc, &file)?;
-    computer.run(rt, alloc, &MEMBER, silence(alloc))
+    computer.run(rt, alloc, &MEMBER, silence(alloc, 1))
 }
 
 // Pushes the first post of a member with these bytes for its secrets, if it makes one.
@@ -102,8 +102,8 @@ fn push_first<R: Threads + Wait + Sync>(
     fresh: u8,
     posts: &mut Vec<List<u8>>,
 ) -> Mem<()> {
-    let mut given = silence(alloc);
-    given.fresh = fresh;
+    let mut given = silence(alloc, 2);
+    given.fresh = [fresh; 32];
     let ended = of_member(rt, alloc, 2, given)?;
     if let Some(post) = ended.posts.first() {
         posts.push(List::of(post.items().clone()?))?;
@@ -113,15 +113,15 @@ fn push_first<R: Threads + Wait + Sync>(
 
 /// Frames in which the second member says two things in one slot.
 pub(crate) fn two_in_one_slot<R: Threads + Wait + Sync>(rt: &R, alloc: Global) -> Mem<Given> {
-    let mut given = silence(alloc);
+    let mut given = silence(alloc, 1);
     push_first(rt, alloc, 5, &mut given.arrivals)?;
     push_first(rt, alloc, 6, &mut given.arrivals)?;
     Ok(given)
 }
 
-// What another has posted arrives.
-fn posts_of(alloc: Global, other: &Ended) -> Mem<Given> {
-    let mut given = silence(alloc);
+// What another has posted arrives, for a member.
+fn posts_of(alloc: Global, member: u8, other: &Ended) -> Mem<Given> {
+    let mut given = silence(alloc, member);
     for post in &other.posts {
         given.arrivals.push(List::of(post.items().clone()?))?;
     }
@@ -130,11 +130,11 @@ fn posts_of(alloc: Global, other: &Ended) -> Mem<Given> {
 
 /// How both end where each runs over what the other has posted so far, until neither has more to say.
 pub(crate) fn whole_round<R: Threads + Wait + Sync>(rt: &R, alloc: Global) -> Mem<(Ended, Ended)> {
-    let mut second = of_member(rt, alloc, 2, silence(alloc))?;
-    let mut first = of_member(rt, alloc, 1, posts_of(alloc, &second)?)?;
+    let mut second = of_member(rt, alloc, 2, silence(alloc, 2))?;
+    let mut first = of_member(rt, alloc, 1, posts_of(alloc, 1, &second)?)?;
     for _ in 0..8 {
-        second = of_member(rt, alloc, 2, posts_of(alloc, &first)?)?;
-        first = of_member(rt, alloc, 1, posts_of(alloc, &second)?)?;
+        second = of_member(rt, alloc, 2, posts_of(alloc, 2, &first)?)?;
+        first = of_member(rt, alloc, 1, posts_of(alloc, 1, &second)?)?;
     }
     Ok((first, second))
 }
