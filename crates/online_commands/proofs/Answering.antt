@@ -8,7 +8,7 @@ use Rattle.round_link.specs.Traffic.{Shown}
 use Rattle.offline_commands.specs.declared.status.Status.{Status}
 use Rattle.offline_commands.specs.declared.status.Status.TheVariants.{OutOfMemory}
 use Rattle.offline_commands.specs.Outside.{DiskTold, Held, Shows}
-use Rattle.member_entry.specs.Entering.{Found, MemberWords, entrance_by, key_file_told}
+use Rattle.member_entry.specs.Entering.{Found, MemberWords, before_key, entrance_by, key_file_told}
 use Rattle.member_entry.specs.Steps.{KeepsHeld}
 use Rattle.online_commands.specs.TakingPart.{Outside}
 use Rattle.online_commands.specs.Promise.{IsMemberAnswered, IsSilent}
@@ -59,8 +59,8 @@ wanting held files_faults disk disk_faults link fresh (Some words) =
       answers = (
         found,
         record { roster = roster.1; message = message.1; key = key.1 },
-        broken (still held files_faults disk disk_faults link) words (entrance_by words fresh found) (Err OutOfMemory)
-            (silent held files_faults disk disk_faults link) (inl refl),
+        broken (still held files_faults disk disk_faults link) words (before_key words found) (entrance_by words fresh found)
+            (Err OutOfMemory) (silent held files_faults disk disk_faults link) (inl refl),
       );
       files_kept = others-same held held words.transcript refl;
       names_kept = keeps_same disk.names words.key;

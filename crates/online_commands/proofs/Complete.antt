@@ -4,6 +4,7 @@ use Rattle.std.specs.Prelude.{IfSome, IsSome, IsSomeAnd}
 use Rattle.outside.specs.Changes.{Change, Failed}
 use Rattle.outside.specs.Faults.{Rose}
 use Rattle.bulk_descriptor.specs.declared.slot_state.SlotState.{SlotState}
+use Rattle.group_roster.specs.Roster.{Roster}
 use Rattle.key_store.specs.KeyFiles.{key_read}
 use Rattle.key_store.specs.declared.layout.KeyContent.{KeyContent}
 use Rattle.round_link.specs.Traffic.{Shown, Traffic}
@@ -20,9 +21,9 @@ use Rattle.offline_commands.specs.declared.status.Status.{Status}
 use Rattle.offline_commands.specs.declared.status.Status.TheVariants.{Done, OutOfMemory}
 use Rattle.offline_commands.specs.Delivery.{Delivers, status_of, text_of}
 use Rattle.offline_commands.specs.Outside.{Gains, Held, Shows}
-use Rattle.member_entry.specs.Entering.{Entrant, Found, MemberWords, entrance_by, key_file_told}
+use Rattle.member_entry.specs.Entering.{Entrant, Found, MemberWords, before_key, entrance_by, key_file_told}
 use Rattle.online_commands.specs.TakingPart.{Converses, Ends, Outside, Settles, TookPart, WaitsOnlyIf, told_of}
-use Rattle.online_commands.specs.Promise.{AllArrives, BreaksOff, ComesOf, HasNoFault, IsComplete, IsFault, IsMemberRun, PrintsAllMessages, WasFound, WasTold}
+use Rattle.online_commands.specs.Promise.{AllArrives, ComesOf, HasNoFault, IsComplete, IsMemberRun, PrintsAllMessages, WasFound, WasTold}
 use Rattle.online_commands.proofs.Lasting.{result-lasts}
 
 -- ---- what was found
@@ -124,21 +125,22 @@ delivers-all sink c runs answer status no_fault delivers (inr memory) =
 
 -- ---- all of it
 
-comes-all : (outside : Outside) (sink : Change (Option (List ℕ))) (words : MemberWords) (entrant : Entrant) (c : Configuration)
-    (runs : List Run) (answer : Result (List ℕ) Status) → HasNoFault outside sink → IsSome outside.link_before.traffic
-    → AllArrives outside c runs → ComesOf outside words (Ok (entrant, c)) answer → TellsAll c runs answer
-comes-all outside sink words entrant c runs answer none told all (inl (silent, inl memory)) = inr memory
-comes-all outside sink words entrant c runs answer none told all (inl (silent, inr (status, is, inl (fault, failed)))) =
+comes-all : (outside : Outside) (sink : Change (Option (List ℕ))) (words : MemberWords) (first : Result (Roster × List ℕ) Status)
+    (entrant : Entrant) (c : Configuration) (runs : List Run) (answer : Result (List ℕ) Status) → HasNoFault outside sink
+    → IsSome outside.link_before.traffic → AllArrives outside c runs → ComesOf outside words first (Ok (entrant, c)) answer
+    → TellsAll c runs answer
+comes-all outside sink words first entrant c runs answer none told all (inl (silent, inl memory)) = inr memory
+comes-all outside sink words first entrant c runs answer none told all (inl (silent, inr (inl (fault, failed, untouched)))) =
     absurd (none.files failed)
-comes-all outside sink words entrant c runs answer none told all (inl (silent, inr (status, is, inr (inl (fault, failed))))) =
+comes-all outside sink words first entrant c runs answer none told all (inl (silent, inr (inr (inl (fault, failed, ok))))) =
     absurd (none.disk failed)
-comes-all outside sink words entrant c runs answer none told all (inl (silent, inr (status, is, inr (inr (fault, rose))))) =
+comes-all outside sink words first entrant c runs answer none told all (inl (silent, inr (inr (inr (fault, rose, keeps))))) =
     absurd (none.link rose)
-comes-all outside sink words entrant c runs answer none told all (inr took) =
-    let first = taken-first c took.frames all.arrivals (answer ≡ told_of (result_of c took.frames)) outside.link_before.traffic
+comes-all outside sink words first entrant c runs answer none told all (inr took) =
+    let taken = taken-first c took.frames all.arrivals (answer ≡ told_of (result_of c took.frames)) outside.link_before.traffic
     outside.link_now.traffic told all.left took.converses in
-    ends-all c runs outside.files words.transcript outside.link_before outside.link_now took.frames all.arrivals first.0 answer none.files none.link
-    first.1 first.2 all.honest all.few took.ends
+    ends-all c runs outside.files words.transcript outside.link_before outside.link_now took.frames all.arrivals taken.0 answer none.files none.link
+    taken.1 taken.2 all.honest all.few took.ends
 
 pub complete : (outside : Outside) (sink : Change (Option (List ℕ))) (fresh : List ℕ) (words : MemberWords) (status : Status)
     → IsMemberRun outside sink fresh (Some words) status → IsComplete outside sink fresh words status
@@ -147,8 +149,9 @@ complete outside sink fresh words status run found entrant c runs told is all no
     let same = same-found outside words found answered.0 told answered.1 in
     let entrance : entrance_by words fresh answered.0 ≡ Ok (entrant, c) = ap (entrance_by words fresh) (sym same) ∙ is in
     delivers-all sink c runs run.ends.0 status none.out run.ends.2
-    (comes-all outside sink words entrant c runs run.ends.0 none told.link all
-    (subst (λ (r : Result (Entrant × Configuration) Status). ComesOf outside words r run.ends.0) entrance answered.2))
+    (comes-all outside sink words (before_key words answered.0) entrant c runs run.ends.0 none told.link all
+    (subst (λ (r : Result (Entrant × Configuration) Status). ComesOf outside words (before_key words answered.0) r run.ends.0)
+    entrance answered.2))
 
 pub complete-words : (outside : Outside) (sink : Change (Option (List ℕ))) (fresh : List ℕ) (words : Option MemberWords) (status : Status)
     → IsMemberRun outside sink fresh words status → IfSome words (λ given. IsComplete outside sink fresh given status)

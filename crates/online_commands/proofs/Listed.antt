@@ -30,7 +30,7 @@ use Rattle.offline_commands.specs.declared.status.Status.{Status}
 use Rattle.offline_commands.specs.declared.status.Status.TheVariants.{TooLong}
 use Rattle.offline_commands.specs.Outcome.{or_bad_roster, within}
 use Rattle.member_core.specs.Promises.{HasRosterKey}
-use Rattle.member_entry.specs.Entering.{Entrant, Found, MemberWords, configuration_by, entrant_by, number_in, or_bad_key_file, or_not_member, or_usage}
+use Rattle.member_entry.specs.Entering.{Entrant, Found, MemberWords, before_key, configuration_by, entrant_by, number_in, or_bad_key_file, or_not_member, or_usage}
 
 -- ---- the number
 
@@ -135,17 +135,31 @@ entrant-listed roster number message key entrant is found short =
     let same : record { roster = roster; number = number; message = message; key = key } ≡ entrant = cc in
     subst IsListed same (record { number = found; short = short })
 
+-- the message of the steps before the key file
+same-message : (roster : Roster) (message : List ℕ) (first : Roster × List ℕ)
+    → (let told : Roster × List ℕ → Result (Roster × List ℕ) Status = λ x. Ok x in told (roster, message) ≡ told first) → message ≡ first.1
+same-message roster message first is =
+    let same : ◌≡◌ {A = Roster × List ℕ} (roster, message) first = cc in
+    ap (λ (x : Roster × List ℕ). x.1) same
+
+first-short : (words : MemberWords) (found : Found) (first : Roster × List ℕ) → before_key words found ≡ Ok first
+    → length first.1 ≤ MESSAGE_LIMIT
+first-short words found first is =
+    let file = bind_ok (within ROSTER_LIMIT found.roster_file) _ first is in
+    let roster = bind_ok (or_bad_roster (roster_read file.0)) _ first file.2 in
+    let usage = bind_ok (or_usage roster.0 words.addresses) _ first roster.2 in
+    let message = bind_ok (within MESSAGE_LIMIT found.message_file) _ first usage.2 in
+    subst (λ (m : List ℕ). length m ≤ MESSAGE_LIMIT) (same-message roster.0 message.0 first message.2)
+    (short-message found.message_file message.0 message.1)
+
 pub is-listed : (words : MemberWords) (found : Found) (entrant : Entrant) → entrant_by words found ≡ Ok entrant → IsListed entrant
 is-listed words found entrant is =
-    let file = bind_ok (within ROSTER_LIMIT found.roster_file) _ entrant is in
-    let roster = bind_ok (or_bad_roster (roster_read file.0)) _ entrant file.2 in
-    let usage = bind_ok (or_usage roster.0 words.addresses) _ entrant roster.2 in
-    let message = bind_ok (within MESSAGE_LIMIT found.message_file) _ entrant usage.2 in
-    let key = bind_ok (or_bad_key_file found.key_file) _ entrant message.2 in
-    let number = bind_ok (or_not_member (number_in roster.0 (key_bytes (own_public (parts_in key.0))))) _ entrant key.2 in
-    entrant-listed roster.0 number.0 message.0 key.0 entrant number.2
-    (found-number (number_in roster.0 (key_bytes (own_public (parts_in key.0)))) number.0 number.1)
-    (short-message found.message_file message.0 message.1)
+    let first = bind_ok (before_key words found) _ entrant is in
+    let key = bind_ok (or_bad_key_file found.key_file) _ entrant first.2 in
+    let number = bind_ok (or_not_member (number_in first.0.0 (key_bytes (own_public (parts_in key.0))))) _ entrant key.2 in
+    entrant-listed first.0.0 number.0 first.0.1 key.0 entrant number.2
+    (found-number (number_in first.0.0 (key_bytes (own_public (parts_in key.0)))) number.0 number.1)
+    (first-short words found first.0 first.1)
 
 -- it enters the round with the roster's key
 pub has-key : (round : ℕ) (fresh file : List ℕ) (entrant : Entrant) → IsListed entrant → key_read file ≡ Ok entrant.key

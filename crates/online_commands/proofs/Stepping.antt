@@ -1,20 +1,22 @@
 -- What is answered before the member takes part: nothing was taken and nothing posted.
 use Rattle.std.proofs.Common.{◌≡◌, ◌≢◌, ◌⊎◌, inl, inr, refl, sym, ap, ◌∙◌, subst, ℕ, ◌≤◌, List, Option, Some, None, Result, Ok, Err, arith}
-use Rattle.std.specs.Prelude.{IsSomeAnd}
+use Rattle.std.specs.Prelude.{IsOk, IsSomeAnd}
+use Rattle.wire_core.proofs.AnswerLemmas.{bind_ok}
 use Rattle.outside.specs.Changes.{Change, Failed}
 use Rattle.outside.specs.Faults.{Rose}
 use Rattle.crash_disk.specs.Names.{StaysBeside}
 use Rattle.lms_tree.specs.States.{RunState}
+use Rattle.group_roster.specs.Roster.{Roster}
 use Rattle.key_store.specs.Store.{KeyState}
 use Rattle.key_store.specs.declared.layout.KeyContent.{KeyContent}
 use Rattle.round_link.specs.Traffic.{Shown}
 use Rattle.round_spec.specs.Say.{Configuration}
 use Rattle.offline_commands.specs.declared.status.Status.{Status}
-use Rattle.offline_commands.specs.declared.status.Status.TheVariants.{DiskFault, LinkFault, OutOfMemory}
+use Rattle.offline_commands.specs.declared.status.Status.TheVariants.{DiskFault, LinkFault, OutOfMemory, ReadFault}
 use Rattle.offline_commands.specs.Outside.{DiskTold, Held, OthersStay}
 use Rattle.member_entry.specs.declared.entering.Entrant.{Entrant as EntrantRead}
-use Rattle.member_entry.specs.Entering.{Entrant, Found, MemberWords, configuration_by, entrance_by, entrant_by, key_file_told, or_not_begun}
-use Rattle.member_entry.specs.Steps.{Begins, Enters, IsChosenNow, IsOpen, IsReadFault, KeepsHeld, KeepsKeyFile}
+use Rattle.member_entry.specs.Entering.{Entrant, Found, MemberWords, before_key, configuration_by, entrance_by, entrant_by, key_file_told, or_not_begun}
+use Rattle.member_entry.specs.Steps.{Begins, Enters, IsChosenNow, IsOpen, IsReadFault, IsUntouched, KeepsHeld, KeepsKeyFile}
 use Rattle.online_commands.specs.TakingPart.{IsIdle, Outside}
 use Rattle.online_commands.specs.Promise.{BreaksOff, ComesOf, IsMemberAnswered, IsSilent, WasFound}
 use Rattle.online_commands.proofs.Raised.{names-beside}
@@ -56,17 +58,26 @@ pub entrance-ok : (words : MemberWords) (fresh : List ℕ) (found : Found) (entr
     → entrance_by words fresh found ≡ Ok (entrant, configuration_by words.round fresh entrant)
 entrance-ok words fresh found entrant is begun = rw (is, begun)
 
+-- what a member comes with stands behind the steps before the key file
+entered-first : (words : MemberWords) (found : Found) (entrant : Entrant) → entrant_by words found ≡ Ok entrant
+    → IsOk (before_key words found)
+entered-first words found entrant is =
+    let first = bind_ok (before_key words found) _ entrant is in
+    subst (λ (r : Result (Roster × List ℕ) Status). IsOk r) (sym first.1) tt
+
 -- ---- answers
 
-pub broken : (outside : Outside) (words : MemberWords) (r : Result (Entrant × Configuration) Status) (answer : Result (List ℕ) Status)
-    → IsSilent outside → BreaksOff outside answer → ComesOf outside words r answer
-broken outside words (Err status) answer silent breaks = (silent, inr breaks)
-broken outside words (Ok entrance) answer silent breaks = inl (silent, breaks)
+pub broken : (outside : Outside) (words : MemberWords) (first : Result (Roster × List ℕ) Status)
+    (r : Result (Entrant × Configuration) Status) (answer : Result (List ℕ) Status)
+    → IsSilent outside → BreaksOff outside words.key first answer → ComesOf outside words first r answer
+broken outside words first (Err status) answer silent breaks = (silent, inr breaks)
+broken outside words first (Ok entrance) answer silent breaks = inl (silent, breaks)
 
-refused : (outside : Outside) (words : MemberWords) (r : Result (Entrant × Configuration) Status) (status : Status) → IsSilent outside
-    → r ≡ Err status → KeepsKeyFile outside.disk words.key → ComesOf outside words r (Err status)
-refused outside words r status silent is keeps =
-    subst (λ (e : Result (Entrant × Configuration) Status). ComesOf outside words e (Err status)) (sym is) (silent, inl (refl, keeps))
+refused : (outside : Outside) (words : MemberWords) (first : Result (Roster × List ℕ) Status)
+    (r : Result (Entrant × Configuration) Status) (status : Status) → IsSilent outside
+    → r ≡ Err status → KeepsKeyFile outside.disk words.key → ComesOf outside words first r (Err status)
+refused outside words first r status silent is keeps =
+    subst (λ (e : Result (Entrant × Configuration) Status). ComesOf outside words first e (Err status)) (sym is) (silent, inl (refl, keeps))
 
 -- what a call found that took nothing and posted nothing, and what it left
 record IsQuiet (outside : Outside) (words : MemberWords) (found : Found) : Type 0 where
@@ -78,7 +89,7 @@ record IsQuiet (outside : Outside) (words : MemberWords) (found : Found) : Type 
   link_count : outside.link_before.faults ≤ outside.link_now.faults
 
 quiet-answers : (outside : Outside) (fresh : List ℕ) (words : MemberWords) (found : Found) (answer : Result (List ℕ) Status)
-    → IsQuiet outside words found → ComesOf outside words (entrance_by words fresh found) answer
+    → IsQuiet outside words found → ComesOf outside words (before_key words found) (entrance_by words fresh found) answer
     → IsMemberAnswered outside fresh (Some words) answer
 quiet-answers outside fresh words found answer q comes = record {
   answers = (found, q.found_so, comes);
@@ -110,16 +121,17 @@ not-entered files disk words fresh link status e =
     quiet-answers (outside_of files disk link link) fresh words e.found (Err status) quiet (comes e.found quiet.silent e.answers)
   where
     comes : (found : Found) → IsSilent (outside_of files disk link link)
-        → ((entrant_by words found ≡ Err status) × KeepsKeyFile disk words.key) ⊎ (status ≡ OutOfMemory) ⊎ IsReadFault files disk status
-        → ComesOf (outside_of files disk link link) words (entrance_by words fresh found) (Err status)
-    comes found silent (inl (is, keeps)) = refused (outside_of files disk link link) words (entrance_by words fresh found) status silent
-        (refused-entrant words fresh found status is) keeps
-    comes found silent (inr (inl memory)) = broken (outside_of files disk link link) words (entrance_by words fresh found) (Err status)
-        silent (inl (told-same status OutOfMemory memory))
-    comes found silent (inr (inr (inl (is, failed)))) = broken (outside_of files disk link link) words (entrance_by words fresh found)
-        (Err status) silent (inr (status, refl, inl (is, failed)))
-    comes found silent (inr (inr (inr (is, failed)))) = broken (outside_of files disk link link) words (entrance_by words fresh found)
-        (Err status) silent (inr (status, refl, inr (inl (is, failed))))
+        → ((entrant_by words found ≡ Err status) × KeepsKeyFile disk words.key)
+        ⊎ ((status ≡ OutOfMemory) × KeepsKeyFile disk words.key) ⊎ IsReadFault files disk (before_key words found) status
+        → ComesOf (outside_of files disk link link) words (before_key words found) (entrance_by words fresh found) (Err status)
+    comes found silent (inl (is, keeps)) = refused (outside_of files disk link link) words (before_key words found)
+        (entrance_by words fresh found) status silent (refused-entrant words fresh found status is) keeps
+    comes found silent (inr (inl (memory, keeps))) = broken (outside_of files disk link link) words (before_key words found)
+        (entrance_by words fresh found) (Err status) silent (inl (told-same status OutOfMemory memory))
+    comes found silent (inr (inr (inl (is, failed, untouched)))) = broken (outside_of files disk link link) words (before_key words found)
+        (entrance_by words fresh found) (Err status) silent (inr (inl (told-same status ReadFault is, failed, untouched)))
+    comes found silent (inr (inr (inr (is, failed, ok)))) = broken (outside_of files disk link link) words (before_key words found)
+        (entrance_by words fresh found) (Err status) silent (inr (inr (inl (told-same status DiskFault is, failed, ok))))
 
 -- the link is not there
 pub not-linked : (files : Change (Option Held)) (disk : Change DiskTold) (words : MemberWords) (fresh : List ℕ) (link now : Shown)
@@ -129,12 +141,13 @@ pub not-linked : (files : Change (Option Held)) (disk : Change DiskTold) (words 
 not-linked files disk words fresh link now e status enters idle more why =
     let quiet = quiet-entered files disk words link now (Ok e) enters idle more in
     quiet-answers (outside_of files disk link now) fresh words enters.found (Err status) quiet
-    (broken (outside_of files disk link now) words (entrance_by words fresh enters.found) (Err status) quiet.silent (breaks why))
+    (broken (outside_of files disk link now) words (before_key words enters.found) (entrance_by words fresh enters.found) (Err status)
+    quiet.silent (breaks why))
   where
     breaks : (status ≡ OutOfMemory) ⊎ ((status ≡ LinkFault) × Rose link.faults now.faults)
-        → BreaksOff (outside_of files disk link now) (Err status)
+        → BreaksOff (outside_of files disk link now) words.key (before_key words enters.found) (Err status)
     breaks (inl memory) = inl (told-same status OutOfMemory memory)
-    breaks (inr (is, rose)) = inr (status, refl, inr (inr (is, rose)))
+    breaks (inr (is, rose)) = inr (inr (inr (told-same status LinkFault is, rose, enters.answers.4)))
 
 -- ---- once the key file is open
 
@@ -189,17 +202,22 @@ not-begun files disk mid faults words fresh link now e key status h =
   where
     comes : (found : Found) (entrant : Entrant) → IsSilent (outside_of files disk link now) → entrant_by words found ≡ Ok entrant
         → KeepsKeyFile (first_part disk mid faults) words.key
-        → ((or_not_begun words.round entrant.key ≡ Err status) × (disk.now ≡ mid))
-        ⊎ (status ≡ OutOfMemory) ⊎ ((status ≡ DiskFault) × Failed (second_part disk mid faults))
-        → ComesOf (outside_of files disk link now) words (entrance_by words fresh found) (Err status)
-    comes found entrant silent is keeps (inl (refuses, same)) = refused (outside_of files disk link now) words
-        (entrance_by words fresh found) status silent (refused-round words fresh found entrant status is refuses)
-        (ap (λ (d : DiskTold). key_file_told d words.key) same ∙ keeps)
-    comes found entrant silent is keeps (inr (inl memory)) = broken (outside_of files disk link now) words
-        (entrance_by words fresh found) (Err status) silent (inl (told-same status OutOfMemory memory))
+        → ((or_not_begun words.round entrant.key ≡ Err status) × IsUntouched (second_part disk mid faults))
+        ⊎ ((status ≡ OutOfMemory) × IsUntouched (second_part disk mid faults))
+        ⊎ ((status ≡ DiskFault) × Failed (second_part disk mid faults))
+        → ComesOf (outside_of files disk link now) words (before_key words found) (entrance_by words fresh found) (Err status)
+    comes found entrant silent is keeps (inl (refuses, untouched)) = refused (outside_of files disk link now) words
+        (before_key words found) (entrance_by words fresh found) status silent (refused-round words fresh found entrant status is refuses)
+        (ap (λ (d : DiskTold). key_file_told d words.key) untouched.told ∙ keeps)
+    comes found entrant silent is keeps (inr (inl (memory, untouched))) = broken (outside_of files disk link now) words
+        (before_key words found) (entrance_by words fresh found) (Err status) silent (inl (told-same status OutOfMemory memory))
     comes found entrant silent is keeps (inr (inr (fault, failed))) = broken (outside_of files disk link now) words
-        (entrance_by words fresh found) (Err status) silent
-        (inr (status, refl, inr (inl (fault, rose-from disk.faults_before faults disk.faults_now h.enters.disk_count failed))))
+        (before_key words found) (entrance_by words fresh found) (Err status) silent
+        (inr (inr (inl (
+          told-same status DiskFault fault,
+          rose-from disk.faults_before faults disk.faults_now h.enters.disk_count failed,
+          entered-first words found entrant is,
+        ))))
 
 -- memory is wanting once it has begun
 pub no-memory : (files : Change (Option Held)) (disk : Change DiskTold) (mid : DiskTold) (faults : ℕ) (words : MemberWords) (fresh : List ℕ)
@@ -209,4 +227,5 @@ pub no-memory : (files : Change (Option Held)) (disk : Change DiskTold) (mid : D
 no-memory files disk mid faults words fresh link now e key run h =
     let quiet = quiet-asked files disk mid faults words link now e key run h in
     quiet-answers (outside_of files disk link now) fresh words h.enters.found (Err OutOfMemory) quiet
-    (broken (outside_of files disk link now) words (entrance_by words fresh h.enters.found) (Err OutOfMemory) quiet.silent (inl refl))
+    (broken (outside_of files disk link now) words (before_key words h.enters.found) (entrance_by words fresh h.enters.found)
+    (Err OutOfMemory) quiet.silent (inl refl))

@@ -29,7 +29,7 @@ use Rattle.offline_commands.specs.declared.status.Status.{Status}
 use Rattle.offline_commands.specs.declared.status.Status.TheVariants.{LinkFault, OutOfMemory}
 use Rattle.offline_commands.specs.Outside.{DiskTold, Held, OthersStay}
 use Rattle.member_entry.specs.declared.entering.Entrant.{Entrant as EntrantRead}
-use Rattle.member_entry.specs.Entering.{Entrant, MemberWords, ROUND_LEAVES, configuration_by, entrance_by}
+use Rattle.member_entry.specs.Entering.{Entrant, MemberWords, ROUND_LEAVES, before_key, configuration_by, entrance_by}
 use Rattle.member_entry.specs.Steps.{IsEntrant}
 use Rattle.online_commands.specs.TakingPart.{Converses, Ends, HoldsTranscript, IsIdle, IsListOfAll, Settles, TellsEnd, TookPart, WaitsOnlyIf, told_of}
 use Rattle.online_commands.specs.Promise.{ComesOf, IsMemberAnswered}
@@ -246,7 +246,8 @@ takes-part {A} replies_of files mid_files files_faults disk mid faults words fre
       answers = (
         h.enters.found,
         record { roster = h.enters.roster; message = h.enters.message; key = h.enters.key },
-        subst (λ (x : Result (Entrant × Configuration) Status). ComesOf (outside_of files disk before now) words x answer)
+        subst (λ (x : Result (Entrant × Configuration) Status).
+            ComesOf (outside_of files disk before now) words (before_key words h.enters.found) x answer)
             (sym (entrance-ok words fresh h.enters.found entrant entered.1 begun.answers.0)) (inr took),
       );
       files_kept = subst (λ (o : Option Held). OthersStay o files.now words.transcript) h.enters.files_kept r.others;

@@ -1,8 +1,9 @@
 -- What the top call promises of a command that waits for others, and that it hands on all other words.
-use Rattle.std.specs.Prelude.{◌≡◌, ◌≢◌, ◌⊎◌, ℕ, ◌<◌, ◌≤◌, List, [], ◌∷◌, Bool, false, IsTrue, Option, Some, None, IfSome, IsSome, IsSomeAnd, Result, Ok, Err, bytes_eq, codes, length}
+use Rattle.std.specs.Prelude.{◌≡◌, ◌≢◌, ◌⊎◌, ℕ, ◌<◌, ◌≤◌, List, [], ◌∷◌, Bool, false, IsTrue, Option, Some, None, IfSome, IsSome, IsSomeAnd, Result, Ok, Err, IsOk, bytes_eq, codes, length}
 use Rattle.outside.specs.Changes.{Change, Failed}
 use Rattle.outside.specs.Faults.{Rose}
 use Rattle.crash_disk.specs.Names.{Names}
+use Rattle.group_roster.specs.Roster.{Roster}
 use Rattle.round_spec.specs.Say.{Configuration}
 use Rattle.group_report.specs.Report.{slot_lines}
 use Rattle.round_link.specs.Traffic.{Traffic}
@@ -18,8 +19,8 @@ use Rattle.offline_commands.specs.declared.status.Status.TheVariants.{Done, Disk
 use Rattle.offline_commands.specs.Delivery.{Delivers}
 use Rattle.offline_commands.specs.Outside.{Gains, Held, OthersStay, Shows}
 use Rattle.offline_commands.specs.Promise.{Asked, IsRun}
-use Rattle.member_entry.specs.Entering.{Entrant, Found, IsKeyFile, MemberWords, entrance_by, key_file_told}
-use Rattle.member_entry.specs.Steps.{KeepsKeyFile}
+use Rattle.member_entry.specs.Entering.{Entrant, Found, IsKeyFile, MemberWords, before_key, entrance_by, key_file_told}
+use Rattle.member_entry.specs.Steps.{IsUntouched, KeepsKeyFile}
 use Rattle.online_commands.specs.TakingPart.{IsIdle, Outside, TookPart}
 
 -- ---- a member
@@ -43,14 +44,13 @@ pub record WasFound (outside : Outside) (words : MemberWords) (found : Found) : 
   pub message : Shows outside.files.before words.message found.message_file
   pub key : IsKeyFile outside.disk.before words.key found.key_file
 
--- a fault that a count tells: of the files in a read, of the disk, or of the link
-abbrev pub IsFault : Outside → Status → Type 0
-IsFault outside status = ((status ≡ ReadFault) × Failed outside.files) ⊎ ((status ≡ DiskFault) × Failed outside.disk)
-    ⊎ ((status ≡ LinkFault) × Rose outside.link_before.faults outside.link_now.faults)
-
--- memory was wanting, or there was a fault
-abbrev pub BreaksOff : Outside → Result (List ℕ) Status → Type 0
-BreaksOff outside answer = (answer ≡ Err OutOfMemory) ⊎ ((status : Status) × (answer ≡ Err status) × IsFault outside status)
+-- Memory was wanting; or there was a fault that a count tells: of the files in a read, before the disk was touched; of the
+-- disk, where the steps before the key file came to this, and refused nothing; or of the link, and the key file is as it was.
+abbrev pub BreaksOff : Outside → Text → Result (Roster × List ℕ) Status → Result (List ℕ) Status → Type 0
+BreaksOff outside key first answer = (answer ≡ Err OutOfMemory)
+    ⊎ ((answer ≡ Err ReadFault) × Failed outside.files × IsUntouched outside.disk)
+    ⊎ ((answer ≡ Err DiskFault) × Failed outside.disk × IsOk first)
+    ⊎ ((answer ≡ Err LinkFault) × Rose outside.link_before.faults outside.link_now.faults × KeepsKeyFile outside.disk key)
 
 -- no file was touched; nothing was taken from the link, and nothing posted
 pub record IsSilent (outside : Outside) : Type 0 where
@@ -59,17 +59,19 @@ pub record IsSilent (outside : Outside) : Type 0 where
 
 -- what came of a member by what was found: where that refuses it, this status, nothing was posted, and its key file is as it
 -- was; else it took part in the round; and before that it may have broken off
-abbrev pub ComesOf : Outside → MemberWords → Result (Entrant × Configuration) Status → Result (List ℕ) Status → Type 0
-ComesOf outside words (Err status) answer = IsSilent outside
-    × (((answer ≡ Err status) × KeepsKeyFile outside.disk words.key) ⊎ BreaksOff outside answer)
-ComesOf outside words (Ok entrance) answer = (IsSilent outside × BreaksOff outside answer)
+abbrev pub ComesOf : Outside → MemberWords → Result (Roster × List ℕ) Status → Result (Entrant × Configuration) Status
+    → Result (List ℕ) Status → Type 0
+ComesOf outside words first (Err status) answer = IsSilent outside
+    × (((answer ≡ Err status) × KeepsKeyFile outside.disk words.key) ⊎ BreaksOff outside words.key first answer)
+ComesOf outside words first (Ok entrance) answer = (IsSilent outside × BreaksOff outside words.key first answer)
     ⊎ TookPart words entrance.0 entrance.1 outside answer
 
 -- the same of what the words ask for
 abbrev pub MemberAnswers : Outside → List ℕ → Option MemberWords → Result (List ℕ) Status → Type 0
 MemberAnswers outside fresh None answer = IsSilent outside × ((answer ≡ Err Usage) ⊎ (answer ≡ Err OutOfMemory))
 MemberAnswers outside fresh (Some words) answer =
-    (found : Found) × WasFound outside words found × ComesOf outside words (entrance_by words fresh found) answer
+    (found : Found) × WasFound outside words found
+    × ComesOf outside words (before_key words found) (entrance_by words fresh found) answer
 
 -- under each name but that of the key file stands what stood there
 abbrev pub KeepsOtherNames : Option Names → Option Names → Option MemberWords → Type 0

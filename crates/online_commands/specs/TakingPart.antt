@@ -89,9 +89,9 @@ abbrev pub IsListOfAll : Configuration → List (List ℕ) → Outcome → Type 
 IsListOfAll c frames (DoneWith slots) = IsOneList c frames slots
 IsListOfAll c frames outcome = Unit {0}
 
--- A member entered the round and took these frames. Before that its key file was raised. Whatever the frames are, the round
--- stands as their result, and, unless memory was wanting, keeps the promise of its end: each honest message is there; or the evidence convicts somebody
--- faulty; or exactly those are named who are missed.
+-- A member entered the round, its key file being raised, and took these frames. Whatever the frames are, the round stands as
+-- their result, and, unless memory was wanting, keeps the promise of its end: each honest message is there; or the evidence
+-- convicts somebody faulty; or exactly those are named who are missed.
 pub record TookPart (words : MemberWords) (entrant : Entrant) (c : Configuration) (outside : Outside) (answer : Result (List ℕ) Status) : Type 0
   where
     pub frames : List (List ℕ)
