@@ -54,7 +54,7 @@ returns g c =
       idle = c.in_ok-begin_link.ensures.idle;
       link_count = c.in_ok-begin_link.ensures.no_fall;
     })
-    (g.D.Disk.names_show_file c.enter.new.disk) (g.D.Disk.names_show_file c.begin_round.new.disk)
+    (g.met.D.Disk.names_show_file c.enter.new.disk) (g.met.D.Disk.names_show_file c.begin_round.new.disk)
     (record {
       config_is = config-named c.in_ok-entrant.entrant c.args.fresh.now c.config_of-config.result _ _ (ap (λ (w : MemberWords). w.round) c.command.view_is) c.config_of-config.ensures;
       starts = c.in_ok-member.ensures.plain_member honest_is_plain;
