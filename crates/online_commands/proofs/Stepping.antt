@@ -63,7 +63,7 @@ entered-first : (words : MemberWords) (found : Found) (entrant : Entrant) → en
     → IsOk (before_key words found)
 entered-first words found entrant is =
     let first = bind_ok (before_key words found) _ entrant is in
-    subst (λ (r : Result (Roster × List ℕ) Status). IsOk r) (sym first.1) tt
+    subst (λ (r : Result (Roster × List ℕ) Status). IsOk r) (sym first.1) refl
 
 -- ---- answers
 
