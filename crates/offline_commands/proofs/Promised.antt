@@ -28,7 +28,7 @@ use Rattle.signed_post.specs.Admission.{IsPostFile}
 use Rattle.offline_commands.specs.Show.{file_checked, shown_line}
 use Rattle.offline_commands.proofs.TwoFiles.{outcome_by}
 use Rattle.offline_commands.proofs.Reading.{some_file}
-use Rattle.dissent_words.specs.Request.{Request as AnyRequest, for_make}
+use Rattle.dissent_words.specs.Request.{Request as AnyRequest, for_judge, for_show, for_keygen, for_roster, for_group, for_make}
 use Rattle.dissent_words.specs.Forms.{requested as any_requested}
 use Rattle.dissent_words.specs.declared.refusal.WordsRefusal.{WordsRefusal}
 use Rattle.dissent_words.specs.declared.refusal.WordsRefusal.TheVariants.{Usage as WordsUsage, Memory as WordsMemory}
@@ -411,7 +411,7 @@ answers_memory : (fresh : List ℕ) (files : Change (Option Held)) (disk : Chang
     → AnswersRequest fresh files disk request (Err OutOfMemory)
 answers_memory fresh files disk None = inr refl
 answers_memory fresh files disk (Some request) =
-    let stood = some_files files.before (inputs_of request) in (stood.0, (stood.1, inr (inl refl)))
+    let stood = some_files files.before (inputs_of request) in (stood.0, stood.1, inr (inl refl))
 
 -- where nothing was touched, all files stay but those of some names
 others_kept : (now before : Option Held) (names : List (List ℕ)) → now ≡ before → AllOthersStay before now names
@@ -442,7 +442,7 @@ refused_answered asked files disk WordsMemory none kept count disk_kept disk_cou
     memory_answered asked files disk kept count disk_kept disk_count
 
 -- what is asked of the commands that wait for nobody
-pub asked_for : (asked : Asked) (request : AnyRequest) → any_requested asked.words ≡ Some request
+asked_for : (asked : Asked) (request : AnyRequest) → any_requested asked.words ≡ Some request
     → request_in asked ≡ offline_request request
 asked_for asked request e = ap (option_and_then offline_request) e
 
@@ -461,7 +461,7 @@ make_unasked asked number members size name e none =
     asked_for asked (for_make number members size name) e ∙ ap (option_map (λ given. Make number members size given)) (sym none)
 
 pub judge_answered : (asked : Asked) (files : Change (Option Held)) (disk : Change DiskTold) (roster transcript : List ℕ)
-    (answer : Result (List ℕ) Status) → request_in asked ≡ Some (Judge roster transcript)
+    (answer : Result (List ℕ) Status) → any_requested asked.words ≡ Some (for_judge roster transcript)
     → ((roster_file transcript_file : Option (List ℕ)) × Shows files.before roster roster_file
     × Shows files.before transcript transcript_file
     × Yields (Failed files) (judge_outcome (within ROSTER_LIMIT roster_file) (within TRANSCRIPT_LIMIT transcript_file)) answer)
@@ -469,7 +469,7 @@ pub judge_answered : (asked : Asked) (files : Change (Option Held)) (disk : Chan
     → files.faults_before ≤ files.faults_now → disk.now ≡ disk.before → disk.faults_now ≡ disk.faults_before
     → IsAnswered asked files disk answer
 judge_answered asked files disk roster transcript answer e (file, second, shows, shows', y) bears kept count disk_kept disk_count =
-    over_files asked files disk (Some (Judge roster transcript)) answer e (
+    over_files asked files disk (Some (Judge roster transcript)) answer (asked_for asked (for_judge roster transcript) e) (
       file ∷ second ∷ [],
       (shows, (shows', tt)),
       widened ReadFault (Failed files)
@@ -478,14 +478,14 @@ judge_answered asked files disk roster transcript answer e (file, second, shows,
     bears kept (λ _ _ _. kept) count disk_kept disk_count
 
 pub show_answered : (asked : Asked) (files : Change (Option Held)) (disk : Change DiskTold) (roster : List ℕ) (round : ℕ) (post : List ℕ)
-    (answer : Result (List ℕ) Status) → request_in asked ≡ Some (Show roster round post)
+    (answer : Result (List ℕ) Status) → any_requested asked.words ≡ Some (for_show roster round post)
     → ((roster_file post_file : Option (List ℕ)) × Shows files.before roster roster_file × Shows files.before post post_file
     × Yields (Failed files) (show_outcome round (within ROSTER_LIMIT roster_file) (within POST_FILE_LIMIT post_file)) answer)
     → OnOutput (FilesShow files.before roster round post) answer → files.now ≡ files.before
     → files.faults_before ≤ files.faults_now → disk.now ≡ disk.before → disk.faults_now ≡ disk.faults_before
     → IsAnswered asked files disk answer
 show_answered asked files disk roster round post answer e (file, second, shows, shows', y) bears kept count disk_kept disk_count =
-    over_files asked files disk (Some (Show roster round post)) answer e (
+    over_files asked files disk (Some (Show roster round post)) answer (asked_for asked (for_show roster round post) e) (
       file ∷ second ∷ [],
       (shows, (shows', tt)),
       widened ReadFault (Failed files)
@@ -494,18 +494,18 @@ show_answered asked files disk roster round post answer e (file, second, shows, 
     bears kept (λ _ _ _. kept) count disk_kept disk_count
 
 pub roster_answered : (asked : Asked) (files : Change (Option Held)) (disk : Change DiskTold) (toml out : List ℕ)
-    (answer : Result (List ℕ) Status) → request_in asked ≡ Some (MakeRoster toml out) → IsRosterRun files toml out answer
+    (answer : Result (List ℕ) Status) → any_requested asked.words ≡ Some (for_roster toml out) → IsRosterRun files toml out answer
     → disk.now ≡ disk.before → disk.faults_now ≡ disk.faults_before → IsAnswered asked files disk answer
 roster_answered asked files disk toml out answer e ran disk_kept disk_count =
-    over_files asked files disk (Some (MakeRoster toml out)) answer e
+    over_files asked files disk (Some (MakeRoster toml out)) answer (asked_for asked (for_roster toml out) e)
     (ran.answers.0 ∷ [], (ran.answers.1, tt), ran.answers.2) ran.borne_out ran.others ran.untouched ran.count disk_kept disk_count
 
 pub group_answered : (asked : Asked) (files : Change (Option Held)) (disk : Change DiskTold) (script roster transcript : List ℕ)
-    (answer : Result (List ℕ) Status) → request_in asked ≡ Some (Group script roster transcript)
+    (answer : Result (List ℕ) Status) → any_requested asked.words ≡ Some (for_group script roster transcript)
     → IsScriptRun files script roster transcript answer
     → disk.now ≡ disk.before → disk.faults_now ≡ disk.faults_before → IsAnswered asked files disk answer
 group_answered asked files disk script roster transcript answer e ran disk_kept disk_count =
-    over_files asked files disk (Some (Group script roster transcript)) answer e
+    over_files asked files disk (Some (Group script roster transcript)) answer (asked_for asked (for_group script roster transcript) e)
     (ran.answers.0 ∷ [], (ran.answers.1, tt), ran.answers.2) ran.borne_out ran.others ran.untouched ran.count disk_kept disk_count
 
 -- an answer that is a definition's, but for want of memory
@@ -526,23 +526,23 @@ make_answered asked files disk number members size fault answer e answers bears 
 
 pub keygen_answered : (asked : Asked) (files : Change (Option Held)) (disk : Change DiskTold) (key : List ℕ) (height : MadeHeight)
     (width : OtsType)
-    (answer : Result (List ℕ) Status) → request_in asked ≡ Some (Keygen key height width)
+    (answer : Result (List ℕ) Status) → any_requested asked.words ≡ Some (for_keygen key height width)
     → YieldsOr DiskFault (Failed disk) (keygen_outcome asked.fresh height width) answer
     → OnOutput (IsMade height width asked.fresh key disk) answer → StoodStays disk.before.names disk.now.names
     → disk.faults_before ≤ disk.faults_now
     → files.now ≡ files.before → files.faults_now ≡ files.faults_before → IsAnswered asked files disk answer
 keygen_answered asked files disk key height width answer e y bears stood disk_count kept count =
-    let request = Some (Keygen key height width) in
+    let e' = asked_for asked (for_keygen key height width) e in
     let At : Option Request → Type 0 = λ r. AnswersRequest asked.fresh files disk r answer in
     let Borne : Option Request → Type 0 = λ r. OnOutput (BearsOutRequest asked.fresh files disk r) answer in
     let Others : Option Request → Type 0 = λ r. FilesKept files (written_names r) in
     let Kept : Option Request → Type 0 = λ r. ¬ MakesKey r → (disk.now ≡ disk.before) × (disk.faults_now ≡ disk.faults_before) in record {
-      answers = subst At (sym e) ([], tt, widened DiskFault (Failed disk) (keygen_outcome asked.fresh height width) answer y);
-      borne_out = subst Borne (sym e) bears;
-      files_kept = subst Others (sym e) kept;
+      answers = subst At (sym e') ([], tt, widened DiskFault (Failed disk) (keygen_outcome asked.fresh height width) answer y);
+      borne_out = subst Borne (sym e') bears;
+      files_kept = subst Others (sym e') kept;
       untouched = λ _ _ _. kept;
       files_count = omega (arith, count);
-      disk_kept = subst Kept (sym e) (λ other. absurd (other refl));
+      disk_kept = subst Kept (sym e') (λ other. absurd (other refl));
       disk_stood = stood;
       disk_count = disk_count;
     }
