@@ -1,11 +1,10 @@
 -- What comes of words that are not taken further.
-use Rattle.std.proofs.Common.{◌≡◌, ◌≢◌, inl, inr, refl, ℕ, ◌≤◌, List, [], take, Option, Some, None, Result, Ok, Err, arith}
+use Rattle.std.proofs.Common.{◌≡◌, inl, inr, refl, ℕ, List, [], take, Option, Some, None, Result, Err, arith}
 use Rattle.std.specs.Prelude.{IfSome}
 use Rattle.crash_disk.specs.Names.{Names}
 use Rattle.key_store.specs.declared.layout.KeyContent.{KeyContent}
 use Rattle.key_store.specs.KeyFiles.{key_read}
 use Rattle.round_link.specs.Traffic.{Shown}
-use Rattle.offline_commands.specs.declared.status.Status.{Status}
 use Rattle.offline_commands.specs.declared.status.Status.TheVariants.{OutOfMemory}
 use Rattle.offline_commands.specs.Outside.{DiskTold, Held, Shows}
 use Rattle.member_entry.specs.Entering.{Found, MemberWords, before_key, entrance_by, key_file_told}

@@ -1,5 +1,5 @@
 -- A round of honest members who are all heard comes to their messages.
-use Rattle.std.proofs.Common.{◌≡◌, ◌⊎◌, inl, inr, refl, sym, ap, ◌∙◌, subst, ℕ, ◌+◌, ◌<◌, List, [], ◌++◌, length, length-append, take, append-nil, Option, Some, None, Result, Ok, Err, arith}
+use Rattle.std.proofs.Common.{◌≡◌, ◌⊎◌, inl, inr, refl, sym, ap, ◌∙◌, subst, ℕ, ◌<◌, List, [], ◌++◌, length, length-append, take, append-nil, Option, Some, None, Result, Ok, Err, arith}
 use Rattle.std.specs.Prelude.{IfSome, IsSome, IsSomeAnd}
 use Rattle.outside.specs.Changes.{Change, Failed}
 use Rattle.outside.specs.Faults.{Rose}
@@ -15,14 +15,14 @@ use Rattle.accountability.specs.Messages.{HasEachMessage}
 use Rattle.accountability.proofs.AllDone.{all_honest}
 use Rattle.member_core.specs.Promises.{IsAllHonest}
 use Rattle.member_run.specs.declared.run_end.TheConstants.{FRAME_LIMIT}
-use Rattle.member_run.specs.Ran.{IsAllTaken, IfTold}
+use Rattle.member_run.specs.Ran.{IsAllTaken}
 use Rattle.group_report.specs.Report.{slot_lines}
 use Rattle.offline_commands.specs.declared.status.Status.{Status}
-use Rattle.offline_commands.specs.declared.status.Status.TheVariants.{Done, OutOfMemory}
-use Rattle.offline_commands.specs.Delivery.{Delivers, status_of, text_of}
+use Rattle.offline_commands.specs.declared.status.Status.TheVariants.{OutOfMemory}
+use Rattle.offline_commands.specs.Delivery.{Delivers}
 use Rattle.offline_commands.specs.Outside.{Gains, Held, Shows}
 use Rattle.member_entry.specs.Entering.{Entrant, Found, MemberWords, before_key, entrance_by, key_file_told}
-use Rattle.online_commands.specs.TakingPart.{Converses, Ends, Outside, Settles, TookPart, WaitsOnlyIf, told_of}
+use Rattle.online_commands.specs.TakingPart.{Converses, Ends, Outside, Settles, WaitsOnlyIf, told_of}
 use Rattle.online_commands.specs.Promise.{AllArrives, ComesOf, HasNoFault, IsComplete, IsMemberRun, PrintsAllMessages, WasFound, WasTold}
 use Rattle.online_commands.proofs.Lasting.{result-lasts}
 

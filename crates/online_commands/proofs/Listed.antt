@@ -1,5 +1,5 @@
 -- A member that is read from its words and files is one of its group.
-use Rattle.std.proofs.Common.{◌≡◌, refl, sym, ap, ◌∙◌, subst, ℕ, suc, ◌+◌, ◌<◌, ◌≤◌, ◌==◌, Bool, true, false, List, length, take, drop, get_or, Option, Some, None, Result, Ok, Err, arith, length-drop}
+use Rattle.std.proofs.Common.{◌≡◌, refl, sym, ap, ◌∙◌, subst, ℕ, suc, ◌<◌, ◌≤◌, ◌==◌, Bool, true, false, List, length, take, drop, get_or, Option, Some, None, Result, Ok, Err, arith, length-drop}
 use Rattle.std.specs.Prelude.{bytes_eq, nat_lt, option_and_then, option_map, slice_index, if◌then◌else◌}
 use Rattle.std.specs.List.{position, slice_get}
 use Rattle.std.specs.Result.{result_ok}
@@ -24,7 +24,6 @@ use Rattle.group_roster.specs.Binary.{roster_read}
 use Rattle.group_roster.specs.Roster.{Roster, key_of}
 use Rattle.key_store.specs.declared.layout.KeyContent.{KeyContent}
 use Rattle.key_store.specs.KeyFiles.{content_of, expected, field, has_valid, head_of, head_read, key_read, made_of_number, magic, part, parts_in, with_slots, word_at}
-use Rattle.round_spec.specs.Say.{Configuration}
 use Rattle.offline_commands.specs.declared.commands.TheConstants.{ROSTER_LIMIT}
 use Rattle.offline_commands.specs.declared.status.Status.{Status}
 use Rattle.offline_commands.specs.declared.status.Status.TheVariants.{TooLong}

@@ -1,5 +1,5 @@
 -- What stands on the disk of the key file once a round has begun.
-use Rattle.std.proofs.Common.{◌≡◌, ◌≢◌, refl, sym, ap, ◌∙◌, subst, ℕ, List, take, Option, Some, None, Result, Ok, Err}
+use Rattle.std.proofs.Common.{◌≡◌, sym, ◌∙◌, subst, ℕ, List, take, Option, Some, None, Ok}
 use Rattle.std.specs.Prelude.{IfSome, IsSome, IsSomeAnd}
 use Rattle.outside.specs.Changes.{Change}
 use Rattle.crash_disk.specs.Names.{IsOfChosen, Names, StaysBeside}

@@ -16,7 +16,7 @@ use Rattle.offline_commands.specs.declared.status.Status.TheVariants.{DiskFault,
 use Rattle.offline_commands.specs.Outside.{DiskTold, Held, OthersStay}
 use Rattle.member_entry.specs.declared.entering.Entrant.{Entrant as EntrantRead}
 use Rattle.member_entry.specs.Entering.{Entrant, Found, MemberWords, before_key, configuration_by, entrance_by, entrant_by, key_file_told, or_not_begun}
-use Rattle.member_entry.specs.Steps.{Begins, Enters, IsChosenNow, IsOpen, IsReadFault, IsUntouched, KeepsHeld, KeepsKeyFile}
+use Rattle.member_entry.specs.Steps.{Begins, Enters, IsOpen, IsReadFault, IsUntouched, KeepsHeld, KeepsKeyFile}
 use Rattle.online_commands.specs.TakingPart.{IsIdle, Outside}
 use Rattle.online_commands.specs.Promise.{BreaksOff, ComesOf, IsMemberAnswered, IsSilent, WasFound}
 use Rattle.online_commands.proofs.Raised.{names-beside}

@@ -1,10 +1,9 @@
 -- What is answered where the member takes part.
-use Rattle.std.proofs.Common.{◌≡◌, ◌≢◌, ◌⊎◌, inl, inr, refl, sym, ap, ◌∙◌, subst, ℕ, ◌≤◌, List, [], ◌++◌, length, append-nil, Option, Some, None, Result, Ok, Err, arith}
+use Rattle.std.proofs.Common.{◌≡◌, ◌≢◌, ◌⊎◌, inl, inr, refl, sym, ap, ◌∙◌, subst, ℕ, ◌≤◌, List, [], length, append-nil, Option, Some, None, Result, Ok, Err}
 use Rattle.std.specs.Prelude.{IfSome, IsSomeAnd}
 use Rattle.outside.specs.Changes.{Change}
 use Rattle.outside.specs.Faults.{Rose}
 use Rattle.crash_disk.specs.Names.{IsOfChosen}
-use Rattle.bulk_descriptor.specs.declared.slot_state.SlotState.{SlotState}
 use Rattle.group_roster.specs.Given.{roster_of}
 use Rattle.group_roster.specs.Roster.{Roster}
 use Rattle.key_store.specs.KeyFiles.{parts_in}
@@ -19,7 +18,7 @@ use Rattle.member_spec.specs.Outcomes.{slots_shown, state_of}
 use Rattle.member_spec.specs.Replies.{Replies}
 use Rattle.member_core.specs.declared.config.Config.{Config}
 use Rattle.member_core.specs.Membership.{Holdings, Membership, state_by}
-use Rattle.member_core.specs.Promises.{IsPlainMember, KeepsPromise}
+use Rattle.member_core.specs.Promises.{IsPlainMember}
 use Rattle.member_core.specs.Stands.{configuration_of}
 use Rattle.member_core.proofs.Promised.{configured, one-list, promised, state-is}
 use Rattle.member_run.specs.declared.run_end.RunEnd.{RunEnd}
@@ -29,14 +28,14 @@ use Rattle.offline_commands.specs.declared.status.Status.{Status}
 use Rattle.offline_commands.specs.declared.status.Status.TheVariants.{LinkFault, OutOfMemory}
 use Rattle.offline_commands.specs.Outside.{DiskTold, Held, OthersStay}
 use Rattle.member_entry.specs.declared.entering.Entrant.{Entrant as EntrantRead}
-use Rattle.member_entry.specs.Entering.{Entrant, MemberWords, ROUND_LEAVES, before_key, configuration_by, entrance_by}
+use Rattle.member_entry.specs.Entering.{Entrant, MemberWords, ROUND_LEAVES, before_key, configuration_by}
 use Rattle.member_entry.specs.Steps.{IsEntrant}
-use Rattle.online_commands.specs.TakingPart.{Converses, Ends, HoldsTranscript, IsIdle, IsListOfAll, Settles, TellsEnd, TookPart, WaitsOnlyIf, told_of}
+use Rattle.online_commands.specs.TakingPart.{Converses, Ends, HoldsTranscript, IsListOfAll, Settles, TellsEnd, TookPart, told_of}
 use Rattle.online_commands.specs.Promise.{ComesOf, IsMemberAnswered}
 use Rattle.online_commands.proofs.Listed.{has-key, is-listed}
 use Rattle.online_commands.proofs.Raised.{is-raised, names-beside}
 use Rattle.online_commands.proofs.Settling.{ended-settled, open-waits, waits-if}
-use Rattle.online_commands.proofs.Stepping.{HasAsked, entrance-ok, first_part, no-less, outside_of, rose-from, second_part}
+use Rattle.online_commands.proofs.Stepping.{HasAsked, entrance-ok, no-less, outside_of, rose-from}
 
 -- ---- what it entered with
 
