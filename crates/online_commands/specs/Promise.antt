@@ -1,5 +1,5 @@
 -- What the top call promises of a command that waits for others, and that it hands on all other words.
-use Rattle.std.specs.Prelude.{◌≡◌, ◌≢◌, ◌⊎◌, ℕ, ◌<◌, ◌≤◌, List, [], ◌∷◌, Bool, false, IsTrue, Option, Some, None, IfSome, IsSome, IsSomeAnd, Result, Ok, Err, IsOk, bytes_eq, codes, length}
+use Rattle.std.specs.Prelude.{◌≡◌, ◌≢◌, ◌⊎◌, ℕ, ◌<◌, ◌≤◌, List, [], ◌∷◌, Bool, false, IsTrue, Option, Some, None, IfSome, IsSome, IsSomeAnd, Result, Ok, Err, IsOk, IfErr, bytes_eq, codes, length}
 use Rattle.outside.specs.Changes.{Change, Failed}
 use Rattle.outside.specs.Faults.{Rose}
 use Rattle.crash_disk.specs.Names.{Names}
@@ -19,9 +19,9 @@ use Rattle.offline_commands.specs.declared.status.Status.TheVariants.{Done, Disk
 use Rattle.offline_commands.specs.Delivery.{Delivers}
 use Rattle.offline_commands.specs.Outside.{Gains, Held, OthersStay, Shows}
 use Rattle.offline_commands.specs.Promise.{Asked, IsRun}
-use Rattle.member_entry.specs.Entering.{Entrant, Found, IsKeyFile, MemberWords, before_key, entrance_by, key_file_told}
+use Rattle.member_entry.specs.Entering.{Entrant, Found, IsKeyFile, MemberWords, before_key, entrance_by, entrant_by, key_file_told}
 use Rattle.member_entry.specs.Steps.{IsUntouched, KeepsKeyFile}
-use Rattle.online_commands.specs.TakingPart.{IsIdle, Outside, TookPart}
+use Rattle.online_commands.specs.TakingPart.{IsIdle, IsRaised, Outside, TookPart}
 
 -- ---- a member
 
@@ -44,34 +44,45 @@ pub record WasFound (outside : Outside) (words : MemberWords) (found : Found) : 
   pub message : Shows outside.files.before words.message found.message_file
   pub key : IsKeyFile outside.disk.before words.key found.key_file
 
--- Memory was wanting; or there was a fault that a count tells: of the files in a read, before the disk was touched; of the
--- disk, where the steps before the key file came to this, and refused nothing; or of the link, and the key file is as it was.
-abbrev pub BreaksOff : Outside → Text → Result (Roster × List ℕ) Status → Result (List ℕ) Status → Type 0
-BreaksOff outside key first answer = (answer ≡ Err OutOfMemory)
+-- Memory was wanting, and the key file is as it was; or there was a fault that a count tells: of the files in a read, before
+-- the disk was touched; of the disk, where the steps before the key file refuse nothing; or of the link, where nothing is
+-- refused before it, and the key file is as it was.
+abbrev pub BreaksOff : Outside → MemberWords → Found → Result (List ℕ) Status → Type 0
+BreaksOff outside words found answer = ((answer ≡ Err OutOfMemory) × KeepsKeyFile outside.disk words.key)
     ⊎ ((answer ≡ Err ReadFault) × Failed outside.files × IsUntouched outside.disk)
-    ⊎ ((answer ≡ Err DiskFault) × Failed outside.disk × IsOk first)
-    ⊎ ((answer ≡ Err LinkFault) × Rose outside.link_before.faults outside.link_now.faults × KeepsKeyFile outside.disk key)
+    ⊎ ((answer ≡ Err DiskFault) × Failed outside.disk × IsOk (before_key words found))
+    ⊎ ((answer ≡ Err LinkFault) × Rose outside.link_before.faults outside.link_now.faults × IsOk (entrant_by words found)
+    × KeepsKeyFile outside.disk words.key)
 
--- no file was touched; nothing was taken from the link, and nothing posted
-pub record IsSilent (outside : Outside) : Type 0 where
+-- No file was touched; nothing was taken from the link, and nothing posted. Where a step before the key file refuses, the
+-- disk was left alone, and the link where a step before it does.
+pub record IsSilent (outside : Outside) (words : MemberWords) (found : Found) : Type 0 where
   pub files : outside.files.now ≡ outside.files.before
   pub link : IsIdle outside.link_before outside.link_now
+  pub disk_alone : IfErr (before_key words found) (λ _. IsUntouched outside.disk)
+  pub link_alone : IfErr (entrant_by words found) (λ _. outside.link_now ≡ outside.link_before)
+
+-- files, disk and link were left alone
+pub record IsLeftAlone (outside : Outside) : Type 0 where
+  pub files : outside.files.now ≡ outside.files.before
+  pub disk : IsUntouched outside.disk
+  pub link : outside.link_now ≡ outside.link_before
 
 -- what came of a member by what was found: where that refuses it, this status, nothing was posted, and its key file is as it
--- was; else it took part in the round; and before that it may have broken off
-abbrev pub ComesOf : Outside → MemberWords → Result (Roster × List ℕ) Status → Result (Entrant × Configuration) Status
-    → Result (List ℕ) Status → Type 0
-ComesOf outside words first (Err status) answer = IsSilent outside
-    × (((answer ≡ Err status) × KeepsKeyFile outside.disk words.key) ⊎ BreaksOff outside words.key first answer)
-ComesOf outside words first (Ok entrance) answer = (IsSilent outside × BreaksOff outside words.key first answer)
+-- was; else it took part in the round; and before that it may have broken off, or, the key file being raised, have had no
+-- memory to begin with
+abbrev pub ComesOf : Outside → MemberWords → Found → Result (Entrant × Configuration) Status → Result (List ℕ) Status → Type 0
+ComesOf outside words found (Err status) answer = IsSilent outside words found
+    × (((answer ≡ Err status) × KeepsKeyFile outside.disk words.key) ⊎ BreaksOff outside words found answer)
+ComesOf outside words found (Ok entrance) answer = (IsSilent outside words found × BreaksOff outside words found answer)
+    ⊎ (IsSilent outside words found × (answer ≡ Err OutOfMemory) × IsRaised outside.disk words.key words.round entrance.0)
     ⊎ TookPart words entrance.0 entrance.1 outside answer
 
 -- the same of what the words ask for
 abbrev pub MemberAnswers : Outside → List ℕ → Option MemberWords → Result (List ℕ) Status → Type 0
-MemberAnswers outside fresh None answer = IsSilent outside × ((answer ≡ Err Usage) ⊎ (answer ≡ Err OutOfMemory))
+MemberAnswers outside fresh None answer = IsLeftAlone outside × ((answer ≡ Err Usage) ⊎ (answer ≡ Err OutOfMemory))
 MemberAnswers outside fresh (Some words) answer =
-    (found : Found) × WasFound outside words found
-    × ComesOf outside words (before_key words found) (entrance_by words fresh found) answer
+    (found : Found) × WasFound outside words found × ComesOf outside words found (entrance_by words fresh found) answer
 
 -- under each name but that of the key file stands what stood there
 abbrev pub KeepsOtherNames : Option Names → Option Names → Option MemberWords → Type 0
