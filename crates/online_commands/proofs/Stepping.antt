@@ -6,7 +6,6 @@ use Rattle.outside.specs.Changes.{Change, Failed}
 use Rattle.outside.specs.Faults.{Rose}
 use Rattle.crash_disk.specs.Names.{IsOfChosen, StaysBeside}
 use Rattle.lms_tree.specs.States.{RunState}
-use Rattle.group_roster.specs.Roster.{Roster}
 use Rattle.key_store.specs.Store.{KeyState}
 use Rattle.key_store.specs.declared.layout.KeyContent.{KeyContent}
 use Rattle.round_link.specs.Traffic.{Shown}

@@ -3,8 +3,9 @@ use Rattle.std.specs.Prelude.{◌≡◌, ◌≢◌, ◌⊎◌, ℕ, ◌<◌, ◌
 use Rattle.outside.specs.Changes.{Change, Failed}
 use Rattle.outside.specs.Faults.{Rose}
 use Rattle.crash_disk.specs.Names.{Names}
-use Rattle.group_roster.specs.Roster.{Roster}
+use Rattle.transcript_form.specs.declared.claim.Claim.{Claim}
 use Rattle.round_spec.specs.Say.{Configuration}
+use Rattle.conviction.specs.Accepts.{Accepts}
 use Rattle.group_report.specs.Report.{slot_lines}
 use Rattle.round_link.specs.Traffic.{Traffic}
 use Rattle.round_spec.specs.Runs.{Run}
@@ -15,9 +16,9 @@ use Rattle.bulk_descriptor.specs.declared.slot_state.SlotState.{SlotState}
 use Rattle.dissent_words.specs.Forms.{requested}
 use Rattle.dissent_words.specs.Request.{Request, Text, for_member}
 use Rattle.offline_commands.specs.declared.status.Status.{Status}
-use Rattle.offline_commands.specs.declared.status.Status.TheVariants.{Done, DiskFault, LinkFault, OutOfMemory, ReadFault, Usage}
+use Rattle.offline_commands.specs.declared.status.Status.TheVariants.{BadKeyFile, Blamed, Done, DiskFault, Exhausted, LinkFault, NotMember, OldRound, OutOfMemory, ReadFault, Usage, WriteFault}
 use Rattle.offline_commands.specs.Delivery.{Delivers}
-use Rattle.offline_commands.specs.Outside.{Gains, Held, OthersStay, Shows}
+use Rattle.offline_commands.specs.Outside.{Gains, Held, HoldsNow, IsMissing, OthersStay, Shows}
 use Rattle.offline_commands.specs.Promise.{Asked, IsRun}
 use Rattle.member_entry.specs.Entering.{Entrant, Found, IsKeyFile, MemberWords, before_key, entrance_by, entrant_by, key_file_told}
 use Rattle.member_entry.specs.Steps.{IsUntouched, KeepsKeyFile}
@@ -105,12 +106,52 @@ pub record IsMemberAnswered (outside : Outside) (fresh : List ℕ) (words : Opti
     pub disk_count : outside.disk.faults_before ≤ outside.disk.faults_now
     pub link_count : outside.link_before.faults ≤ outside.link_now.faults
 
+-- ---- what a status tells
+
+-- a file that the words name is missing: the roster's or the message's
+abbrev pub LacksInput : Option Held → Option MemberWords → Type 0
+LacksInput told None = ⊥
+LacksInput told (Some words) = IsMissing told words.roster ⊎ IsMissing told words.message
+
+-- a status that ends the command before the member posts
+abbrev pub EndsBeforePosts : Status → Type 0
+EndsBeforePosts DiskFault = Unit {0}
+EndsBeforePosts (Exhausted next height) = Unit {0}
+EndsBeforePosts (OldRound kept) = Unit {0}
+EndsBeforePosts (BadKeyFile at) = Unit {0}
+EndsBeforePosts NotMember = Unit {0}
+EndsBeforePosts status = ⊥
+
+-- a member entered with the roster that was read, and the file of the transcript's name holds bytes that convict this member
+-- of this claim under that roster
+pub record IsConvicted (outside : Outside) (words : MemberWords) (accused : ℕ) (claim : Claim) : Type 0 where
+  pub found : Found
+  pub stood : WasFound outside words found
+  pub entrant : Entrant
+  pub entered : entrant_by words found ≡ Ok entrant
+  pub bytes : List ℕ
+  pub written : HoldsNow outside.files.before outside.files.now words.transcript bytes
+  pub accepts : Accepts entrant.roster bytes accused claim
+
+abbrev pub HoldsEvidence : Outside → Option MemberWords → (accused : ℕ) → Claim → Type 0
+HoldsEvidence outside None accused claim = ⊥
+HoldsEvidence outside (Some words) accused claim = IsConvicted outside words accused claim
+
 -- What a call with the words of `member` did, and with which status it ended.
 pub record IsMemberRun (outside : Outside) (sink : Change (Option (List ℕ))) (fresh : List ℕ) (words : Option MemberWords) (status : Status)
     : Type 0 where
   -- it came to an answer, and printed it
   pub ends : (answer : Result (List ℕ) Status) × IsMemberAnswered outside fresh words answer × Delivers sink answer status
   pub sink_count : sink.faults_before ≤ sink.faults_now
+  -- so a status of a fault stands only where a count of such faults rose, or where a file that is read is missing
+  pub read_fault : status ≡ ReadFault → Failed outside.files ⊎ LacksInput outside.files.before words
+  pub write_fault : status ≡ WriteFault → Failed outside.files ⊎ Failed sink
+  pub link_fault : status ≡ LinkFault → Rose outside.link_before.faults outside.link_now.faults
+  pub disk_fault : status ≡ DiskFault → Failed outside.disk
+  -- what ends it before its posts took nothing from the link, and posted nothing
+  pub no_post : EndsBeforePosts status → IsIdle outside.link_before outside.link_now
+  -- and whom it blames the file convicts
+  pub blamed : (accused : ℕ) (claim : Claim) → status ≡ Blamed accused claim → HoldsEvidence outside words accused claim
 
 -- ---- all honest
 
