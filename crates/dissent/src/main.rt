@@ -1,5 +1,5 @@
 //! Dissent: the program. It judges the transcripts that convict the disrupters of a round, shows what a post says, makes
-//! key files, and makes the file of a roster from one in TOML.
+//! key files, makes the file of a roster from one in TOML, and runs whole groups.
 #![tactic(auto)]
 
 #[cfg(test)]
@@ -7,11 +7,13 @@ mod evidence;
 #[cfg(test)]
 mod tests;
 
+use dissent_words::usage_text;
 use host_disk::{HostDisk, Lock};
-use offline_commands::{HostFiles, Sink, Status, WriterSink, is_keygen, print, run_offline};
+use offline_commands::{HostFiles, Sink, Status, WriterSink, print, run_offline};
 use rand::TryRng;
 use rand::rngs::SysRng;
 use std::alloc::{AllocError, Global};
+use std::io::Write;
 use std::process::ExitCode;
 use std::random::RandomSource;
 use std::rt::{Env, Runtime};
@@ -19,7 +21,12 @@ use std::thread::Threads;
 use std::{env, io};
 
 fn main(rt: HostRuntime) -> ExitCode {
-    ExitCode::from(run(&rt).number())
+    let status = run(&rt);
+    if status == Status::Usage {
+        // The forms are for a reader: where they can't be written the status stays.
+        let _ = rt.stderr().write_all(usage_text().as_bytes());
+    }
+    ExitCode::from(status.number())
 }
 
 // Runs the command that the program was started with.
@@ -35,7 +42,7 @@ where
 }
 
 // The same, with the status that is still to be printed where words or fresh bytes could not be had. Fresh bytes are
-// drawn only where the words ask for a key file.
+// drawn only where the first word is that of the command that makes a key file.
 fn run_given<R: Runtime<A = Global> + RandomSource + Threads + Sync, O: Sink>(
     rt: &R,
     out: &mut O,
@@ -46,7 +53,7 @@ where
     let alloc = rt.alloc();
     let words = given_words(rt)?;
     let mut fresh = [0; 32];
-    if is_keygen(&words) {
+    if words.first().is_some_and(|word| word.as_str() == "keygen") {
         draw(rt, &mut fresh)?;
     }
     let mut files = HostFiles::new(rt, alloc);

@@ -211,9 +211,9 @@ const KEYGEN: [&str; 7] = ["keygen", "--key", "k", "--height", "5", "--width", "
 // Words that are not those of a command.
 const OTHER_WORDS: [&[&str]; 15] = [
     &["judge", "--roster", "r"],
-    &["judge", "--roster", "", "--transcript", "t"],
+    &["judge", "--roster", "r", "--transcript"],
     &["judge", "--roster", "r", "--transcript", "-t"],
-    &["judge", "--transcript", "t", "--roster", "r"],
+    &["judge", "--roster", "r", "--transcript", "t", "--roster=r"],
     &["show", "--roster", "r", "--round", "0", "--post", "t"],
     &["show", "--roster", "r", "--round", "08", "--post", "t"],
     &[
@@ -225,14 +225,14 @@ const OTHER_WORDS: [&[&str]; 15] = [
         "--post",
         "t",
     ],
-    &["roster", "--toml", "", "--out", "o"],
-    &["roster", "--out", "o", "--toml", "t"],
+    &["roster", "--toml", "t", "--transcript", "o"],
+    &["roster", "--toml", "t", "--out", "o", "p"],
     &["keygen", "--key", "--height", "5", "--width", "8"],
-    &["keygen", "--key", "", "--height", "5", "--width", "8"],
+    &["keygen", "--key=k", "--height", "5", "--width", ""],
     &["keygen", "--key", "k", "--height", "6", "--width", "8"],
     &["keygen", "--key", "k", "--height", "05", "--width", "8"],
     &["keygen", "--key", "k", "--height", "5", "--width", "3"],
-    &["keygen", "--key", "k", "--width", "8", "--height", "5"],
+    &["keygen", "--key", "k", "--width", "8", "--length", "5"],
 ];
 
 // The first of these words that is not answered by `usage`.
@@ -252,8 +252,9 @@ fn first_other_usage<R: Threads + Sync>(
 
 // Missing, failing and wrong files, each with its status and its line.
 const CASES: [Case; 9] = [
+    // The options of a command stand in any order, and may be joined to their values.
     Case {
-        words: &JUDGE,
+        words: &["judge", "--transcript=t", "--roster", "r"],
         named: &[],
         failing: NOTHING_FAILS,
         number: 5,

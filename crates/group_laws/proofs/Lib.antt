@@ -9,6 +9,8 @@ pub mod Spellings
 pub mod Honest
 pub mod Forging
 pub mod Served
+pub mod Members
+pub mod Naming
 pub mod Carried
 pub mod Undisturbed
 pub mod Accountable

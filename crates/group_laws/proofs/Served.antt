@@ -29,7 +29,7 @@ use Rattle.group_laws.proofs.Worlds.{emptied, last-steady, last_seats, mapped-ma
 
 -- ---- pairs
 
-all-contained : {A : Type 0} (P : A → Type 0) (xs : List A) → ((x : A) → Contains xs x → P x) → All P xs
+pub all-contained : {A : Type 0} (P : A → Type 0) (xs : List A) → ((x : A) → Contains xs x → P x) → All P xs
 all-contained P [] each = λ k d lt. absurd (omega (arith, lt))
 all-contained P (x ∷ xs) each = All-cons P x xs (each x (contains-here x xs)) (all-contained P xs (λ y there. each y (contains-later x xs y there)))
 
@@ -64,7 +64,7 @@ map-same (x ∷ xs) = ap (λ ys. x ∷ ys) (map-same xs)
 -- ---- the runs
 
 -- the numbers of the members rise
-numbers-are : (script : Script) → IsScript script → map (λ (s : Seat). s.config.number) (last_seats script) ≡ script_members script
+pub numbers-are : (script : Script) → IsScript script → map (λ (s : Seat). s.config.number) (last_seats script) ≡ script_members script
 numbers-are script is =
     let number : Seat → ℕ = λ s. s.config.number in
     sym (mapped-mapped (λ (s : Seat). s.config.number) emptied (λ (s : Seat). s.config.number) (last_seats script) (λ s. refl))

@@ -11,6 +11,8 @@ ghost use Rattle.group_laws.specs.Forging.{
   NothingIsForged,
   RunsAreHonest,
 };
+ghost use Rattle.group_laws.specs.Members.{FaultsAreShown, MembersAreShown};
+ghost use Rattle.group_laws.specs.Naming.{BitsListMembers, OpenMembersPrintMissed};
 ghost use Rattle.group_laws.specs.Promises.{DeliveriesAreBytes, MembersKeepTheirPromise};
 
 /// Each member of every script can enter its round, with twelve leaves and one behind them, and the roster has its key under
@@ -19,11 +21,25 @@ pub fn scripts_enter()
     ensures { ScriptsEnter }
 {}
 
+/// Those that are shown of the group of every script are its members, each once and by number, and just those are shown as
+/// faulty to whom the script gives a fault.
+pub fn members_are_shown()
+    ensures members { MembersAreShown }
+    ensures faults { FaultsAreShown }
+{}
+
 /// What is shown of each honest member of the group of every script is the result of what was delivered to it, and keeps the
 /// promise of its round: it names those that are missed, or holds the messages, or has evidence that convicts.
 pub fn members_keep_their_promise()
     ensures promise { MembersKeepTheirPromise }
     ensures bytes { DeliveriesAreBytes }
+{}
+
+/// While the round of an honest member is open, the words that are printed of it name exactly those that are missed: of
+/// ascending members from 1 to 8 their bits list just these.
+pub fn open_members_print_who_is_missed()
+    ensures bits { BitsListMembers }
+    ensures missed { OpenMembersPrintMissed }
 {}
 
 /// In the group of a script no signature is forged: the runs of its honest members are honest, and what is delivered in
@@ -48,7 +64,8 @@ pub fn undisturbed_groups_are_done()
     ensures { UndisturbedGroupsAreDone }
 {}
 
-/// All of this of one group: its honest members keep their promise; where no two strings of their runs have one hash, those
+/// All of this of one group: its members are shown, each once and with its fault; the honest ones keep their promise, and name
+/// those that are missed while they are open; where no two strings of their runs have one hash, those
 /// that are done have every honest message, and one list, and whom they blame is faulty; and without faults and losses all
 /// are done.
 pub fn groups_are_accountable()

@@ -171,7 +171,8 @@ fn serve_all(alloc: Global, players: &mut Vec<Player>, entry: &Entry, repeat: u8
         × ArePlayed players.new.items (map (seat_behind carriage onway) seats) posts_of) }
 {
     let mut posted = Vec::new(alloc);
-    for place in 0..players.len() {
+    let count = players.len();
+    for place in 0..count {
         players[place].serve(alloc, entry, repeat, &mut posted)?;
     }
     Ok(posted)

@@ -13,7 +13,7 @@ use Rattle.offline_commands.specs.declared.status.Status.{Status}
 use Rattle.offline_commands.specs.declared.status.Status.TheVariants.{BadKeyFile, DiskFault, OutOfMemory}
 use Rattle.offline_commands.specs.Outside.{DiskTold}
 use Rattle.member_entry.specs.Entering.{file_told, key_file_told}
-use Rattle.member_entry.specs.Steps.{IsChosenNow, IsOpen, KeepsHeld, Opens}
+use Rattle.member_entry.specs.Steps.{IsChosenNow, IsOpen, KeepsHeld, KeepsKeyFile, KeepsStanding, Opens}
 
 -- some reading of a key file that may not be known
 pub some_read : (told : Option (List ℕ)) → (read : Result KeyContent ℕ) × IfSome told (λ bytes. key_read (take 128 bytes) ≡ read)
@@ -57,15 +57,28 @@ found (Some before) (Some middle) (Some now) file0 file1 file2 name chooses same
           ∙ ap (λ (h : List ℕ → Option (List ℕ)). h other) (chooses.kept refl);
     }
 
-pub keeps_of : {before now : Option Names} {file file_now : Option (List ℕ)} {name : List ℕ} → IsFound before now file file_now name
-    → KeepsHeld before now name
-keeps_of f = f.keeps
+-- bytes that were known, and stay
+pub same_stands : (before now : Option (List ℕ)) → now ≡ before → IfSome before (λ bytes. now ≡ Some bytes)
+same_stands None now same = tt
+same_stands (Some bytes) now same = same
+
+where_known : (before now : Option (List ℕ)) → (IsSome before → now ≡ before) → IfSome before (λ bytes. now ≡ Some bytes)
+where_known None now stays = tt
+where_known (Some bytes) now stays = stays refl
 
 -- a name was not chosen
 pub refused_keeps : (before now : Option Names) (name : List ℕ) → Chooses before now name false Failed → KeepsHeld before now name
 refused_keeps None now name refused = tt
 refused_keeps (Some before) None name refused = absurd refused
 refused_keeps (Some before) (Some now) name refused = refused.others
+
+pub refused_stands : (before now : Option Names) (file file_now : Option (List ℕ)) (name : List ℕ) → Chooses before now name false Failed
+    → file_now ≡ file → IfSome (file_told before file name) (λ bytes. file_told now file_now name ≡ Some bytes)
+refused_stands None None file file_now name refused same = same_stands file file_now same
+refused_stands None (Some now) file file_now name refused same = cc
+refused_stands (Some before) None file file_now name refused same = absurd refused
+refused_stands (Some before) (Some now) file file_now name refused same =
+    where_known (before.held name) (now.held name) (refused.stood name)
 
 -- ---- what was loaded
 
@@ -113,13 +126,29 @@ refused_by_fault e told before now is refused = subst (λ r. LoadRefused r told 
 pub rose_over : (before middle now : ℕ) → before ≤ middle → Rose middle now → Rose before now
 rose_over before middle now le rose = omega arith
 
--- memory was wanting, or the disk failed
-pub unopened : (disk : Change DiskTold) (name : List ℕ) (status : Status)
-    → (status ≡ OutOfMemory) ⊎ ((status ≡ DiskFault) × Rose disk.faults_before disk.faults_now)
-    → KeepsHeld disk.before.names disk.now.names name → disk.faults_before ≤ disk.faults_now → Opens disk name (Err status)
-unopened disk name status why keeps count =
+-- the name was not chosen, since the disk failed
+pub not_chosen : (disk : Change DiskTold) (name : List ℕ) → Rose disk.faults_before disk.faults_now → KeepsStanding disk name
+    → KeepsHeld disk.before.names disk.now.names name → disk.faults_before ≤ disk.faults_now → Opens disk name (Err DiskFault)
+not_chosen disk name rose stands keeps count =
     let r = some_read (key_file_told disk.before name) in
-    record { read = r.0; told = r.1; answers = inr why; names = keeps; count = count }
+    record { read = r.0; told = r.1; answers = inr (inr (refl, rose)); stands = stands; names = keeps; count = count }
+
+-- memory was wanting, or the disk failed, once it was chosen
+pub unopened : (disk : Change DiskTold) (name : List ℕ) (status : Status)
+    → IsFound disk.before.names disk.now.names disk.before.file disk.now.file name
+    → (status ≡ OutOfMemory) ⊎ ((status ≡ DiskFault) × Rose disk.faults_before disk.faults_now)
+    → disk.faults_before ≤ disk.faults_now → Opens disk name (Err status)
+unopened disk name status f why count =
+    let r = some_read (key_file_told disk.before name) in
+    let keeps : KeepsKeyFile disk name = f.is ∙ sym f.was in
+    record {
+      read = r.0;
+      told = r.1;
+      answers = inr (elim why [ inl memory ↦ inl (memory, keeps) | inr fault ↦ inr fault ]);
+      stands = same_stands (key_file_told disk.before name) (key_file_told disk.now name) keeps;
+      names = f.keeps;
+      count = count;
+    }
 
 -- the bytes are no key file
 pub bad_key_file : (disk : Change DiskTold) (name : List ℕ) (file : Option (List ℕ)) (at : ℕ)
@@ -130,6 +159,7 @@ bad_key_file disk name file at f same refused count = record {
   read = Err at;
   told = subst (λ (o : Option (List ℕ)). IfSome o (λ bytes. key_read (take 128 bytes) ≡ Err at)) (same ∙ sym f.was) refused;
   answers = inl (refl, f.is ∙ sym f.was);
+  stands = same_stands (key_file_told disk.before name) (key_file_told disk.now name) (f.is ∙ sym f.was);
   names = f.keeps;
   count = count;
 }
@@ -142,6 +172,7 @@ opened_key disk name file key f same r count = record {
   read = Ok r.content;
   told = subst (λ (o : Option (List ℕ)). IfSome o (λ bytes. key_read (take 128 bytes) ≡ Ok r.content)) (same ∙ sym f.was) r.told;
   answers = (r.content, refl, r.is_open, f.chosen, f.is ∙ sym f.was);
+  stands = same_stands (key_file_told disk.before name) (key_file_told disk.now name) (f.is ∙ sym f.was);
   names = f.keeps;
   count = count;
 }

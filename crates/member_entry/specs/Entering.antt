@@ -59,18 +59,6 @@ abbrev pub or_not_member : Option ℕ → Result ℕ Status
 or_not_member (Some number) = Ok number
 or_not_member None = Err NotMember
 
--- The roster is read and decoded, the addresses are counted, the message is read, and then the key file; the roster has
--- its key.
-abbrev pub entrant_of : List Text → (roster_file message_file : Result (List ℕ) Status) → Result KeyContent ℕ → Result Entrant Status
-entrant_of addresses roster_file message_file key_file = do
-  roster_bytes ← roster_file
-  roster ← or_bad_roster (roster_read roster_bytes)
-  _ ← or_usage roster addresses
-  message ← message_file
-  key ← or_bad_key_file key_file
-  number ← or_not_member (number_in roster (key_bytes (own_public (parts_in key))))
-  Ok (record { roster = roster; number = number; message = message; key = key })
-
 -- ---- the round begins
 
 -- how many leaves a round takes
@@ -108,10 +96,24 @@ pub record Found : Type 0 where
   pub message_file : Option (List ℕ)
   pub key_file : Result KeyContent ℕ
 
--- what a member comes with, by its words and by what stood there
+-- what the steps before the key file come to: the roster is read and decoded, the addresses are counted, and the message is
+-- read
+abbrev pub before_key : MemberWords → Found → Result (Roster × List ℕ) Status
+before_key words found = do
+  roster_bytes ← within ROSTER_LIMIT found.roster_file
+  roster ← or_bad_roster (roster_read roster_bytes)
+  _ ← or_usage roster words.addresses
+  message ← within MESSAGE_LIMIT found.message_file
+  Ok (roster, message)
+
+-- what a member comes with, by its words and by what stood there: behind these steps the key file is read, and the roster
+-- has its key
 abbrev pub entrant_by : MemberWords → Found → Result Entrant Status
-entrant_by words found = entrant_of words.addresses (within ROSTER_LIMIT found.roster_file) (within MESSAGE_LIMIT found.message_file)
-    found.key_file
+entrant_by words found = do
+  first ← before_key words found
+  key ← or_bad_key_file found.key_file
+  number ← or_not_member (number_in first.0 (key_bytes (own_public (parts_in key))))
+  Ok (record { roster = first.0; number = number; message = first.1; key = key })
 
 -- with what it enters the round
 abbrev pub entrance_by : MemberWords → List ℕ → Found → Result (Entrant × Configuration) Status

@@ -112,6 +112,7 @@ pub fn begin_round<D: Disk>(
     requires { IsCurrent key.old (D.file disk.old) (D.may_leave disk.old) }
     ensures begun { (content : KeyContent) → IsOpen key.old content →
         Begins (change_of D.faults (telling D.file D.names) disk.old disk.new) round content key.new result }
+    ensures current { IsCurrent key.new (D.file disk.new) (D.may_leave disk.new) }
     ensures beside { StaysBeside (D.names disk.old) (D.names disk.new) }
 {
     match key.begin_round(alloc, disk, round, ROUND_LEAVES) {

@@ -3,6 +3,6 @@ pub mod Printing
 pub mod TwoFiles
 pub mod Promised
 pub mod Written
-pub mod Requests
 pub mod Showing
 pub mod Adapters
+pub mod Convicting

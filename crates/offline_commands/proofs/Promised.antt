@@ -1,12 +1,11 @@
 -- What the promises of each status follow from: an answer that was come to, and its printing.
 use Rattle.std.proofs.Common.{◌≡◌, ◌≢◌, ◌⊎◌, [], ◌∷◌, inl, inr, refl, sym, ◌∙◌, ap, subst, ℕ, List, length, Option, Some, None, Result, Ok, Err, IsSomeAnd, IsSome, Bool, true, false, nat_lt, if◌then◌else◌}
-use Rattle.std.specs.Prelude.{map, Any, IfSome, IfOk, option_map}
+use Rattle.std.specs.Prelude.{map, Any, IfSome, IfOk, option_map, option_and_then}
 use Rattle.wire_core.specs.Answers.{◌>>=◌}
 use Rattle.outside.specs.Changes.{Change, Failed}
-use Rattle.offline_commands.specs.declared.words.Command.TheVariants.{Judge, Show, Keygen, Roster as MakeRoster, Group, Make}
 use Rattle.crash_disk.specs.Names.{Names, StoodStays}
-use Rattle.offline_commands.specs.Outside.{DiskTold, Held, Shows, IsMissing, Gains}
-use Rattle.offline_commands.specs.Command.{Request, written_names, requested}
+use Rattle.offline_commands.specs.Outside.{DiskTold, Held, Shows, IsMissing, AllOthersStay, Gains}
+use Rattle.offline_commands.specs.Command.{Request, Judge, Show, Keygen, Roster as MakeRoster, Group, Make, written_names, requested, offline_request, fault_given}
 use Rattle.offline_commands.specs.Outcome.{Input, inputs_of, reads_of, Yields, YieldsOr, YieldsBy, Tells, TellsNone, MayTell, Stood, known_files, Misses, within, or_bad_roster, or_refused, judge_outcome, show_outcome, keygen_outcome, outcome_of, roster_outcome, group_outcome, make_outcome, or_bad_script, TellsFiles, accepted_line, id_line}
 use Rattle.group_roster.specs.Toml.{toml_read}
 use Rattle.offline_commands.specs.Delivery.{Delivers, status_of, text_of}
@@ -28,11 +27,16 @@ use Rattle.judge_core.specs.Checks.{printed_judgement_of}
 use Rattle.signed_post.specs.Admission.{IsPostFile}
 use Rattle.offline_commands.specs.Show.{file_checked, shown_line}
 use Rattle.offline_commands.proofs.TwoFiles.{outcome_by}
+use Rattle.offline_commands.proofs.Reading.{some_file}
+use Rattle.dissent_words.specs.Request.{Request as AnyRequest, for_judge, for_show, for_keygen, for_roster, for_group, for_make}
+use Rattle.dissent_words.specs.Forms.{requested as any_requested}
+use Rattle.dissent_words.specs.declared.refusal.WordsRefusal.{WordsRefusal}
+use Rattle.dissent_words.specs.declared.refusal.WordsRefusal.TheVariants.{Usage as WordsUsage, Memory as WordsMemory}
 use Rattle.group_roster.specs.declared.refusal.RosterRefusal.{RosterRefusal}
 use Rattle.group_roster.specs.declared.refusal.RosterRefusal.TheVariants.{Bad, Memory as RosterMemory}
 use Rattle.transcript_form.specs.declared.refusal.Refused.{Refused as JudgeRefusal}
 use Rattle.transcript_form.specs.declared.refusal.Refused.TheVariants.{Check, Memory as JudgeMemory}
-use Rattle.offline_commands.specs.Refusals.{roster_status, judge_status}
+use Rattle.offline_commands.specs.Refusals.{roster_status, judge_status, words_status}
 use Rattle.conviction.specs.Accepts.{Accepts}
 use Rattle.conviction.specs.Framing.{HasNoHonestRun, NoRunsSaid}
 
@@ -154,7 +158,8 @@ whole fault (Ok output) answer sink status y (gained, gains, inr (inr memory)) =
 yields_known : (fresh : List ℕ) (files : Change (Option Held)) (disk : Change DiskTold) (request : Option Request)
     (answer expected : Result (List ℕ) Status) → AnswersRequest fresh files disk request answer
     → expected_of fresh files.before request ≡ Some expected → YieldsBy (FaultOf files disk request) expected answer
-yields_known fresh files disk None answer expected a e = let same : Err Usage ≡ expected = cc in inl (a ∙ same)
+yields_known fresh files disk None answer expected (inl a) e = let same : Err Usage ≡ expected = cc in inl (a ∙ same)
+yields_known fresh files disk None answer expected (inr a) e = inr (inl a)
 yields_known fresh files disk (Some request) answer expected (contents, stood, y) e =
     by_known (known_files (inputs_of request) files.before) refl e
   where
@@ -250,8 +255,10 @@ answer_cases : (fresh : List ℕ) (files : Change (Option Held)) (disk : Change 
     → (Failed files × (written_names request ≢ []) → P WriteFault) → (Failed disk → P DiskFault) → ((limit : ℕ) → P (TooLong limit))
     → ((at rule : ℕ) → P (BadRoster at rule)) → ((line : ℕ) → P (BadScript line)) → ((check post at : ℕ) → P (Refused check post at))
     → AnswersRequest fresh files disk request (Err status) → P status
-answer_cases fresh files disk None status P usage memory read write disk_fails long bad script_bad refused h =
+answer_cases fresh files disk None status P usage memory read write disk_fails long bad script_bad refused (inl h) =
     let e : Usage ≡ status = cc in subst P e (usage refl)
+answer_cases fresh files disk None status P usage memory read write disk_fails long bad script_bad refused (inr h) =
+    let e : OutOfMemory ≡ status = cc in subst P e memory
 answer_cases fresh files disk (Some request) status P usage memory read write disk_fails long bad script_bad refused (contents, stood, inl e) =
     outcome_refused fresh files.before request contents status P (λ missing. read (inr missing)) long bad script_bad refused stood (sym e)
 answer_cases fresh files disk (Some request) status P usage memory read write disk_fails long bad script_bad refused (contents, stood, inr (inl e)) =
@@ -390,10 +397,71 @@ pub usage_answered : (asked : Asked) (files : Change (Option Held)) (disk : Chan
     → files.now ≡ files.before → files.faults_now ≡ files.faults_before → disk.now ≡ disk.before → disk.faults_now ≡ disk.faults_before
     → IsAnswered asked files disk (Err Usage)
 usage_answered asked files disk e kept count disk_kept disk_count =
-    over_files asked files disk None (Err Usage) e refl (λ f. absurd cc) kept (λ _ _ _. kept) (omega (arith, count)) disk_kept disk_count
+    over_files asked files disk None (Err Usage) e (inl refl) (λ f. absurd cc) kept (λ _ _ _. kept) (omega (arith, count)) disk_kept disk_count
+
+-- some files that may have stood at the names of inputs
+some_files : (told : Option Held) (inputs : List Input) → (contents : List (Option (List ℕ))) × Stood told inputs contents
+some_files told [] = ([], tt)
+some_files told (input ∷ inputs) =
+    let file = some_file told input.name in
+    let files = some_files told inputs in (file.0 ∷ files.0, (file.1, files.1))
+
+-- memory may be wanting whatever is asked
+answers_memory : (fresh : List ℕ) (files : Change (Option Held)) (disk : Change DiskTold) (request : Option Request)
+    → AnswersRequest fresh files disk request (Err OutOfMemory)
+answers_memory fresh files disk None = inr refl
+answers_memory fresh files disk (Some request) =
+    let stood = some_files files.before (inputs_of request) in (stood.0, stood.1, inr (inl refl))
+
+-- where nothing was touched, all files stay but those of some names
+others_kept : (now before : Option Held) (names : List (List ℕ)) → now ≡ before → AllOthersStay before now names
+others_kept None None names e = tt
+others_kept (Some now) (Some before) names e = λ other apart. let same : now ≡ before = cc in rw same refl
+others_kept None (Some before) names e = cc
+others_kept (Some now) None names e = tt
+
+all_kept : (files : Change (Option Held)) (names : List (List ℕ)) → files.now ≡ files.before → FilesKept files names
+all_kept files [] e = e
+all_kept files (name ∷ names) e = others_kept files.now files.before (name ∷ names) e
+
+pub memory_answered : (asked : Asked) (files : Change (Option Held)) (disk : Change DiskTold)
+    → files.now ≡ files.before → files.faults_now ≡ files.faults_before → disk.now ≡ disk.before → disk.faults_now ≡ disk.faults_before
+    → IsAnswered asked files disk (Err OutOfMemory)
+memory_answered asked files disk kept count disk_kept disk_count =
+    over_files asked files disk (request_in asked) (Err OutOfMemory) refl (answers_memory asked.fresh files disk (request_in asked))
+    (λ f. absurd cc) (all_kept files (written_names (request_in asked)) kept) (λ _ _ _. kept) (omega (arith, count)) disk_kept disk_count
+
+-- words that are refused
+pub refused_answered : (asked : Asked) (files : Change (Option Held)) (disk : Change DiskTold) (refusal : WordsRefusal)
+    → (refusal ≡ WordsUsage → any_requested asked.words ≡ None)
+    → files.now ≡ files.before → files.faults_now ≡ files.faults_before → disk.now ≡ disk.before → disk.faults_now ≡ disk.faults_before
+    → IsAnswered asked files disk (Err (words_status refusal))
+refused_answered asked files disk WordsUsage none kept count disk_kept disk_count =
+    usage_answered asked files disk (ap (option_and_then offline_request) (none refl)) kept count disk_kept disk_count
+refused_answered asked files disk WordsMemory none kept count disk_kept disk_count =
+    memory_answered asked files disk kept count disk_kept disk_count
+
+-- what is asked of the commands that wait for nobody
+asked_for : (asked : Asked) (request : AnyRequest) → any_requested asked.words ≡ Some request
+    → request_in asked ≡ offline_request request
+asked_for asked request e = ap (option_and_then offline_request) e
+
+-- what the words of `make` ask for by a name that a fault has, where a script is made with their numbers
+pub make_asked : (asked : Asked) (number members size : ℕ) (name : List ℕ) (fault : Fault)
+    → any_requested asked.words ≡ Some (for_make number members size name) → Some fault ≡ fault_given members size name
+    → request_in asked ≡ Some (Make number members size fault)
+make_asked asked number members size name fault e found =
+    asked_for asked (for_make number members size name) e ∙ ap (option_map (λ given. Make number members size given)) (sym found)
+
+-- and else
+pub make_unasked : (asked : Asked) (number members size : ℕ) (name : List ℕ)
+    → any_requested asked.words ≡ Some (for_make number members size name) → None ≡ fault_given members size name
+    → request_in asked ≡ None
+make_unasked asked number members size name e none =
+    asked_for asked (for_make number members size name) e ∙ ap (option_map (λ given. Make number members size given)) (sym none)
 
 pub judge_answered : (asked : Asked) (files : Change (Option Held)) (disk : Change DiskTold) (roster transcript : List ℕ)
-    (answer : Result (List ℕ) Status) → request_in asked ≡ Some (Judge roster transcript)
+    (answer : Result (List ℕ) Status) → any_requested asked.words ≡ Some (for_judge roster transcript)
     → ((roster_file transcript_file : Option (List ℕ)) × Shows files.before roster roster_file
     × Shows files.before transcript transcript_file
     × Yields (Failed files) (judge_outcome (within ROSTER_LIMIT roster_file) (within TRANSCRIPT_LIMIT transcript_file)) answer)
@@ -401,7 +469,7 @@ pub judge_answered : (asked : Asked) (files : Change (Option Held)) (disk : Chan
     → files.faults_before ≤ files.faults_now → disk.now ≡ disk.before → disk.faults_now ≡ disk.faults_before
     → IsAnswered asked files disk answer
 judge_answered asked files disk roster transcript answer e (file, second, shows, shows', y) bears kept count disk_kept disk_count =
-    over_files asked files disk (Some (Judge roster transcript)) answer e (
+    over_files asked files disk (Some (Judge roster transcript)) answer (asked_for asked (for_judge roster transcript) e) (
       file ∷ second ∷ [],
       (shows, (shows', tt)),
       widened ReadFault (Failed files)
@@ -410,14 +478,14 @@ judge_answered asked files disk roster transcript answer e (file, second, shows,
     bears kept (λ _ _ _. kept) count disk_kept disk_count
 
 pub show_answered : (asked : Asked) (files : Change (Option Held)) (disk : Change DiskTold) (roster : List ℕ) (round : ℕ) (post : List ℕ)
-    (answer : Result (List ℕ) Status) → request_in asked ≡ Some (Show roster round post)
+    (answer : Result (List ℕ) Status) → any_requested asked.words ≡ Some (for_show roster round post)
     → ((roster_file post_file : Option (List ℕ)) × Shows files.before roster roster_file × Shows files.before post post_file
     × Yields (Failed files) (show_outcome round (within ROSTER_LIMIT roster_file) (within POST_FILE_LIMIT post_file)) answer)
     → OnOutput (FilesShow files.before roster round post) answer → files.now ≡ files.before
     → files.faults_before ≤ files.faults_now → disk.now ≡ disk.before → disk.faults_now ≡ disk.faults_before
     → IsAnswered asked files disk answer
 show_answered asked files disk roster round post answer e (file, second, shows, shows', y) bears kept count disk_kept disk_count =
-    over_files asked files disk (Some (Show roster round post)) answer e (
+    over_files asked files disk (Some (Show roster round post)) answer (asked_for asked (for_show roster round post) e) (
       file ∷ second ∷ [],
       (shows, (shows', tt)),
       widened ReadFault (Failed files)
@@ -426,18 +494,18 @@ show_answered asked files disk roster round post answer e (file, second, shows, 
     bears kept (λ _ _ _. kept) count disk_kept disk_count
 
 pub roster_answered : (asked : Asked) (files : Change (Option Held)) (disk : Change DiskTold) (toml out : List ℕ)
-    (answer : Result (List ℕ) Status) → request_in asked ≡ Some (MakeRoster toml out) → IsRosterRun files toml out answer
+    (answer : Result (List ℕ) Status) → any_requested asked.words ≡ Some (for_roster toml out) → IsRosterRun files toml out answer
     → disk.now ≡ disk.before → disk.faults_now ≡ disk.faults_before → IsAnswered asked files disk answer
 roster_answered asked files disk toml out answer e ran disk_kept disk_count =
-    over_files asked files disk (Some (MakeRoster toml out)) answer e
+    over_files asked files disk (Some (MakeRoster toml out)) answer (asked_for asked (for_roster toml out) e)
     (ran.answers.0 ∷ [], (ran.answers.1, tt), ran.answers.2) ran.borne_out ran.others ran.untouched ran.count disk_kept disk_count
 
 pub group_answered : (asked : Asked) (files : Change (Option Held)) (disk : Change DiskTold) (script roster transcript : List ℕ)
-    (answer : Result (List ℕ) Status) → request_in asked ≡ Some (Group script roster transcript)
+    (answer : Result (List ℕ) Status) → any_requested asked.words ≡ Some (for_group script roster transcript)
     → IsScriptRun files script roster transcript answer
     → disk.now ≡ disk.before → disk.faults_now ≡ disk.faults_before → IsAnswered asked files disk answer
 group_answered asked files disk script roster transcript answer e ran disk_kept disk_count =
-    over_files asked files disk (Some (Group script roster transcript)) answer e
+    over_files asked files disk (Some (Group script roster transcript)) answer (asked_for asked (for_group script roster transcript) e)
     (ran.answers.0 ∷ [], (ran.answers.1, tt), ran.answers.2) ran.borne_out ran.others ran.untouched ran.count disk_kept disk_count
 
 -- an answer that is a definition's, but for want of memory
@@ -458,23 +526,23 @@ make_answered asked files disk number members size fault answer e answers bears 
 
 pub keygen_answered : (asked : Asked) (files : Change (Option Held)) (disk : Change DiskTold) (key : List ℕ) (height : MadeHeight)
     (width : OtsType)
-    (answer : Result (List ℕ) Status) → request_in asked ≡ Some (Keygen key height width)
+    (answer : Result (List ℕ) Status) → any_requested asked.words ≡ Some (for_keygen key height width)
     → YieldsOr DiskFault (Failed disk) (keygen_outcome asked.fresh height width) answer
     → OnOutput (IsMade height width asked.fresh key disk) answer → StoodStays disk.before.names disk.now.names
     → disk.faults_before ≤ disk.faults_now
     → files.now ≡ files.before → files.faults_now ≡ files.faults_before → IsAnswered asked files disk answer
 keygen_answered asked files disk key height width answer e y bears stood disk_count kept count =
-    let request = Some (Keygen key height width) in
+    let e' = asked_for asked (for_keygen key height width) e in
     let At : Option Request → Type 0 = λ r. AnswersRequest asked.fresh files disk r answer in
     let Borne : Option Request → Type 0 = λ r. OnOutput (BearsOutRequest asked.fresh files disk r) answer in
     let Others : Option Request → Type 0 = λ r. FilesKept files (written_names r) in
     let Kept : Option Request → Type 0 = λ r. ¬ MakesKey r → (disk.now ≡ disk.before) × (disk.faults_now ≡ disk.faults_before) in record {
-      answers = subst At (sym e) ([], tt, widened DiskFault (Failed disk) (keygen_outcome asked.fresh height width) answer y);
-      borne_out = subst Borne (sym e) bears;
-      files_kept = subst Others (sym e) kept;
+      answers = subst At (sym e') ([], tt, widened DiskFault (Failed disk) (keygen_outcome asked.fresh height width) answer y);
+      borne_out = subst Borne (sym e') bears;
+      files_kept = subst Others (sym e') kept;
       untouched = λ _ _ _. kept;
       files_count = omega (arith, count);
-      disk_kept = subst Kept (sym e) (λ other. absurd (other refl));
+      disk_kept = subst Kept (sym e') (λ other. absurd (other refl));
       disk_stood = stood;
       disk_count = disk_count;
     }

@@ -24,6 +24,7 @@ use Rattle.offline_commands.specs.Promise.{IsFileRun, IsRosterRun, IsScriptRun, 
 use Rattle.offline_commands.proofs.TwoFiles.{Reads, rose_earlier}
 use Rattle.offline_commands.proofs.Reading.{some_file}
 use Rattle.offline_commands.proofs.Promised.{roster_status-not_done}
+use Rattle.offline_commands.proofs.Convicting.{transcript_convicts}
 
 -- ---- what stays
 
@@ -231,6 +232,7 @@ group_held files name roster transcript bytes bytes' text spelled found middle s
         form = form;
         accountable = is_accountable script form;
         writes = subst Found finds (subst Spelled spells (subst From same writes));
+        convicts = transcript_convicts script (is_accountable script form);
         printed = prints;
       },
     )

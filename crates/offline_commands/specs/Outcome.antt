@@ -12,8 +12,7 @@ use Rattle.lms_tree.specs.Tree.{key_bytes}
 use Rattle.lms_tree.specs.Secret.{SecretParts, own_public, parts_of_master}
 use Rattle.lms_tree.specs.States.{made_type}
 use Rattle.judge_core.specs.declared.judging.Accepted.{Accepted}
-use Rattle.offline_commands.specs.declared.words.Command.TheVariants.{Judge, Show, Keygen, Roster, Group, Make}
-use Rattle.offline_commands.specs.Command.{Request}
+use Rattle.offline_commands.specs.Command.{Request, Judge, Show, Keygen, Roster, Group, Make}
 use Rattle.wire_core.specs.Answers.{◌>>=◌}
 use Rattle.offline_commands.specs.Outside.{Held, Shows, IsMissing}
 use Rattle.group_roster.specs.Binary.{roster_read}

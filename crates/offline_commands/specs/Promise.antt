@@ -5,9 +5,8 @@ use Rattle.outside.specs.Changes.{Change, Failed}
 use Rattle.offline_commands.specs.declared.commands.TheConstants.{TOML_LIMIT, SCRIPT_LIMIT}
 use Rattle.offline_commands.specs.declared.status.Status.{Status}
 use Rattle.offline_commands.specs.declared.status.Status.TheVariants.{Done, Usage, ReadFault, WriteFault, DiskFault, OutOfMemory}
-use Rattle.offline_commands.specs.declared.words.Command.TheVariants.{Judge, Show, Keygen, Roster as MakeRoster, Group, Make}
 use Rattle.offline_commands.specs.Outside.{DiskTold, Held, Shows, HoldsNow, IsWrite, AllOthersStay, Gains}
-use Rattle.offline_commands.specs.Command.{Request, makes_key, written_names, requested}
+use Rattle.offline_commands.specs.Command.{Request, Judge, Show, Keygen, Roster as MakeRoster, Group, Make, makes_key, written_names, requested}
 use Rattle.offline_commands.specs.Outcome.{Input, within, inputs_of, roster_outcome, group_outcome, make_outcome, members_seen, outcome_of, TellsFiles, MayTell, YieldsBy, Stood, known_files, Misses, made_parts, key_line, accepted_line, id_line}
 use Rattle.group_roster.specs.Toml.{toml_read}
 use Rattle.round_script.specs.declared.fault.Fault.{Fault}
@@ -19,6 +18,7 @@ use Rattle.group_spec.specs.Scripts.{script_roster}
 use Rattle.group_report.specs.Report.{evidence_seen, group_output, make_output}
 use Rattle.group_laws.specs.Accountable.{IsAccountable}
 use Rattle.conviction.specs.Accepts.{Accepts}
+use Rattle.transcript_form.specs.declared.claim.Claim.{Claim}
 use Rattle.conviction.specs.Framing.{HasNoHonestRun, NoRunsSaid}
 use Rattle.judge_core.specs.declared.judging.Accepted.{Accepted}
 use Rattle.group_roster.specs.Roster.{Roster, IsRosterFile, roster_spelling}
@@ -47,9 +47,9 @@ MakesKey request = IsTrue (makes_key request)
 
 -- ---- answers and statuses
 
--- an answer to a request over these files and this disk
+-- An answer to a request over these files and this disk. Other words come to Usage, if there is memory to read them.
 abbrev pub AnswersRequest : List ℕ → Change (Option Held) → Change DiskTold → Option Request → Result (List ℕ) Status → Type 0
-AnswersRequest fresh files disk None answer = answer ≡ Err Usage
+AnswersRequest fresh files disk None answer = (answer ≡ Err Usage) ⊎ (answer ≡ Err OutOfMemory)
 AnswersRequest fresh files disk (Some request) answer =
     (contents : List (Option (List ℕ))) × Stood files.before (inputs_of request) contents
     × YieldsBy (MayTell request (Failed files) (Failed disk)) (outcome_of fresh request contents) answer
@@ -138,7 +138,8 @@ MakesFile height width master name told now = IfSome told (λ before. IsSomeAnd 
 
 -- an output is the line of the public key that a master gives, and the disk, as far as it tells, has the key file of this
 -- master, under a name where nothing stood
-pub record IsMade (height : MadeHeight) (width : OtsType) (master name : List ℕ) (disk : Change DiskTold) (output : List ℕ) : Type 0 where
+pub record IsMade (height : MadeHeight) (width : OtsType) (master name : List ℕ) (disk : Change DiskTold) (output : List ℕ)
+    : Type 0 where
   pub printed : output ≡ key_line (own_public (made_parts height width master))
   pub holds : IfSome disk.now.file (λ file. key_read (take 128 file) ≡ Ok (new_content height width master))
   pub named : MakesFile height width master name disk.before.names disk.now.names
@@ -164,13 +165,19 @@ WritesTranscript old new name (Some bytes) = IsWrite old new name bytes
 WritesTranscript old new name None = new ≡ old
 
 -- a roster was written under a name, and then a transcript under another, or the same, if there is one
-pub record WritesGroup (before now : Option Held) (roster transcript : List ℕ) (spelled : List ℕ) (evidence : Option (List ℕ)) : Type 0 where
+pub record WritesGroup (before now : Option Held) (roster transcript spelled : List ℕ) (evidence : Option (List ℕ))
+    : Type 0 where
   pub middle : Option Held
   pub roster_first : IsWrite before middle roster spelled
   pub transcript_then : WritesTranscript middle now transcript evidence
 
--- A file spells a script, and an output tells what its group comes to, which is accountable. The roster of the group was written under a name,
--- and then the transcript of the least honest member that blames somebody, if there is one, under another.
+-- bytes convict a member of the group of a script, under its roster
+abbrev pub ConvictsIn : Script → List ℕ → Type 0
+ConvictsIn script bytes = (accused : ℕ) × (claim : Claim) × Accepts (script_roster script) bytes accused claim
+
+-- A file spells a script, and an output tells what its group comes to, which is accountable. The roster of the group was
+-- written under a name, and then the transcript of the least honest member that blames somebody, if there is one, under
+-- another; and this transcript convicts under this roster.
 pub record IsGroupRun (files : Change (Option Held)) (script_file : Option (List ℕ)) (roster transcript output : List ℕ) : Type 0 where
   pub bytes : List ℕ
   pub script : Script
@@ -180,6 +187,7 @@ pub record IsGroupRun (files : Change (Option Held)) (script_file : Option (List
   pub accountable : IsAccountable script
   pub writes : WritesGroup files.before files.now roster transcript (roster_spelling (script_roster script))
       (evidence_seen (members_seen script))
+  pub convicts : IfSome (evidence_seen (members_seen script)) (ConvictsIn script)
   pub printed : output ≡ group_output (members_seen script)
 
 -- the file of a name spells a script whose group was run
@@ -224,7 +232,8 @@ abbrev pub FilesKept : Change (Option Held) → List (List ℕ) → Type 0
 FilesKept files [] = files.now ≡ files.before
 FilesKept files (name ∷ names) = AllOthersStay files.before files.now (name ∷ names)
 
--- no file is touched where the status says that no write was come to
+-- No file is touched where the status says that no write was come to. Out of memory doesn't say so: there is memory for all
+-- of an output before its first write, but a write may want memory of its own, and then leaves its name with any bytes.
 abbrev pub IsUntouched : Change (Option Held) → Status → Type 0
 IsUntouched files status = status ≢ Done → status ≢ WriteFault → status ≢ OutOfMemory → files.now ≡ files.before
 
@@ -270,27 +279,29 @@ pub record IsPrinted (sink : Change (Option (List ℕ))) (answer : Result (List 
   pub count : sink.faults_before ≤ sink.faults_now
 
 -- What the call did, and with which status it ended.
-pub record IsRun (asked : Asked) (files : Change (Option Held)) (disk : Change DiskTold) (sink : Change (Option (List ℕ))) (status : Status)
-    : Type 0 where
-  -- it came to an answer to what was asked, and printed it
-  pub ends : (answer : Result (List ℕ) Status) × Answers asked files disk answer × Delivers sink answer status
+pub record IsRun (asked : Asked) (files : Change (Option Held)) (disk : Change DiskTold) (sink : Change (Option (List ℕ)))
+    (status : Status) : Type 0 where
+  -- it came to an answer to what was asked, with all that is promised of it whether or not it could be printed, and printed it
+  pub ends : (answer : Result (List ℕ) Status) × IsAnswered asked files disk answer × Delivers sink answer status
   -- where it is known what the words come to, the status follows from it, but for memory and for faults that counts tell
-  pub follows : IfSome (expected_in asked files) (λ expected. IsStatusOf expected (FaultOf files disk (request_in asked)) (Failed sink)
-      status)
+  pub follows : IfSome (expected_in asked files)
+      (λ expected. IsStatusOf expected (FaultOf files disk (request_in asked)) (Failed sink) status)
   -- and with no fault the whole output is printed
   pub complete : IfSome (expected_in asked files) (IsWhole (FaultOf files disk (request_in asked)) sink status)
   -- Done comes of `judge` only where the files convict, and whoever they convict is not honest; of `show` only where the
   -- post passes the eight checks; of `keygen` only where the name, under which nothing stood, has the key file of the
-  -- fresh bytes; of `roster` only where the file of its name now holds the roster that the file in TOML stands for; and of
-  -- `group` only where the output is what the group of the script comes to, and its roster and the transcript were written
+  -- fresh bytes; of `roster` only where the file of its name now holds the roster that the file in TOML stands for; of
+  -- `group` only where the output is what the group of the script comes to, and its roster and the transcript, which
+  -- convicts under it, were written; and of `make` only where it counts what the group of the made script comes to. Both
+  -- groups are accountable.
   pub borne_out : status ≡ Done → PrintsOutput (BearsOut asked files disk) sink
   -- what each status of words and faults tells
   pub usage : status ≡ Usage → request_in asked ≡ None
   pub read_fault : status ≡ ReadFault → Failed files ⊎ IsSomeAnd (request_in asked) (Misses files.before)
   pub disk_fault : status ≡ DiskFault → Failed disk
   pub write_fault : status ≡ WriteFault → Failed sink ⊎ (Failed files × (written_names (request_in asked) ≢ []))
-  -- what stays: the files but for those that `roster` and `group` write, the disk but in `keygen`, and whatever stood on it in
-  -- `keygen` too; and no count falls
+  -- what stays: the files but for those that `roster` and `group` write, the disk but in `keygen`, and whatever stood on it
+  -- in `keygen` too; and no count falls
   pub files_kept : FilesKept files (written_names (request_in asked))
   pub untouched : IsUntouched files status
   pub disk_kept : ¬ MakesKey (request_in asked) → (disk.now ≡ disk.before) × (disk.faults_now ≡ disk.faults_before)

@@ -1,4 +1,4 @@
--- Which refusals the readers of rosters and of scripts and the judge answer. Want of memory may come at any time.
+-- Which refusals the readers of words, of rosters and of scripts and the judge answer. Want of memory may come at any time.
 use Rattle.std.specs.Prelude.{ℕ, Result}
 use Rattle.wire_core.specs.Answers.{IsFault}
 use Rattle.group_roster.specs.declared.refusal.RosterRefusal.{RosterRefusal}
@@ -11,8 +11,15 @@ use Rattle.transcript_form.specs.Refusals.{failure_of_refusal}
 use Rattle.round_script.specs.declared.refusal.ScriptRefusal.{ScriptRefusal}
 use Rattle.round_script.specs.declared.refusal.ScriptRefusal.TheVariants.{BadLine, Memory as ScriptMemory}
 use Rattle.round_script.specs.Lines.{bad_line}
+use Rattle.dissent_words.specs.declared.refusal.WordsRefusal.{WordsRefusal}
+use Rattle.dissent_words.specs.declared.refusal.WordsRefusal.TheVariants.{Usage as WordsUsage, Memory as WordsMemory}
 use Rattle.offline_commands.specs.declared.status.Status.{Status}
-use Rattle.offline_commands.specs.declared.status.Status.TheVariants.{BadRoster, BadScript, Refused as IsRefused, OutOfMemory}
+use Rattle.offline_commands.specs.declared.status.Status.TheVariants.{Usage, BadRoster, BadScript, Refused as IsRefused, OutOfMemory}
+
+-- the status that a refusal of words becomes
+abbrev pub words_status : WordsRefusal → Status
+words_status WordsUsage = Usage
+words_status WordsMemory = OutOfMemory
 
 -- the status that a refusal of a roster file becomes
 abbrev pub roster_status : RosterRefusal → Status

@@ -1,5 +1,5 @@
-//! The commands of the program, over files, a key file's disk and a sink: the words that ask for one, what each reads,
-//! prints and ends with, and the adapters over real files and the standard output.
+//! The commands of the program that wait for nobody, over files, a key file's disk and a sink: what each reads, prints
+//! and ends with, and the adapters over real files and the standard output.
 #![tactic(auto)]
 
 mod commands;
@@ -12,7 +12,6 @@ mod rounds;
 mod show;
 mod status;
 mod stored;
-mod words;
 
 pub use commands::{
     POST_FILE_LIMIT, ROSTER_LIMIT, SCRIPT_LIMIT, TOML_LIMIT, TRANSCRIPT_LIMIT, read_within,
@@ -24,4 +23,3 @@ pub use interfaces::{FileRead, FileWrite, Files, Sink, SinkAnswer};
 pub use memory::{MemoryFiles, MemorySink};
 pub use offline::run_offline;
 pub use status::Status;
-pub use words::{Command, is_keygen, read_words};

@@ -1,17 +1,17 @@
 //! The top call: the answer to the words, and its printing.
 ghost use Rattle.outside.specs.Changes.{change_of};
 ghost use Rattle.offline_commands.specs.Outside.{telling};
-ghost use Rattle.offline_commands.specs.Command.{texts};
+ghost use Rattle.dissent_words.specs.Request.{texts};
 ghost use Rattle.offline_commands.specs.Delivery.{answer_bytes};
 ghost use Rattle.offline_commands.specs.Promise.{IsAnswered, IsRun};
 
 use crate::commands::{run_judge, run_keygen, run_roster, run_show};
 use crate::delivery::print;
 use crate::interfaces::{Files, Sink};
-use crate::rounds::{run_group, run_make};
+use crate::rounds::{fault_given, run_group, run_make};
 use crate::status::Status;
-use crate::words::{Command, read_words};
 use crash_disk::Disk;
+use dissent_words::{Command, read_words};
 use std::alloc::Global;
 use std::thread::Threads;
 
@@ -51,34 +51,32 @@ fn answer_words<F: Files, D: Disk>(
         (change_of D.faults (telling D.file D.names) disk.old disk.new)
         (answer_bytes result) }
 {
-    match read_words(words) {
-        Some(Command::Judge { roster, transcript }) => run_judge(alloc, roster, transcript, files),
-        Some(
-            Command::Show {
-                roster,
-                round,
-                post,
-            },
-        ) => run_show(alloc, roster, round, post, files),
-        Some(Command::Roster { toml, out }) => run_roster(alloc, toml, out, files),
-        Some(Command::Keygen { key, height, width }) => {
-            run_keygen(alloc, key, height, width, disk, fresh)
-        }
-        Some(
-            Command::Group {
-                script,
-                roster,
-                transcript,
-            },
-        ) => run_group(alloc, script, roster, transcript, files),
-        Some(
-            Command::Make {
-                number,
-                members,
-                bytes,
-                fault,
-            },
-        ) => run_make(alloc, number, members, bytes, fault),
-        None => Err(Status::Usage),
+    let command = read_words(alloc, words)?;
+    match command {
+        Command::Judge { roster, transcript } => run_judge(alloc, &roster, &transcript, files),
+        Command::Show {
+            roster,
+            round,
+            post,
+        } => run_show(alloc, &roster, round, &post, files),
+        Command::Roster { toml, out } => run_roster(alloc, &toml, &out, files),
+        Command::Keygen { key, height, width } => run_keygen(
+            alloc, &key, height, width, disk, fresh,
+        ),
+        Command::Group {
+            script,
+            roster,
+            transcript,
+        } => run_group(alloc, &script, &roster, &transcript, files),
+        Command::Make {
+            number,
+            members,
+            bytes,
+            fault,
+        } => match fault_given(members, bytes, &fault) {
+            Some(fault) => run_make(alloc, number, members, bytes, fault),
+            None => Err(Status::Usage),
+        },
+        Command::Member { .. } | Command::Live { .. } => Err(Status::Usage),
     }
 }

@@ -1,8 +1,9 @@
 //! The commands that run a whole group, and print what its members come to.
-ghost use Rattle.std.specs.Prelude.{◌≡◌, ◌⊎◌, ◌≤◌, ◌∷◌, [], OnOk, IfErr, Err, option_map, string_bytes};
+ghost use Rattle.std.specs.Prelude.{◌≡◌, ◌⊎◌, ◌≤◌, ◌∷◌, [], OnOk, IfErr, IsSome, Err, option_map, string_bytes};
 ghost use Rattle.outside.specs.Faults.{Rose};
 ghost use Rattle.outside.specs.Changes.{change_of};
 ghost use Rattle.round_script.specs.declared.script.TheConstants.{MESSAGE_LIMIT};
+ghost use Rattle.offline_commands.specs.Command.{fault_given};
 ghost use Rattle.offline_commands.specs.Outside.{AllOthersStay};
 ghost use Rattle.offline_commands.specs.Outcome.{make_outcome};
 ghost use Rattle.offline_commands.specs.Delivery.{answer_bytes};
@@ -13,6 +14,7 @@ use crate::interfaces::Files;
 use crate::status::Status;
 use group_report::{evidence, group_text, make_text};
 use group_threads::{Fault, make_script, parse_script, run_scripted};
+use round_script::MESSAGE_LIMIT;
 use std::alloc::Global;
 
 // The command `group`. Nothing is written before there is memory for all of the answer.
@@ -77,4 +79,16 @@ pub(crate) fn run_make(
     let script = make_script(alloc, number, members, bytes, fault)?;
     let end = run_scripted(alloc, &script)?;
     Ok(make_text(alloc, end.members.items())?)
+}
+
+// The fault of a name, where a script is made for so many members, with messages of so many bytes.
+pub(crate) fn fault_given(members: u8, bytes: u32, name: &String) -> Option<Fault>
+    ensures exact { result ≡ fault_given members bytes (string_bytes name.now) }
+    ensures in_range { IsSome result → (2 ≤ members) × (members ≤ 8) × (bytes ≤ MESSAGE_LIMIT) }
+{
+    if 2 <= members && members <= 8 && bytes <= MESSAGE_LIMIT {
+        Fault::of_name(name.as_bytes())
+    } else {
+        None
+    }
 }

@@ -1,9 +1,10 @@
 //! How a command ends: its status with the number and the line that tell it.
 ghost use Rattle.std.specs.Prelude.{◌≡◌, IfOk, string_bytes};
 ghost use Rattle.offline_commands.specs.Status.{closed_line, status_number, status_line};
-ghost use Rattle.offline_commands.specs.Refusals.{roster_status, script_status, judge_status};
+ghost use Rattle.offline_commands.specs.Refusals.{roster_status, script_status, judge_status, words_status};
 ghost use Rattle.offline_commands.specs.declared.status.Status.TheVariants.{Open, OutOfMemory};
 
+use dissent_words::WordsRefusal;
 use group_report::open_text;
 use group_roster::RosterRefusal;
 use group_threads::ScriptRefusal;
@@ -167,6 +168,17 @@ impl From<Refused> for Status {
         match refusal {
             Refused::Check { check, post, at } => Status::Refused { check, post, at },
             Refused::Memory => Status::OutOfMemory,
+        }
+    }
+}
+
+impl From<WordsRefusal> for Status {
+    ghost from_gives = { λ refusal status. status ≡ words_status refusal };
+
+    fn from(refusal: WordsRefusal) -> Status {
+        match refusal {
+            WordsRefusal::Usage => Status::Usage,
+            WordsRefusal::Memory => Status::OutOfMemory,
         }
     }
 }

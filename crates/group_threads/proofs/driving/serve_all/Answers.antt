@@ -21,7 +21,7 @@ loop-place-preserved c =
       arith,
       c.loop-place-test.true,
       c.loop-place.invariant.same,
-      c.len-place-end.ensures,
+      c.len-count.ensures,
       c.args.players.now.ok.0,
     ) in
     record {
@@ -40,7 +40,7 @@ returns c = λ carriage onway seats repeat is are.
       arith,
       c.loop-place-test.false,
       c.loop-place.invariant.same,
-      c.len-place-end.ensures,
+      c.len-count.ensures,
       c.args.players.now.ok.0,
     ) in
     let all = all-turned (seat_behind carriage onway) posts_of (entries_behind carriage onway) seats c.loop-place.players.items [] c.loop-place.posted.items

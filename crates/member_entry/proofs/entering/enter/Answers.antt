@@ -6,28 +6,28 @@ use Rattle.group_roster.specs.Given.{roster_of}
 use Rattle.offline_commands.specs.declared.commands.TheConstants.{ROSTER_LIMIT}
 use Rattle.member_entry.specs.Entering.{MemberWords}
 use Rattle.member_entry.proofs.Opening.{rose_over}
-use Rattle.member_entry.proofs.Entered.{all_counted, decoded, entered, has_read, keeps_same, key_unopened, message_unread, not_counted, not_member, opens_named, read_later, roster_refused, roster_unread, shown_later, uncounted, unread_named}
+use Rattle.member_entry.proofs.Entered.{all_counted, decoded, entered, has_read, key_unopened, message_unread, not_counted, not_member, opens_named, read_later, roster_refused, roster_unread, shown_later, uncounted, unread_named}
 use Rattle.member_entry.proofs.entering.enter.Goals as goal
 
 pub returns-in_err-bytes-clause-entered : goal.returns-in_err-bytes-clause-entered
 returns-in_err-bytes-clause-entered g c =
     let p = err_from_is_err_and c.from_residual.result c.from_residual.ensures.1 in
     rw (p.1, p.2) (roster_unread _ _ _ _
-    (record { files_kept = c.in_err-bytes.ensures.kept; files_count = c.in_err-bytes.ensures.no_fall; names = keeps_same _ _; disk_count = omega arith })
-    refl (unread_named _ _ _ ROSTER_LIMIT _ _ (ap (λ (w : MemberWords). w.roster) c.command.view_is) c.in_err-bytes.ensures.answer))
+    (record { files_kept = c.in_err-bytes.ensures.kept; files_count = c.in_err-bytes.ensures.no_fall; untouched = record { told = refl; count = refl } })
+    (unread_named _ _ _ ROSTER_LIMIT _ _ (ap (λ (w : MemberWords). w.roster) c.command.view_is) c.in_err-bytes.ensures.answer))
 
 pub returns-in_err-roster-clause-entered : goal.returns-in_err-roster-clause-entered
 returns-in_err-roster-clause-entered g c =
     let p = err_from_is_err_and c.from_residual-in_err-roster.result c.from_residual-in_err-roster.ensures.1 in
     rw (p.1, p.2) (roster_refused _ _ _ c.in_ok-bytes.bytes.items c.deref.result.now c.in_err-roster.field-0.0
-    (record { files_kept = c.in_ok-bytes.ensures.kept; files_count = c.in_ok-bytes.ensures.no_fall; names = keeps_same _ _; disk_count = omega arith })
-    refl (has_read _ _ _ ROSTER_LIMIT _ (ap (λ (w : MemberWords). w.roster) c.command.view_is) c.in_ok-bytes.ensures.shown c.in_ok-bytes.ensures.bounded) c.deref.ensures.value c.in_err-roster.ensures.exact)
+    (record { files_kept = c.in_ok-bytes.ensures.kept; files_count = c.in_ok-bytes.ensures.no_fall; untouched = record { told = refl; count = refl } })
+    (has_read _ _ _ ROSTER_LIMIT _ (ap (λ (w : MemberWords). w.roster) c.command.view_is) c.in_ok-bytes.ensures.shown c.in_ok-bytes.ensures.bounded) c.deref.ensures.value c.in_err-roster.ensures.exact)
 
 pub returns-then-len-from-clause-entered : goal.returns-then-len-from-clause-entered
 returns-then-len-from-clause-entered g c =
     uncounted _ _ _ (roster_of c.in_ok-roster.roster)
-    (record { files_kept = c.in_ok-bytes.ensures.kept; files_count = c.in_ok-bytes.ensures.no_fall; names = keeps_same _ _; disk_count = omega arith })
-    refl (record { bytes = c.in_ok-bytes.bytes.items; file = (has_read _ _ _ ROSTER_LIMIT _ (ap (λ (w : MemberWords). w.roster) c.command.view_is) c.in_ok-bytes.ensures.shown c.in_ok-bytes.ensures.bounded); decoded = decoded _ _ _ c.deref.ensures.value c.in_ok-roster.ensures.exact })
+    (record { files_kept = c.in_ok-bytes.ensures.kept; files_count = c.in_ok-bytes.ensures.no_fall; untouched = record { told = refl; count = refl } })
+    (record { bytes = c.in_ok-bytes.bytes.items; file = (has_read _ _ _ ROSTER_LIMIT _ (ap (λ (w : MemberWords). w.roster) c.command.view_is) c.in_ok-bytes.ensures.shown c.in_ok-bytes.ensures.bounded); decoded = decoded _ _ _ c.deref.ensures.value c.in_ok-roster.ensures.exact })
     (not_counted _ _ _ _ (c.len.ensures ∙ c.command.inside.addresses.ok.0 ∙ sym (length-map _ _) ∙ ap (λ (w : MemberWords). length w.addresses) c.command.view_is)
     (c.from.ensures ∙ c.members.ensures) c.if-len-from.true)
 
@@ -35,8 +35,8 @@ pub returns-in_err-message-clause-entered : goal.returns-in_err-message-clause-e
 returns-in_err-message-clause-entered g c =
     let p = err_from_is_err_and c.from_residual-in_err-message.result c.from_residual-in_err-message.ensures.1 in
     rw (p.1, p.2) (message_unread _ _ _ (roster_of c.in_ok-roster.roster) _ _
-    (record { files_kept = (c.in_err-message.ensures.kept ∙ c.in_ok-bytes.ensures.kept); files_count = (omega (arith, c.in_ok-bytes.ensures.no_fall, c.in_err-message.ensures.no_fall)); names = keeps_same _ _; disk_count = omega arith })
-    refl (record { bytes = c.in_ok-bytes.bytes.items; file = (has_read _ _ _ ROSTER_LIMIT _ (ap (λ (w : MemberWords). w.roster) c.command.view_is) c.in_ok-bytes.ensures.shown c.in_ok-bytes.ensures.bounded); decoded = decoded _ _ _ c.deref.ensures.value c.in_ok-roster.ensures.exact })
+    (record { files_kept = (c.in_err-message.ensures.kept ∙ c.in_ok-bytes.ensures.kept); files_count = (omega (arith, c.in_ok-bytes.ensures.no_fall, c.in_err-message.ensures.no_fall)); untouched = record { told = refl; count = refl } })
+    (record { bytes = c.in_ok-bytes.bytes.items; file = (has_read _ _ _ ROSTER_LIMIT _ (ap (λ (w : MemberWords). w.roster) c.command.view_is) c.in_ok-bytes.ensures.shown c.in_ok-bytes.ensures.bounded); decoded = decoded _ _ _ c.deref.ensures.value c.in_ok-roster.ensures.exact })
     (all_counted _ _ _ _ (c.len.ensures ∙ c.command.inside.addresses.ok.0 ∙ sym (length-map _ _) ∙ ap (λ (w : MemberWords). length w.addresses) c.command.view_is)
     (c.from.ensures ∙ c.members.ensures) c.if-len-from.false)
     (rose_over _ _ _ c.in_ok-bytes.ensures.no_fall)

@@ -1,9 +1,10 @@
 use Rattle.std.proofs.Common.{inl, inr, refl, arith}
-use Rattle.member_entry.proofs.Opening.{bad_key_file, found, opened_key, read_of, keeps_of, refused_at, refused_by_fault, refused_keeps, rose_over, unopened}
+use Rattle.member_entry.proofs.Opening.{bad_key_file, found, not_chosen, opened_key, read_of, refused_at, refused_by_fault, refused_keeps, refused_stands, rose_over, unopened}
 use Rattle.member_entry.proofs.entering.open_key.Goals as goal
 
 pub returns-in-Failed-clause-opened : goal.returns-in-Failed-clause-opened
-returns-in-Failed-clause-opened g c = unopened _ _ _ (inr (refl, c.in-Failed.ensures.failed refl))
+returns-in-Failed-clause-opened g c = not_chosen _ _ (c.in-Failed.ensures.failed refl)
+    (refused_stands _ _ _ _ _ c.in-Failed.ensures.names (c.in-Failed.ensures.kept refl))
     (refused_keeps _ _ _ c.in-Failed.ensures.names) c.in-Failed.ensures.no_fall
 
 pub returns-in-Ok-clause-opened : goal.returns-in-Ok-clause-opened
@@ -22,21 +23,20 @@ returns-in-Err-NotKeyFile-clause-opened g c = bad_key_file _ _ _ _
     (omega (arith, c.in-Done.ensures.no_fall, c.in-Err-NotKeyFile.ensures.no_fall))
 
 pub returns-in-Err-Memory-clause-opened : goal.returns-in-Err-Memory-clause-opened
-returns-in-Err-Memory-clause-opened g c = unopened _ _ _ (inl refl)
-    (keeps_of
+returns-in-Err-Memory-clause-opened g c = unopened _ _ _
     (found _ _ _ _ _ _ _ c.in-Done.ensures.names (c.in-Done.ensures.kept refl) c.in-Err-Memory.ensures.beside c.in-Err-Memory.ensures.kept
-    (g.met.D.Disk.names_show_file c.choose.new.self) (g.met.D.Disk.names_show_file c.load.new.disk)))
-    (omega (arith, c.in-Done.ensures.no_fall, c.in-Err-Memory.ensures.no_fall))
+    (g.met.D.Disk.names_show_file c.choose.new.self) (g.met.D.Disk.names_show_file c.load.new.disk))
+    (inl refl) (omega (arith, c.in-Done.ensures.no_fall, c.in-Err-Memory.ensures.no_fall))
 
 pub returns-in-Err-DiskFault-clause-opened : goal.returns-in-Err-DiskFault-clause-opened
-returns-in-Err-DiskFault-clause-opened g c = unopened _ _ _ (inr (
-  refl,
-  rose_over (g.D.Disk.faults c.args.disk.now)
-      (g.D.Disk.faults c.choose.new.self) (g.D.Disk.faults c.load.new.disk) c.in-Done.ensures.no_fall
-      (refused_by_fault c.in-Err-DiskFault.field-0 (g.D.Disk.file c.choose.new.self) (g.D.Disk.faults c.choose.new.self)
-      (g.D.Disk.faults c.load.new.disk) c.in-Err-DiskFault.field-0-is c.in-Err-DiskFault.ensures.refused),
-))
-    (keeps_of
+returns-in-Err-DiskFault-clause-opened g c = unopened _ _ _
     (found _ _ _ _ _ _ _ c.in-Done.ensures.names (c.in-Done.ensures.kept refl) c.in-Err-DiskFault.ensures.beside c.in-Err-DiskFault.ensures.kept
-    (g.met.D.Disk.names_show_file c.choose.new.self) (g.met.D.Disk.names_show_file c.load.new.disk)))
+    (g.met.D.Disk.names_show_file c.choose.new.self) (g.met.D.Disk.names_show_file c.load.new.disk))
+    (inr (
+      refl,
+      rose_over (g.D.Disk.faults c.args.disk.now)
+          (g.D.Disk.faults c.choose.new.self) (g.D.Disk.faults c.load.new.disk) c.in-Done.ensures.no_fall
+          (refused_by_fault c.in-Err-DiskFault.field-0 (g.D.Disk.file c.choose.new.self) (g.D.Disk.faults c.choose.new.self)
+          (g.D.Disk.faults c.load.new.disk) c.in-Err-DiskFault.field-0-is c.in-Err-DiskFault.ensures.refused),
+    ))
     (omega (arith, c.in-Done.ensures.no_fall, c.in-Err-DiskFault.ensures.no_fall))

@@ -5,7 +5,7 @@ pub returns : goal.returns
 returns g c =
     let answered = c.answer_words-answer.ensures in
     let printed = c.print.ensures in record {
-      ends = (_, answered.answers, printed.delivers);
+      ends = (_, answered, printed.delivers);
       follows = follows _ _ _ _ _ _ answered printed;
       complete = complete _ _ _ _ _ _ answered printed;
       borne_out = borne_out _ _ _ _ _ _ answered printed;
