@@ -1,5 +1,5 @@
-//! Dissent: the program. It judges the transcripts that convict the disrupters of a round, shows what a post says, makes
-//! key files, makes the file of a roster from one in TOML, and runs whole groups.
+//! Dissent: the program. A member takes part in a round of its group over TCP; transcripts that convict the disrupters of
+//! a round are judged; posts are shown; key files and the files of rosters are made; and whole groups run by a script.
 #![tactic(auto)]
 
 #[cfg(test)]
@@ -9,19 +9,23 @@ mod tests;
 
 use dissent_words::usage_text;
 use host_disk::{HostDisk, Lock};
-use offline_commands::{HostFiles, Sink, Status, WriterSink, print, run_offline};
+use offline_commands::{HostFiles, Sink, Status, WriterSink, print};
+use online_commands::run;
 use rand::TryRng;
 use rand::rngs::SysRng;
 use std::alloc::{AllocError, Global};
-use std::io::Write;
+use std::io::{IsTerminal, Write};
+use std::net::{Net, TcpListener, TcpStream};
 use std::process::ExitCode;
 use std::random::RandomSource;
 use std::rt::{Env, Runtime};
+use std::sync::Wait;
 use std::thread::Threads;
 use std::{env, io};
+use tcp_link::TcpLink;
 
 fn main(rt: HostRuntime) -> ExitCode {
-    let status = run(&rt);
+    let status = run_program(&rt, rt.stderr().is_terminal());
     if status == Status::Usage {
         // The forms are for a reader: where they can't be written the status stays.
         let _ = rt.stderr().write_all(usage_text().as_bytes());
@@ -29,36 +33,64 @@ fn main(rt: HostRuntime) -> ExitCode {
     ExitCode::from(status.number())
 }
 
-// Runs the command that the program was started with.
-fn run<R: Runtime<A = Global> + RandomSource + Threads + Sync>(rt: &R) -> Status
+// Runs the command that the program was started with. Where `tells`, a member's link prints to standard error whom it
+// reached and heard.
+fn run_program<R>(rt: &R, tells: bool) -> Status
 where
+    R: Runtime<A = Global>
+        + RandomSource
+        + Threads
+        + Wait
+        + Net<Listener = TcpListener, Stream = TcpStream>
+        + Copy
+        + Send
+        + Sync
+        + 'static,
     R::File: Lock,
 {
     let mut out = WriterSink::new(io::writer(rt));
-    match run_given(rt, &mut out) {
+    match run_given(rt, tells, &mut out) {
         Ok(status) => status,
         Err(status) => print(rt.alloc(), Err(status), &mut out),
     }
 }
 
-// The same, with the status that is still to be printed where words or fresh bytes could not be had. Fresh bytes are
-// drawn only where the first word is that of the command that makes a key file.
-fn run_given<R: Runtime<A = Global> + RandomSource + Threads + Sync, O: Sink>(
-    rt: &R,
-    out: &mut O,
-) -> Result<Status, Status>
+// The same, with the status that is still to be printed where words, fresh bytes or a link could not be had.
+fn run_given<R, O: Sink>(rt: &R, tells: bool, out: &mut O) -> Result<Status, Status>
 where
+    R: Runtime<A = Global>
+        + RandomSource
+        + Threads
+        + Wait
+        + Net<Listener = TcpListener, Stream = TcpStream>
+        + Copy
+        + Send
+        + Sync
+        + 'static,
     R::File: Lock,
 {
     let alloc = rt.alloc();
     let words = given_words(rt)?;
     let mut fresh = [0; 32];
-    if words.first().is_some_and(|word| word.as_str() == "keygen") {
+    if wants_fresh_bytes(&words) {
         draw(rt, &mut fresh)?;
     }
     let mut files = HostFiles::new(rt, alloc);
     let mut disk = HostDisk::new(rt);
-    Ok(run_offline(rt, alloc, &words, &mut files, &mut disk, fresh, out))
+    let mut link = TcpLink::new(*rt, alloc, tells)?;
+    let status = run(
+        rt, alloc, &words, &mut files, &mut disk, &mut link, fresh, out,
+    );
+    link.close();
+    Ok(status)
+}
+
+// Whether fresh bytes are drawn: for a key, and for a member's secrets of its round.
+fn wants_fresh_bytes(words: &Vec<String>) -> bool {
+    match words.first() {
+        Some(word) => word.as_str() == "keygen" || word.as_str() == "member",
+        None => false,
+    }
 }
 
 // The words of the command line without the program's name. Where one is not text, there are none: no command

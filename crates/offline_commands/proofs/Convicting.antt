@@ -1,6 +1,6 @@
 -- That the transcript which is written of a script's group convicts under its roster.
 use Rattle.std.proofs.Common.{◌≡◌, refl, ℕ, Bool, true, false, List, [], ◌∷◌, Option, Some, None}
-use Rattle.std.specs.Prelude.{Contains, IfSome, find, map, option_and_then, if◌then◌else◌}
+use Rattle.std.specs.Prelude.{Contains, IfSome, map}
 use Rattle.bulk_descriptor.specs.declared.slot_state.SlotState.{SlotState}
 use Rattle.round_spec.proofs.Contained.{contains-here, contains-later}
 use Rattle.member_spec.specs.declared.state.State.{State}
@@ -10,7 +10,7 @@ use Rattle.group_spec.specs.declared.ending.MemberEnd.{MemberEnd}
 use Rattle.group_spec.specs.Driver.{MemberShown}
 use Rattle.group_spec.specs.Scripts.{script_end}
 use Rattle.group_threads.specs.Given.{end_shown}
-use Rattle.group_report.specs.Report.{evidence_seen, has_evidence}
+use Rattle.group_report.specs.Report.{evidence_seen}
 use Rattle.group_laws.specs.Accountable.{IsAccountable}
 use Rattle.group_laws.specs.Promises.{config_shown}
 use Rattle.offline_commands.specs.Outcome.{members_seen}

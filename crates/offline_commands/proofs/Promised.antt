@@ -1,15 +1,15 @@
 -- What the promises of each status follow from: an answer that was come to, and its printing.
 use Rattle.std.proofs.Common.{◌≡◌, ◌≢◌, ◌⊎◌, [], ◌∷◌, inl, inr, refl, sym, ◌∙◌, ap, subst, ℕ, List, length, Option, Some, None, Result, Ok, Err, IsSomeAnd, IsSome, Bool, true, false, nat_lt, if◌then◌else◌}
-use Rattle.std.specs.Prelude.{map, Any, IfSome, IfOk, option_map, option_and_then}
+use Rattle.std.specs.Prelude.{map, IfSome, option_map, option_and_then}
 use Rattle.wire_core.specs.Answers.{◌>>=◌}
 use Rattle.outside.specs.Changes.{Change, Failed}
 use Rattle.crash_disk.specs.Names.{Names, StoodStays}
 use Rattle.offline_commands.specs.Outside.{DiskTold, Held, Shows, IsMissing, AllOthersStay, Gains}
-use Rattle.offline_commands.specs.Command.{Request, Judge, Show, Keygen, Roster as MakeRoster, Group, Make, written_names, requested, offline_request, fault_given}
-use Rattle.offline_commands.specs.Outcome.{Input, inputs_of, reads_of, Yields, YieldsOr, YieldsBy, Tells, TellsNone, MayTell, Stood, known_files, Misses, within, or_bad_roster, or_refused, judge_outcome, show_outcome, keygen_outcome, outcome_of, roster_outcome, group_outcome, make_outcome, or_bad_script, TellsFiles, accepted_line, id_line}
+use Rattle.offline_commands.specs.Command.{Request, Judge, Show, Keygen, Roster as MakeRoster, Group, Make, written_names, offline_request}
+use Rattle.offline_commands.specs.Outcome.{Input, inputs_of, Yields, YieldsOr, YieldsBy, Tells, MayTell, Stood, known_files, Misses, within, or_bad_roster, or_refused, judge_outcome, show_outcome, keygen_outcome, outcome_of, or_bad_script, accepted_line}
 use Rattle.group_roster.specs.Toml.{toml_read}
 use Rattle.offline_commands.specs.Delivery.{Delivers, status_of, text_of}
-use Rattle.offline_commands.specs.Promise.{IsRosterRun, IsScriptRun, IsMadeRun, FilesKept, IsUntouched, Asked, request_in, MakesKey, AnswersRequest, Answers, expected_of, expected_in, FaultOf, IsStatusOf, IsWhole, FilesConvict, FilesShow, IsMade, BearsOutRequest, BearsOut, OnOutput, PrintsOutput, IsAnswered, IsPrinted}
+use Rattle.offline_commands.specs.Promise.{IsRosterRun, IsScriptRun, FilesKept, IsUntouched, Asked, request_in, MakesKey, AnswersRequest, Answers, expected_of, expected_in, FaultOf, IsStatusOf, IsWhole, FilesConvict, FilesShow, IsMade, BearsOutRequest, BearsOut, OnOutput, PrintsOutput, IsAnswered, IsPrinted}
 use Rattle.lm_ots.specs.declared.types.OtsType.{OtsType}
 use Rattle.lms_tree.specs.declared.secrets.MadeHeight.{MadeHeight}
 use Rattle.std.proofs.Common.{◌≤◌, arith, lit<}
@@ -21,14 +21,13 @@ use Rattle.transcript_form.specs.Refusals.{Failure}
 use Rattle.group_roster.specs.Roster.{Roster, IsRosterFile, roster_spelling}
 use Rattle.group_roster.specs.Binary.{roster_read}
 use Rattle.phase_message.specs.declared.content.Content.{Content}
-use Rattle.round_script.specs.declared.fault.Fault.{Fault}
 use Rattle.round_script.specs.Read.{script_read}
 use Rattle.judge_core.specs.Checks.{printed_judgement_of}
 use Rattle.signed_post.specs.Admission.{IsPostFile}
 use Rattle.offline_commands.specs.Show.{file_checked, shown_line}
 use Rattle.offline_commands.proofs.TwoFiles.{outcome_by}
 use Rattle.offline_commands.proofs.Reading.{some_file}
-use Rattle.dissent_words.specs.Request.{Request as AnyRequest, for_judge, for_show, for_keygen, for_roster, for_group, for_make}
+use Rattle.dissent_words.specs.Request.{Request as AnyRequest, for_judge, for_show, for_keygen, for_roster, for_group}
 use Rattle.dissent_words.specs.Forms.{requested as any_requested}
 use Rattle.dissent_words.specs.declared.refusal.WordsRefusal.{WordsRefusal}
 use Rattle.dissent_words.specs.declared.refusal.WordsRefusal.TheVariants.{Usage as WordsUsage, Memory as WordsMemory}
@@ -393,7 +392,7 @@ over_files asked files disk request answer e answers bears kept untouched count 
       disk_count = omega (arith, disk_count);
     }
 
-pub usage_answered : (asked : Asked) (files : Change (Option Held)) (disk : Change DiskTold) → request_in asked ≡ None
+usage_answered : (asked : Asked) (files : Change (Option Held)) (disk : Change DiskTold) → request_in asked ≡ None
     → files.now ≡ files.before → files.faults_now ≡ files.faults_before → disk.now ≡ disk.before → disk.faults_now ≡ disk.faults_before
     → IsAnswered asked files disk (Err Usage)
 usage_answered asked files disk e kept count disk_kept disk_count =
@@ -424,7 +423,7 @@ all_kept : (files : Change (Option Held)) (names : List (List ℕ)) → files.no
 all_kept files [] e = e
 all_kept files (name ∷ names) e = others_kept files.now files.before (name ∷ names) e
 
-pub memory_answered : (asked : Asked) (files : Change (Option Held)) (disk : Change DiskTold)
+memory_answered : (asked : Asked) (files : Change (Option Held)) (disk : Change DiskTold)
     → files.now ≡ files.before → files.faults_now ≡ files.faults_before → disk.now ≡ disk.before → disk.faults_now ≡ disk.faults_before
     → IsAnswered asked files disk (Err OutOfMemory)
 memory_answered asked files disk kept count disk_kept disk_count =
@@ -445,20 +444,6 @@ refused_answered asked files disk WordsMemory none kept count disk_kept disk_cou
 asked_for : (asked : Asked) (request : AnyRequest) → any_requested asked.words ≡ Some request
     → request_in asked ≡ offline_request request
 asked_for asked request e = ap (option_and_then offline_request) e
-
--- what the words of `make` ask for by a name that a fault has, where a script is made with their numbers
-pub make_asked : (asked : Asked) (number members size : ℕ) (name : List ℕ) (fault : Fault)
-    → any_requested asked.words ≡ Some (for_make number members size name) → Some fault ≡ fault_given members size name
-    → request_in asked ≡ Some (Make number members size fault)
-make_asked asked number members size name fault e found =
-    asked_for asked (for_make number members size name) e ∙ ap (option_map (λ given. Make number members size given)) (sym found)
-
--- and else
-pub make_unasked : (asked : Asked) (number members size : ℕ) (name : List ℕ)
-    → any_requested asked.words ≡ Some (for_make number members size name) → None ≡ fault_given members size name
-    → request_in asked ≡ None
-make_unasked asked number members size name e none =
-    asked_for asked (for_make number members size name) e ∙ ap (option_map (λ given. Make number members size given)) (sym none)
 
 pub judge_answered : (asked : Asked) (files : Change (Option Held)) (disk : Change DiskTold) (roster transcript : List ℕ)
     (answer : Result (List ℕ) Status) → any_requested asked.words ≡ Some (for_judge roster transcript)
@@ -507,22 +492,6 @@ pub group_answered : (asked : Asked) (files : Change (Option Held)) (disk : Chan
 group_answered asked files disk script roster transcript answer e ran disk_kept disk_count =
     over_files asked files disk (Some (Group script roster transcript)) answer (asked_for asked (for_group script roster transcript) e)
     (ran.answers.0 ∷ [], (ran.answers.1, tt), ran.answers.2) ran.borne_out ran.others ran.untouched ran.count disk_kept disk_count
-
--- an answer that is a definition's, but for want of memory
-or_memory : (expected answer : Result (List ℕ) Status) → (answer ≡ expected) ⊎ (answer ≡ Err OutOfMemory) → YieldsBy TellsNone expected answer
-or_memory expected answer (inl e) = inl e
-or_memory expected answer (inr e) = inr (inl e)
-
-pub make_answered : (asked : Asked) (files : Change (Option Held)) (disk : Change DiskTold) (number members size : ℕ) (fault : Fault)
-    (answer : Result (List ℕ) Status) → request_in asked ≡ Some (Make number members size fault)
-    → (answer ≡ make_outcome number members size fault) ⊎ (answer ≡ Err OutOfMemory)
-    → OnOutput (IsMadeRun number members size fault) answer
-    → files.now ≡ files.before → files.faults_now ≡ files.faults_before
-    → disk.now ≡ disk.before → disk.faults_now ≡ disk.faults_before → IsAnswered asked files disk answer
-make_answered asked files disk number members size fault answer e answers bears kept count disk_kept disk_count =
-    over_files asked files disk (Some (Make number members size fault)) answer e
-    ([], tt, or_memory (make_outcome number members size fault) answer answers) bears kept (λ _ _ _. kept) (omega (arith, count))
-    disk_kept disk_count
 
 pub keygen_answered : (asked : Asked) (files : Change (Option Held)) (disk : Change DiskTold) (key : List ℕ) (height : MadeHeight)
     (width : OtsType)

@@ -9,7 +9,7 @@ use Rattle.transcript_form.specs.declared.refusal.Refused.{Refused}
 use Rattle.transcript_form.specs.declared.refusal.Refused.TheVariants.{Check, Memory as JudgeMemory}
 use Rattle.group_roster.specs.declared.refusal.RosterRefusal.{RosterRefusal}
 use Rattle.group_roster.specs.declared.refusal.RosterRefusal.TheVariants.{Bad, Memory as RosterMemory}
-use Rattle.outside.specs.Faults.{Rose, counted}
+use Rattle.outside.specs.Faults.{Rose}
 use Rattle.offline_commands.specs.Outside.{Held, Shows}
 use Rattle.offline_commands.specs.Refusals.{RefusesRoster, RefusesTranscript, roster_status, judge_status}
 use Rattle.offline_commands.specs.Outcome.{Yields, within, or_bad_roster, or_refused}

@@ -1,7 +1,6 @@
 -- What a command that reads a file and then writes files comes to at each of its steps, whatever it makes of the file.
-use Rattle.std.proofs.Common.{◌≡◌, ◌≢◌, ◌≤◌, ◌⊎◌, inl, inr, refl, sym, ◌∙◌, ap, subst, ℕ, List, [], ◌∷◌, length, Option, Some, None, Result, Ok, Err, arith, IsSomeAnd}
-use Rattle.std.specs.Prelude.{OnOk, IfSome}
-use Rattle.outside.specs.Faults.{Rose, counted}
+use Rattle.std.proofs.Common.{◌≡◌, ◌≢◌, ◌≤◌, ◌⊎◌, inl, inr, refl, sym, ◌∙◌, ap, subst, ℕ, List, [], ◌∷◌, length, Option, Some, None, Result, Ok, Err, arith}
+use Rattle.outside.specs.Faults.{Rose}
 use Rattle.outside.specs.Changes.{Change, Failed}
 use Rattle.group_roster.specs.declared.refusal.RosterRefusal.{RosterRefusal}
 use Rattle.group_roster.specs.declared.refusal.RosterRefusal.TheVariants.{Bad, Memory as RosterMemory}
@@ -16,14 +15,13 @@ use Rattle.group_laws.proofs.Accountable.{is_accountable}
 use Rattle.group_spec.specs.Scripts.{script_roster}
 use Rattle.group_report.specs.Report.{evidence_seen, group_output}
 use Rattle.offline_commands.specs.declared.status.Status.{Status}
-use Rattle.offline_commands.specs.declared.status.Status.TheVariants.{Done, ReadFault, WriteFault, OutOfMemory, BadRoster, BadScript}
-use Rattle.offline_commands.specs.Outside.{Held, Shows, HoldsNow, OthersStay, IsWrite, AllOthersStay}
-use Rattle.offline_commands.specs.Outcome.{Input, Yields, YieldsBy, TellsFiles, within, roster_outcome, group_outcome, members_seen, id_line}
+use Rattle.offline_commands.specs.declared.status.Status.TheVariants.{Done, ReadFault, WriteFault, OutOfMemory}
+use Rattle.offline_commands.specs.Outside.{Held, Shows, HoldsNow, OthersStay, AllOthersStay}
+use Rattle.offline_commands.specs.Outcome.{within, roster_outcome, group_outcome, members_seen, id_line}
 use Rattle.offline_commands.specs.Refusals.{RefusesRoster, RefusesScript, roster_status, script_status}
-use Rattle.offline_commands.specs.Promise.{IsFileRun, IsRosterRun, IsScriptRun, FilesHold, FilesRun, WritesGroup, WritesTranscript, OnOutput}
+use Rattle.offline_commands.specs.Promise.{IsFileRun, FilesHold, FilesRun, WritesGroup}
 use Rattle.offline_commands.proofs.TwoFiles.{Reads, rose_earlier}
 use Rattle.offline_commands.proofs.Reading.{some_file}
-use Rattle.offline_commands.proofs.Promised.{roster_status-not_done}
 use Rattle.offline_commands.proofs.Convicting.{transcript_convicts}
 
 -- ---- what stays

@@ -1,6 +1,5 @@
 -- Files and sinks in memory.
-use Rattle.std.specs.Prelude.{◌≡◌, ◌⊎◌, ℕ, List, ◌∷◌, Option, string_bytes, vec_items, bytes_eq, option_map, find}
-use Rattle.outside.specs.Faults.{counted}
+use Rattle.std.specs.Prelude.{◌≡◌, ℕ, List, ◌∷◌, Option, string_bytes, vec_items, bytes_eq, option_map, find}
 use Rattle.outside.specs.Plans.{PlanState}
 use Rattle.offline_commands.specs.declared.stored.StoredFile.{StoredFile}
 use Rattle.offline_commands.specs.declared.memory.MemoryFiles.{MemoryFiles}

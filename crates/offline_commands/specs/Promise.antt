@@ -7,7 +7,7 @@ use Rattle.offline_commands.specs.declared.status.Status.{Status}
 use Rattle.offline_commands.specs.declared.status.Status.TheVariants.{Done, Usage, ReadFault, WriteFault, DiskFault, OutOfMemory}
 use Rattle.offline_commands.specs.Outside.{DiskTold, Held, Shows, HoldsNow, IsWrite, AllOthersStay, Gains}
 use Rattle.offline_commands.specs.Command.{Request, Judge, Show, Keygen, Roster as MakeRoster, Group, Make, makes_key, written_names, requested}
-use Rattle.offline_commands.specs.Outcome.{Input, within, inputs_of, roster_outcome, group_outcome, make_outcome, members_seen, outcome_of, TellsFiles, MayTell, YieldsBy, Stood, known_files, Misses, made_parts, key_line, accepted_line, id_line}
+use Rattle.offline_commands.specs.Outcome.{Input, within, inputs_of, roster_outcome, group_outcome, members_seen, outcome_of, TellsFiles, MayTell, YieldsBy, Stood, known_files, Misses, made_parts, key_line, accepted_line, id_line}
 use Rattle.group_roster.specs.Toml.{toml_read}
 use Rattle.round_script.specs.declared.fault.Fault.{Fault}
 use Rattle.round_script.specs.declared.script.Script.{Script}
@@ -30,7 +30,7 @@ use Rattle.lms_tree.specs.Secret.{own_public}
 use Rattle.lm_ots.specs.declared.types.OtsType.{OtsType}
 use Rattle.lms_tree.specs.declared.secrets.MadeHeight.{MadeHeight}
 use Rattle.key_store.specs.KeyFiles.{key_read, new_content}
-use Rattle.crash_disk.specs.Names.{KeepsOthers, Names, StoodStays}
+use Rattle.crash_disk.specs.Names.{Names, StoodStays}
 
 -- what the call was asked: the words, and the bytes that `keygen` makes a key of
 pub record Asked : Type 0 where

@@ -1,5 +1,5 @@
 -- What the program prints, and the numbers that it ends with.
-use Rattle.std.specs.Prelude.{ℕ, List, [], ◌∷◌, ◌++◌, codes, decimal}
+use Rattle.std.specs.Prelude.{ℕ, List, [], ◌∷◌, codes, decimal}
 use Rattle.transcript_form.specs.Claim.{claim_name}
 use Rattle.member_spec.specs.declared.state.State.TheVariants.{Waiting}
 use Rattle.group_report.specs.Report.{line_of, state_words}

@@ -1,4 +1,4 @@
-use Rattle.std.proofs.Common.{refl, sym, ◌∙◌}
+use Rattle.std.proofs.Common.{refl}
 use Rattle.std.proofs.lemmas.Result.{err_from_is_err_and}
 use Rattle.offline_commands.proofs.Promised.{refused_answered, judge_answered, show_answered, keygen_answered, roster_answered, group_answered}
 use Rattle.offline_commands.proofs.offline.answer_words.Goals as goal

@@ -1,0 +1,8 @@
+mod Listed
+mod Settling
+mod Raised
+mod Stepping
+mod Taken
+mod Answering
+mod Lasting
+mod Complete

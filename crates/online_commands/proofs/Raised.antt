@@ -1,0 +1,56 @@
+-- What stands on the disk of the key file once a round has begun.
+use Rattle.std.proofs.Common.{◌≡◌, sym, ◌∙◌, subst, ℕ, List, take, Option, Some, None, Ok}
+use Rattle.std.specs.Prelude.{IfSome, IsSome, IsSomeAnd}
+use Rattle.outside.specs.Changes.{Change}
+use Rattle.crash_disk.specs.Names.{IsOfChosen, Names, StaysBeside}
+use Rattle.key_store.specs.KeyFiles.{key_read}
+use Rattle.offline_commands.specs.Outside.{DiskTold}
+use Rattle.member_entry.specs.Entering.{Entrant, file_told, key_file_told, raised_to}
+use Rattle.member_entry.specs.Steps.{IsChosenNow, KeepsHeld}
+use Rattle.online_commands.specs.TakingPart.{IsRaised}
+
+name-same : (a b : List ℕ) → (let told : List ℕ → Option (List ℕ) = λ x. Some x in told a ≡ told b) → a ≡ b
+name-same a b e = cc
+
+-- ---- the key file
+
+-- the file under the chosen name is the disk's file
+of-chosen : (names : Names) (file : Option (List ℕ)) (name : List ℕ) → names.chosen ≡ Some name
+    → IfSome names.chosen (λ n. (names.held n ≡ file) × IsSome file) → names.held name ≡ file
+of-chosen names file name chosen of =
+    (subst (λ (o : Option (List ℕ)). IfSome o (λ n. (names.held n ≡ file) × IsSome file)) chosen of).0
+
+-- what is told of the disk's file is told of the file under the name
+told-raised : (names now_names : Option Names) (file now_file : Option (List ℕ)) (name : List ℕ) (P : List ℕ → Type 0)
+    → IsChosenNow names name → StaysBeside names now_names → IsOfChosen names file → IsOfChosen now_names now_file
+    → IfSome file (λ _. IsSomeAnd now_file P)
+    → IfSome (file_told names file name) (λ _. IsSomeAnd (file_told now_names now_file name) P)
+told-raised None now_names file now_file name P chosen beside of now_of raised =
+    subst (λ (o : Option Names). IfSome file (λ _. IsSomeAnd (file_told o now_file name) P)) (sym beside) raised
+told-raised (Some m) None file now_file name P chosen beside of now_of raised = absurd beside
+told-raised (Some m) (Some n) file now_file name P chosen beside of now_of raised =
+    let held = of-chosen m file name chosen of in
+    let now_held = of-chosen n now_file name (beside.chosen ∙ chosen) now_of in
+    subst (λ (o : Option (List ℕ)). IfSome o (λ _. IsSomeAnd (n.held name) P)) (sym held)
+    (subst (λ (o : Option (List ℕ)). IfSome file (λ _. IsSomeAnd o P)) (sym now_held) raised)
+
+pub is-raised : (disk : Change DiskTold) (mid : DiskTold) (name : List ℕ) (round : ℕ) (entrant : Entrant)
+    → key_file_told mid name ≡ key_file_told disk.before name → IsChosenNow mid.names name → StaysBeside mid.names disk.now.names
+    → IsOfChosen mid.names mid.file → IsOfChosen disk.now.names disk.now.file
+    → IfSome mid.file (λ _. IsSomeAnd disk.now.file (λ bytes. key_read (take 128 bytes) ≡ Ok (raised_to round entrant.key)))
+    → IsRaised disk name round entrant
+is-raised disk mid name round entrant keeps chosen beside of now_of raised =
+    let P : List ℕ → Type 0 = λ bytes. key_read (take 128 bytes) ≡ Ok (raised_to round entrant.key) in
+    subst (λ (o : Option (List ℕ)). IfSome o (λ _. IsSomeAnd (key_file_told disk.now name) P)) keeps
+    (told-raised mid.names disk.now.names mid.file disk.now.file name P chosen beside of now_of raised)
+
+-- ---- the other names
+
+-- they stay where the key file is changed alone
+pub names-beside : (before mid now : Option Names) (name : List ℕ) → KeepsHeld before mid name → IsChosenNow mid name
+    → StaysBeside mid now → KeepsHeld before now name
+names-beside None mid now name keeps chosen beside = tt
+names-beside (Some b) None now name keeps chosen beside = absurd keeps
+names-beside (Some b) (Some m) None name keeps chosen beside = absurd beside
+names-beside (Some b) (Some m) (Some n) name keeps chosen beside = λ other apart.
+    beside.others other (λ is. apart (name-same other name (sym is ∙ chosen))) ∙ keeps other apart

@@ -1,0 +1,2 @@
+pub mod TakingPart
+pub mod Promise
