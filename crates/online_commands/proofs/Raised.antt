@@ -56,6 +56,7 @@ key-stood disk mid name held keeps chosen of =
     stands names is of_name =
         let parts = subst (λ (o : Option (List ℕ)). IfSome o (λ n. (names.held n ≡ mid.file) × IsSome mid.file)) is of_name in
         subst (λ (o : Option (List ℕ)). IsSome o) (sym parts.0) parts.1
+
     by_names : (before now : Option Names) → KeepsHeld before now name → IsChosenNow now name → IsOfChosen now mid.file
         → file_told now mid.file name ≡ key_file_told disk.before name
         → IfSome before (λ _. IsSome (key_file_told disk.before name))
