@@ -131,7 +131,7 @@ comes-all : (outside : Outside) (sink : Change (Option (List ℕ))) (words : Mem
 comes-all outside sink words found entrant c runs answer none told all (inl (silent, inl (memory, keeps))) = inr memory
 comes-all outside sink words found entrant c runs answer none told all (inl (silent, inr (inl (fault, failed, untouched)))) =
     absurd (none.files failed)
-comes-all outside sink words found entrant c runs answer none told all (inl (silent, inr (inr (inl (fault, failed, ok))))) =
+comes-all outside sink words found entrant c runs answer none told all (inl (silent, inr (inr (inl (fault, failed, ok, stands))))) =
     absurd (none.disk failed)
 comes-all outside sink words found entrant c runs answer none told all (inl (silent, inr (inr (inr (fault, rose, entered, keeps))))) =
     absurd (none.link rose)

@@ -143,8 +143,9 @@ not-entered files disk words fresh link status e =
         (Err status) silent (inl (told-same status OutOfMemory memory, keeps))
     comes found silent (inr (inr (inl (is, failed, untouched)))) = broken (outside_of files disk link link) words found (entrance_by words fresh found)
         (Err status) silent (inr (inl (told-same status ReadFault is, failed, untouched)))
-    comes found silent (inr (inr (inr (is, failed, ok)))) = broken (outside_of files disk link link) words found (entrance_by words fresh found)
-        (Err status) silent (inr (inr (inl (told-same status DiskFault is, failed, ok))))
+    comes found silent (inr (inr (inr (is, failed, ok)))) = broken (outside_of files disk link link) words found
+        (entrance_by words fresh found) (Err status) silent
+        (inr (inr (inl (told-same status DiskFault is, failed, ok, inl e.stands))))
 
 -- the link is not there
 pub not-linked : (files : Change (Option Held)) (disk : Change DiskTold) (words : MemberWords) (fresh : List ℕ) (link now : Shown)
@@ -243,6 +244,7 @@ not-begun files disk mid faults words fresh link now e key status h =
           told-same status DiskFault fault,
           rose-from disk.faults_before faults disk.faults_now h.enters.disk_count failed,
           entered-first words found entrant is,
+          inr (is-ok (entrant_by words found) entrant is),
         ))))
 
 -- memory is wanting once it has begun

@@ -191,7 +191,7 @@ broken-err : (outside : Outside) (sink : Change (Option (List ℕ))) (words : Me
 broken-err outside sink words found answer idle (inl (is, keeps)) = told-so outside sink (Some words) answer OutOfMemory is tt
 broken-err outside sink words found answer idle (inr (inl (is, failed, alone))) =
     told-so outside sink (Some words) answer ReadFault is (inl failed)
-broken-err outside sink words found answer idle (inr (inr (inl (is, failed, first)))) =
+broken-err outside sink words found answer idle (inr (inr (inl (is, failed, first, stands)))) =
     told-so outside sink (Some words) answer DiskFault is (failed, idle)
 broken-err outside sink words found answer idle (inr (inr (inr (is, rose, entered, keeps)))) =
     told-so outside sink (Some words) answer LinkFault is rose

@@ -21,7 +21,7 @@ use Rattle.offline_commands.specs.Delivery.{Delivers}
 use Rattle.offline_commands.specs.Outside.{Gains, Held, HoldsNow, IsMissing, OthersStay, Shows}
 use Rattle.offline_commands.specs.Promise.{Asked, IsRun}
 use Rattle.member_entry.specs.Entering.{Entrant, Found, IsKeyFile, MemberWords, before_key, entrance_by, entrant_by, key_file_told}
-use Rattle.member_entry.specs.Steps.{IsUntouched, KeepsKeyFile}
+use Rattle.member_entry.specs.Steps.{IsUntouched, KeepsKeyFile, KeepsStanding}
 use Rattle.online_commands.specs.TakingPart.{IsIdle, IsRaised, Outside, TookPart}
 
 -- ---- a member
@@ -46,12 +46,14 @@ pub record WasFound (outside : Outside) (words : MemberWords) (found : Found) : 
   pub key : IsKeyFile outside.disk.before words.key found.key_file
 
 -- Memory was wanting, and the key file is as it was; or there was a fault that a count tells: of the files in a read, before
--- the disk was touched; of the disk, where the steps before the key file refuse nothing; or of the link, where nothing is
--- refused before it, and the key file is as it was.
+-- the disk was touched; of the disk, where the steps before the key file refuse nothing, and what stood under its name stands
+-- there, unless the steps before the link refuse nothing either; or of the link, where these refuse nothing, and the key file
+-- is as it was.
 abbrev pub BreaksOff : Outside → MemberWords → Found → Result (List ℕ) Status → Type 0
 BreaksOff outside words found answer = ((answer ≡ Err OutOfMemory) × KeepsKeyFile outside.disk words.key)
     ⊎ ((answer ≡ Err ReadFault) × Failed outside.files × IsUntouched outside.disk)
-    ⊎ ((answer ≡ Err DiskFault) × Failed outside.disk × IsOk (before_key words found))
+    ⊎ ((answer ≡ Err DiskFault) × Failed outside.disk × IsOk (before_key words found)
+    × (KeepsStanding outside.disk words.key ⊎ IsOk (entrant_by words found)))
     ⊎ ((answer ≡ Err LinkFault) × Rose outside.link_before.faults outside.link_now.faults × IsOk (entrant_by words found)
     × KeepsKeyFile outside.disk words.key)
 
