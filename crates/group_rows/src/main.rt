@@ -6,7 +6,7 @@
 use anyhow::Result;
 use crash_disk::MemoryDisk;
 use offline_commands::{
-    FileRead, Files, MemoryFiles, ROSTER_LIMIT, SCRIPT_LIMIT, TRANSCRIPT_LIMIT, WriterSink,
+    FileRead, Files, MemoryFiles, ROSTER_LIMIT, SCRIPT_LIMIT, Status, TRANSCRIPT_LIMIT, WriterSink,
     run_offline,
 };
 use sha2::{Digest, Sha256};
@@ -35,6 +35,18 @@ fn words_of(alloc: Global, line: &str) -> Mem<Vec<String>> {
     Ok(words)
 }
 
+// Runs a command, which prints.
+fn status_of<R: Runtime<A = Global> + Threads + Sync>(
+    rt: &R,
+    alloc: Global,
+    words: &Vec<String>,
+    files: &mut MemoryFiles,
+    disk: &mut MemoryDisk,
+) -> Status {
+    let mut out = WriterSink::new(io::writer(rt));
+    run_offline(rt, alloc, words, files, disk, [0; 32], &mut out)
+}
+
 // Runs the command of these words, which prints, and then prints its status.
 fn run_words<R: Runtime<A = Global> + Threads + Sync>(
     rt: &R,
@@ -44,9 +56,8 @@ fn run_words<R: Runtime<A = Global> + Threads + Sync>(
 ) -> Result<()> {
     let words = words_of(alloc, line)?;
     let mut disk = MemoryDisk::new(alloc, 8, Vec::new(alloc))?;
-    let mut out = WriterSink::new(io::writer(rt));
-    let status = run_offline(rt, alloc, &words, files, &mut disk, [0; 32], &mut out).number();
-    println!(rt; "status {status}")?;
+    let number = status_of(rt, alloc, &words, files, &mut disk).number();
+    println!(rt; "status {number}")?;
     Ok(())
 }
 

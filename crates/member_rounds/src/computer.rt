@@ -2,7 +2,7 @@
 
 use crash_disk::{Disk, MemoryDisk};
 use lms_tree::{LmsSecret, MadeHeight, OtsType};
-use offline_commands::{Files, MemoryFiles, MemorySink};
+use offline_commands::{Files, MemoryFiles, MemorySink, Status};
 use online_commands::run;
 use round_link::{LinkCall, MemoryLink};
 use std::alloc::{AllocError, Global};
@@ -108,12 +108,26 @@ pub(crate) fn run_over<R: Threads + Wait + Sync, F: Files, D: Disk>(
         return Err(AllocError);
     };
     let mut out = MemorySink::new(alloc, Vec::new(alloc));
-    let status = run(rt, alloc, &words, files, disk, &mut link, fresh, &mut out);
+    let status = status_over(rt, alloc, &words, files, disk, &mut link, fresh, &mut out);
     Ok(Ended {
         number: status.number(),
         posts: posts_on(alloc, &link)?,
         printed: String::from_utf8_lossy(alloc, out.written())?,
     })
+}
+
+// The status of a command. It stands alone, so that what `run` promises is not carried along where nobody asks for it.
+fn status_over<R: Threads + Wait + Sync, F: Files, D: Disk>(
+    rt: &R,
+    alloc: Global,
+    words: &Vec<String>,
+    files: &mut F,
+    disk: &mut D,
+    link: &mut MemoryLink,
+    fresh: [u8; 32],
+    out: &mut MemorySink,
+) -> Status {
+    run(rt, alloc, words, files, disk, link, fresh, out)
 }
 
 fn words_of(alloc: Global, words: &[&str]) -> Mem<Vec<String>> {

@@ -7,11 +7,11 @@ use Rattle.key_store.specs.KeyFiles.{key_read}
 use Rattle.round_link.specs.Traffic.{Shown}
 use Rattle.offline_commands.specs.declared.status.Status.TheVariants.{OutOfMemory}
 use Rattle.offline_commands.specs.Outside.{DiskTold, Held, Shows}
-use Rattle.member_entry.specs.Entering.{Found, MemberWords, before_key, entrance_by, key_file_told}
+use Rattle.member_entry.specs.Entering.{Found, MemberWords, before_key, entrance_by, entrant_by, key_file_told}
 use Rattle.member_entry.specs.Steps.{KeepsHeld}
 use Rattle.online_commands.specs.TakingPart.{Outside}
-use Rattle.online_commands.specs.Promise.{IsMemberAnswered, IsSilent}
-use Rattle.online_commands.proofs.Stepping.{broken, others-same}
+use Rattle.online_commands.specs.Promise.{IsLeftAlone, IsMemberAnswered, IsSilent}
+use Rattle.online_commands.proofs.Stepping.{broken, others-same, whenever}
 
 -- the outside of a call that leaves all as it is
 abbrev pub still : (held : Option Held) (files_faults : ℕ) (disk : DiskTold) (disk_faults : ℕ) (link : Shown) → Outside
@@ -34,15 +34,24 @@ keeps_same : (names : Option Names) (name : List ℕ) → KeepsHeld names names 
 keeps_same None name = tt
 keeps_same (Some names) name = λ other apart. refl
 
-silent : (held : Option Held) (files_faults : ℕ) (disk : DiskTold) (disk_faults : ℕ) (link : Shown)
-    → IsSilent (still held files_faults disk disk_faults link)
-silent held files_faults disk disk_faults link = record { files = refl; link = (refl, refl, refl) }
+alone : (held : Option Held) (files_faults : ℕ) (disk : DiskTold) (disk_faults : ℕ) (link : Shown)
+    → IsLeftAlone (still held files_faults disk disk_faults link)
+alone held files_faults disk disk_faults link = record { files = refl; disk = record { told = refl; count = refl }; link = refl }
+
+silent : (held : Option Held) (files_faults : ℕ) (disk : DiskTold) (disk_faults : ℕ) (link : Shown) (words : MemberWords) (found : Found)
+    → IsSilent (still held files_faults disk disk_faults link) words found
+silent held files_faults disk disk_faults link words found = record {
+  files = refl;
+  link = (refl, refl, refl);
+  disk_alone = whenever (before_key words found) _ (record { told = refl; count = refl });
+  link_alone = whenever (entrant_by words found) _ refl;
+}
 
 -- words that memory was wanting for
 pub wanting : (held : Option Held) (files_faults : ℕ) (disk : DiskTold) (disk_faults : ℕ) (link : Shown) (fresh : List ℕ)
     (words : Option MemberWords) → IsMemberAnswered (still held files_faults disk disk_faults link) fresh words (Err OutOfMemory)
 wanting held files_faults disk disk_faults link fresh None = record {
-  answers = (silent held files_faults disk disk_faults link, inr refl);
+  answers = (alone held files_faults disk disk_faults link, inr refl);
   files_kept = refl;
   names_kept = refl;
   files_count = omega arith;
@@ -58,8 +67,8 @@ wanting held files_faults disk disk_faults link fresh (Some words) =
       answers = (
         found,
         record { roster = roster.1; message = message.1; key = key.1 },
-        broken (still held files_faults disk disk_faults link) words (before_key words found) (entrance_by words fresh found)
-            (Err OutOfMemory) (silent held files_faults disk disk_faults link) (inl refl),
+        broken (still held files_faults disk disk_faults link) words found (entrance_by words fresh found)
+            (Err OutOfMemory) (silent held files_faults disk disk_faults link words found) (inl (refl, refl)),
       );
       files_kept = others-same held held words.transcript refl;
       names_kept = keeps_same disk.names words.key;

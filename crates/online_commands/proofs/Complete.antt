@@ -4,7 +4,6 @@ use Rattle.std.specs.Prelude.{IfSome, IsSome, IsSomeAnd}
 use Rattle.outside.specs.Changes.{Change, Failed}
 use Rattle.outside.specs.Faults.{Rose}
 use Rattle.bulk_descriptor.specs.declared.slot_state.SlotState.{SlotState}
-use Rattle.group_roster.specs.Roster.{Roster}
 use Rattle.key_store.specs.KeyFiles.{key_read}
 use Rattle.key_store.specs.declared.layout.KeyContent.{KeyContent}
 use Rattle.round_link.specs.Traffic.{Shown, Traffic}
@@ -21,8 +20,8 @@ use Rattle.offline_commands.specs.declared.status.Status.{Status}
 use Rattle.offline_commands.specs.declared.status.Status.TheVariants.{OutOfMemory}
 use Rattle.offline_commands.specs.Delivery.{Delivers}
 use Rattle.offline_commands.specs.Outside.{Gains, Held, Shows}
-use Rattle.member_entry.specs.Entering.{Entrant, Found, MemberWords, before_key, entrance_by, key_file_told}
-use Rattle.online_commands.specs.TakingPart.{Converses, Ends, Outside, Settles, WaitsOnlyIf, told_of}
+use Rattle.member_entry.specs.Entering.{Entrant, Found, MemberWords, entrance_by, key_file_told}
+use Rattle.online_commands.specs.TakingPart.{Converses, Ends, IsHeardOut, Outside, Settles, WaitsOnlyIf, told_of}
 use Rattle.online_commands.specs.Promise.{AllArrives, ComesOf, HasNoFault, IsComplete, IsMemberRun, PrintsAllMessages, WasFound, WasTold}
 use Rattle.online_commands.proofs.Lasting.{result-lasts}
 
@@ -90,7 +89,7 @@ settles-all : (c : Configuration) (runs : List Run) (files : Change (Option Held
     → IsDoneOf c runs o → Settles files name o answer → TellsAll c runs answer
 settles-all c runs files name o answer no_fault done (inl (is, holds)) = inl (done.0, is ∙ ap told_of done.1, done.2)
 settles-all c runs files name o answer no_fault done (inr (inl (is, blamed, failed))) = absurd (no_fault failed)
-settles-all c runs files name o answer no_fault done (inr (inr memory)) = inr memory
+settles-all c runs files name o answer no_fault done (inr (inr (memory, kept))) = inr memory
 
 ends-all : (c : Configuration) (runs : List Run) (files : Change (Option Held)) (name : List ℕ) (before now : Shown)
     (frames arrivals rest : List (List ℕ)) (answer : Result (List ℕ) Status) → ¬ Failed files → ¬ Rose before.faults now.faults
@@ -98,7 +97,7 @@ ends-all : (c : Configuration) (runs : List Run) (files : Change (Option Held)) 
     → Ends files name before now frames (result_of c frames) answer → TellsAll c runs answer
 ends-all c runs files name before now frames arrivals rest answer no_fault no_rise is none honest few (inl (waits, settles)) =
     settles-all c runs files name (result_of c frames) answer no_fault
-    (done-of-all c frames arrivals rest runs (Rose before.ends now.ends × IsAllTaken now) is (λ q. none q.1) waits honest) settles
+    (done-of-all c frames arrivals rest runs (Rose before.ends now.ends × IsAllTaken now × (length frames < FRAME_LIMIT)) is (λ q. none q.1) waits honest) settles
 ends-all c runs files name before now frames arrivals rest answer no_fault no_rise is none honest few (inr (inl (told, waits, flooded, same))) =
     absurd (fewer frames rest arrivals FRAME_LIMIT is few flooded)
 ends-all c runs files name before now frames arrivals rest answer no_fault no_rise is none honest few (inr (inr (inl (told, rose, same)))) =
@@ -125,19 +124,20 @@ delivers-all sink c runs answer status no_fault delivers (inr memory) =
 
 -- ---- all of it
 
-comes-all : (outside : Outside) (sink : Change (Option (List ℕ))) (words : MemberWords) (first : Result (Roster × List ℕ) Status)
+comes-all : (outside : Outside) (sink : Change (Option (List ℕ))) (words : MemberWords) (found : Found)
     (entrant : Entrant) (c : Configuration) (runs : List Run) (answer : Result (List ℕ) Status) → HasNoFault outside sink
-    → IsSome outside.link_before.traffic → AllArrives outside c runs → ComesOf outside words first (Ok (entrant, c)) answer
+    → IsSome outside.link_before.traffic → AllArrives outside c runs → ComesOf outside words found (Ok (entrant, c)) answer
     → TellsAll c runs answer
-comes-all outside sink words first entrant c runs answer none told all (inl (silent, inl memory)) = inr memory
-comes-all outside sink words first entrant c runs answer none told all (inl (silent, inr (inl (fault, failed, untouched)))) =
+comes-all outside sink words found entrant c runs answer none told all (inl (silent, inl (memory, keeps))) = inr memory
+comes-all outside sink words found entrant c runs answer none told all (inl (silent, inr (inl (fault, failed, untouched)))) =
     absurd (none.files failed)
-comes-all outside sink words first entrant c runs answer none told all (inl (silent, inr (inr (inl (fault, failed, ok))))) =
+comes-all outside sink words found entrant c runs answer none told all (inl (silent, inr (inr (inl (fault, failed, ok, stands))))) =
     absurd (none.disk failed)
-comes-all outside sink words first entrant c runs answer none told all (inl (silent, inr (inr (inr (fault, rose, keeps))))) =
+comes-all outside sink words found entrant c runs answer none told all (inl (silent, inr (inr (inr (fault, rose, entered, keeps))))) =
     absurd (none.link rose)
-comes-all outside sink words first entrant c runs answer none told all (inr took) =
-    let taken = taken-first c took.frames all.arrivals (answer ≡ told_of (result_of c took.frames)) outside.link_before.traffic
+comes-all outside sink words found entrant c runs answer none told all (inr (inl (silent, memory, raised))) = inr memory
+comes-all outside sink words found entrant c runs answer none told all (inr (inr took)) =
+    let taken = taken-first c took.frames all.arrivals (IsHeardOut answer) outside.link_before.traffic
     outside.link_now.traffic told all.left took.converses in
     ends-all c runs outside.files words.transcript outside.link_before outside.link_now took.frames all.arrivals taken.0 answer none.files none.link
     taken.1 taken.2 all.honest all.few took.ends
@@ -149,8 +149,8 @@ complete outside sink fresh words status run found entrant c runs told is all no
     let same = same-found outside words found answered.0 told answered.1 in
     let entrance : entrance_by words fresh answered.0 ≡ Ok (entrant, c) = ap (entrance_by words fresh) (sym same) ∙ is in
     delivers-all sink c runs run.ends.0 status none.out run.ends.2
-    (comes-all outside sink words (before_key words answered.0) entrant c runs run.ends.0 none told.link all
-    (subst (λ (r : Result (Entrant × Configuration) Status). ComesOf outside words (before_key words answered.0) r run.ends.0)
+    (comes-all outside sink words answered.0 entrant c runs run.ends.0 none told.link all
+    (subst (λ (r : Result (Entrant × Configuration) Status). ComesOf outside words answered.0 r run.ends.0)
     entrance answered.2))
 
 pub complete-words : (outside : Outside) (sink : Change (Option (List ℕ))) (fresh : List ℕ) (words : Option MemberWords) (status : Status)

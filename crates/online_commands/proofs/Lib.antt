@@ -6,3 +6,4 @@ mod Taken
 mod Answering
 mod Lasting
 mod Complete
+mod Telling

@@ -44,6 +44,27 @@ is-raised disk mid name round entrant keeps chosen beside of now_of raised =
     subst (λ (o : Option (List ℕ)). IfSome o (λ _. IsSomeAnd (key_file_told disk.now name) P)) keeps
     (told-raised mid.names disk.now.names mid.file disk.now.file name P chosen beside of now_of raised)
 
+-- a key file that was opened stands where names are told
+pub key-stood : (disk : Change DiskTold) (mid : DiskTold) (name : List ℕ) → KeepsHeld disk.before.names mid.names name
+    → key_file_told mid name ≡ key_file_told disk.before name → IsChosenNow mid.names name → IsOfChosen mid.names mid.file
+    → IfSome disk.before.names (λ _. IsSome (key_file_told disk.before name))
+key-stood disk mid name held keeps chosen of =
+    by_names disk.before.names mid.names held chosen of keeps
+  where
+    stands : (names : Names) → names.chosen ≡ Some name → IfSome names.chosen (λ n. (names.held n ≡ mid.file) × IsSome mid.file)
+        → IsSome (names.held name)
+    stands names is of_name =
+        let parts = subst (λ (o : Option (List ℕ)). IfSome o (λ n. (names.held n ≡ mid.file) × IsSome mid.file)) is of_name in
+        subst (λ (o : Option (List ℕ)). IsSome o) (sym parts.0) parts.1
+
+    by_names : (before now : Option Names) → KeepsHeld before now name → IsChosenNow now name → IsOfChosen now mid.file
+        → file_told now mid.file name ≡ key_file_told disk.before name
+        → IfSome before (λ _. IsSome (key_file_told disk.before name))
+    by_names None now held chosen of keeps = tt
+    by_names (Some b) None held chosen of keeps = absurd held
+    by_names (Some b) (Some n) held chosen of keeps =
+        subst (λ (o : Option (List ℕ)). IsSome o) keeps (stands n chosen of)
+
 -- ---- the other names
 
 -- they stay where the key file is changed alone

@@ -1,5 +1,5 @@
 -- What is answered where the member takes part.
-use Rattle.std.proofs.Common.{◌≡◌, ◌≢◌, ◌⊎◌, inl, inr, refl, sym, ap, ◌∙◌, subst, ℕ, ◌≤◌, List, [], length, append-nil, Option, Some, None, Result, Ok, Err}
+use Rattle.std.proofs.Common.{◌≡◌, ◌≢◌, ◌⊎◌, inl, inr, refl, sym, ap, ◌∙◌, subst, ℕ, ◌<◌, ◌≤◌, List, [], length, append-nil, Option, Some, None, Result, Ok, Err}
 use Rattle.std.specs.Prelude.{IfSome, IsSomeAnd}
 use Rattle.outside.specs.Changes.{Change}
 use Rattle.outside.specs.Faults.{Rose}
@@ -14,6 +14,7 @@ use Rattle.transcript_form.specs.Transcript.{transcript_spelling}
 use Rattle.round_link.specs.Traffic.{Shown, Traffic, posts_in}
 use Rattle.round_spec.specs.Result.{Blamed as BlamedBy, DoneWith, Outcome, Waiting, result_of}
 use Rattle.round_spec.specs.Say.{Configuration}
+use Rattle.round_spec.proofs.Honesty.{run_after_is_honest}
 use Rattle.member_spec.specs.Outcomes.{slots_shown, state_of}
 use Rattle.member_spec.specs.Replies.{Replies}
 use Rattle.member_core.specs.declared.config.Config.{Config}
@@ -23,17 +24,18 @@ use Rattle.member_core.specs.Stands.{configuration_of}
 use Rattle.member_core.proofs.Promised.{configured, one-list, promised, state-is}
 use Rattle.member_run.specs.declared.run_end.RunEnd.{RunEnd}
 use Rattle.member_run.specs.declared.run_end.RunEnd.TheVariants.{Ended, Waiting as RunWaiting, LinkFault as RunLinkFault, Flooded as RunFlooded, OutOfMemory as RunOutOfMemory}
+use Rattle.member_run.specs.declared.run_end.TheConstants.{FRAME_LIMIT}
 use Rattle.member_run.specs.Ran.{BeginsWith, EndsSo, Exchange, IfTold, IsAllTaken, MakesDue, Ran, count_after, posts_due}
 use Rattle.offline_commands.specs.declared.status.Status.{Status}
-use Rattle.offline_commands.specs.declared.status.Status.TheVariants.{LinkFault, OutOfMemory}
+use Rattle.offline_commands.specs.declared.status.Status.TheVariants.{OutOfMemory}
 use Rattle.offline_commands.specs.Outside.{DiskTold, Held, OthersStay}
 use Rattle.member_entry.specs.declared.entering.Entrant.{Entrant as EntrantRead}
-use Rattle.member_entry.specs.Entering.{Entrant, MemberWords, ROUND_LEAVES, before_key, configuration_by}
+use Rattle.member_entry.specs.Entering.{Entrant, MemberWords, ROUND_LEAVES, configuration_by}
 use Rattle.member_entry.specs.Steps.{IsEntrant}
-use Rattle.online_commands.specs.TakingPart.{Converses, Ends, HoldsTranscript, IsListOfAll, Settles, TellsEnd, TookPart, told_of}
+use Rattle.online_commands.specs.TakingPart.{Converses, Ends, HoldsTranscript, IsHeardOut, IsListOfAll, Settles, TellsEnd, TookPart}
 use Rattle.online_commands.specs.Promise.{ComesOf, IsMemberAnswered}
 use Rattle.online_commands.proofs.Listed.{has-key, is-listed}
-use Rattle.online_commands.proofs.Raised.{is-raised, names-beside}
+use Rattle.online_commands.proofs.Raised.{is-raised, key-stood, names-beside}
 use Rattle.online_commands.proofs.Settling.{ended-settled, open-waits, waits-if}
 use Rattle.online_commands.proofs.Stepping.{HasAsked, entrance-ok, no-less, outside_of, rose-from}
 
@@ -57,24 +59,14 @@ same-configuration config run e entrant round fresh is run_is of =
 
 -- ---- the posts
 
-told-not-link : (o : Outcome) → Err LinkFault ≡ told_of o → ⊥
-told-not-link (Waiting stage members) is = cc
-told-not-link (BlamedBy t) is = cc
-told-not-link (DoneWith slots) is = cc
-
-told-not-memory : (o : Outcome) → Err OutOfMemory ≡ told_of o → ⊥
-told-not-memory (Waiting stage members) is = cc
-told-not-memory (BlamedBy t) is = cc
-told-not-memory (DoneWith slots) is = cc
-
--- where the outcome is told, all posts that are due were made
+-- where the link did not fail, and memory sufficed, all posts that are due were made
 makes-all : (files : Change (Option Held)) (name : List ℕ) (end : RunEnd) (o : Outcome) (answer : Result (List ℕ) Status)
-    (made due : List (List ℕ)) → TellsEnd files name end o answer → MakesDue end made due → answer ≡ told_of o → made ≡ due
-makes-all files name Ended o answer made due tells makes is = makes
-makes-all files name RunWaiting o answer made due tells makes is = makes
-makes-all files name RunFlooded o answer made due tells makes is = makes
-makes-all files name RunLinkFault o answer made due tells makes is = absurd (told-not-link o (sym tells.0 ∙ is))
-makes-all files name RunOutOfMemory o answer made due tells makes is = absurd (told-not-memory o (sym tells.0 ∙ is))
+    (made due : List (List ℕ)) → TellsEnd files name end o answer → MakesDue end made due → IsHeardOut answer → made ≡ due
+makes-all files name Ended o answer made due tells makes heard = makes
+makes-all files name RunWaiting o answer made due tells makes heard = makes
+makes-all files name RunFlooded o answer made due tells makes heard = makes
+makes-all files name RunLinkFault o answer made due tells makes heard = absurd (heard.0 tells.0)
+makes-all files name RunOutOfMemory o answer made due tells makes heard = absurd (heard.1 tells.0)
 
 -- and in any case the first of them
 makes-first : (end : RunEnd) (made due : List (List ℕ)) → MakesDue end made due → BeginsWith due made
@@ -101,12 +93,12 @@ told-all P Q before mid now same step is =
 converses : (files : Change (Option Held)) (name : List ℕ) (end : RunEnd) (c : Configuration) (frames : List (List ℕ)) (handed : ℕ)
     (answer : Result (List ℕ) Status) (before mid now : Shown) → mid.traffic ≡ before.traffic → handed ≡ 0
     → TellsEnd files name end (result_of c frames) answer → IfTold mid now (Exchanges c frames end handed)
-    → IfTold before now (Converses c frames (answer ≡ told_of (result_of c frames)))
+    → IfTold before now (Converses c frames (IsHeardOut answer))
 converses files name end c frames handed answer before mid now same none tells told =
-    told-all (Exchanges c frames end handed) (Converses c frames (answer ≡ told_of (result_of c frames)))
+    told-all (Exchanges c frames end handed) (Converses c frames (IsHeardOut answer))
     before.traffic mid.traffic now.traffic same (λ t u is. of_exchange t u (subst (λ (n : ℕ). Exchanges c frames end n t u) none is)) told
   where
-    of_exchange : (t u : Traffic) → Exchanges c frames end 0 t u → Converses c frames (answer ≡ told_of (result_of c frames)) t u
+    of_exchange : (t u : Traffic) → Exchanges c frames end 0 t u → Converses c frames (IsHeardOut answer) t u
     of_exchange t u is = (
       is.0,
       makes-all files name end (result_of c frames) answer (posts_in is.0.calls) (posts_due c frames 0) tells is.1,
@@ -128,7 +120,8 @@ settles-since : (files : Change (Option Held)) (mid : Option Held) (faults : ℕ
 settles-since files mid faults name o answer same less (inl (is, holds)) = inl (is, holds-since files mid faults name o same holds)
 settles-since files mid faults name o answer same less (inr (inl (is, blamed, failed))) =
     inr (inl (is, blamed, rose-from files.faults_before faults files.faults_now less failed))
-settles-since files mid faults name o answer same less (inr (inr memory)) = inr (inr memory)
+settles-since files mid faults name o answer same less (inr (inr (memory, inl blamed))) = inr (inr (memory, inl blamed))
+settles-since files mid faults name o answer same less (inr (inr (memory, inr kept))) = inr (inr (memory, inr (kept ∙ same)))
 
 -- what the run ended with is told so
 ends-so : (files : Change (Option Held)) (mid : Option Held) (faults : ℕ) (name : List ℕ) (before link now : Shown)
@@ -137,11 +130,12 @@ ends-so : (files : Change (Option Held)) (mid : Option Held) (faults : ℕ) (nam
     → EndsSo h (length frames) link now end → (end ≢ RunOutOfMemory → state_by h h.ending ≡ state_of o)
     → TellsEnd (record files { before = mid; faults_before = faults }) name end o answer → Ends files name before now frames o answer
 ends-so files mid faults name before link now frames h Ended o answer same less ends count so state tells = inl (
-  ended-settled (Rose before.ends now.ends × IsAllTaken now) h h.ending o so (state (λ is. cc)),
+  ended-settled (Rose before.ends now.ends × IsAllTaken now × (length frames < FRAME_LIMIT)) h h.ending o so (state (λ is. cc)),
   settles-since files mid faults name o answer same less tells,
 )
 ends-so files mid faults name before link now frames h RunWaiting o answer same less ends count so state tells = inl (
-  waits-if (Rose before.ends now.ends × IsAllTaken now) o (subst (λ (n : ℕ). Rose n now.ends) ends so.2, so.3),
+  waits-if (Rose before.ends now.ends × IsAllTaken now × (length frames < FRAME_LIMIT)) o
+      (subst (λ (n : ℕ). Rose n now.ends) ends so.2, so.3, so.1),
   settles-since files mid faults name o answer same less tells,
 )
 ends-so files mid faults name before link now frames h RunFlooded o answer same less ends count so state tells =
@@ -226,16 +220,21 @@ takes-part {A} replies_of files mid_files files_faults disk mid faults words fre
     let plain : end ≢ RunOutOfMemory → IsPlainMember replies_of c r.ran.frames new = unless-memory end _ from.member in
     let tells = r.tells c r.ran.frames plain in
     let key_is = has-key words.round fresh e.key.image entrant (is-listed words h.enters.found entrant entered.1) entered.2.key.says in
+    let config_is = configured c starts.stands.stands.can_enter key_is in
+    let heard = λ (apart : answer ≢ Err OutOfMemory). (let is = plain (not-memory (record files { before = mid_files; faults_before = files_faults })
+    words.transcript end (result_of c r.ran.frames) answer tells apart) in is.stands.strings) in
     let took : TookPart words entrant c (outside_of files disk before now) answer = record {
       frames = r.ran.frames;
+      config = config_is;
+      bytes = heard;
+      honest = λ apart. run_after_is_honest c r.ran.frames config_is (heard apart);
+      stood = key-stood disk mid words.key h.enters.names entered.4 entered.3 of;
       raised = is-raised disk mid words.key words.round entrant entered.4 entered.3 h.beside of now_of begun.answers.2;
       counted = r.ran.counted ∙ ap (count_after (length r.ran.frames)) h.idle.1;
       at_most = r.ran.at_most;
       converses = converses (record files { before = mid_files; faults_before = files_faults }) words.transcript end c r.ran.frames
           old.holds.handed answer before link now h.idle.0 r.handed tells from.traffic;
-      promise = λ apart. (let is = plain (not-memory (record files { before = mid_files; faults_before = files_faults }) words.transcript end
-          (result_of c r.ran.frames) answer tells apart) in
-          promised c r.ran.frames (configured c is.stands.stands.can_enter key_is) is.stands.strings);
+      promise = λ apart. promised c r.ran.frames config_is (heard apart);
       one_list = λ apart. lists-all c r.ran.frames;
       ends = ends-so files mid_files files_faults words.transcript before link now r.ran.frames new.holds end (result_of c r.ran.frames) answer
           h.enters.files_kept h.enters.files_count h.idle.2 h.link_count r.ran.ends
@@ -246,8 +245,8 @@ takes-part {A} replies_of files mid_files files_faults disk mid faults words fre
         h.enters.found,
         record { roster = h.enters.roster; message = h.enters.message; key = h.enters.key },
         subst (λ (x : Result (Entrant × Configuration) Status).
-            ComesOf (outside_of files disk before now) words (before_key words h.enters.found) x answer)
-            (sym (entrance-ok words fresh h.enters.found entrant entered.1 begun.answers.0)) (inr took),
+            ComesOf (outside_of files disk before now) words h.enters.found x answer)
+            (sym (entrance-ok words fresh h.enters.found entrant entered.1 begun.answers.0)) (inr (inr took)),
       );
       files_kept = subst (λ (o : Option Held). OthersStay o files.now words.transcript) h.enters.files_kept r.others;
       names_kept = names-beside disk.before.names mid.names disk.now.names words.key h.enters.names entered.3 h.beside;

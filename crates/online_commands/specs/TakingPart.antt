@@ -1,12 +1,14 @@
 -- What comes of a round that a member took part in.
-use Rattle.std.specs.Prelude.{◌≡◌, ◌≢◌, ◌⊎◌, ℕ, ◌≤◌, List, [], length, take, Option, IfSome, IsSomeAnd, Result, Ok, Err}
+use Rattle.std.specs.Prelude.{◌≡◌, ◌≢◌, ◌⊎◌, ℕ, ◌<◌, ◌≤◌, List, [], All, length, take, Option, IfSome, IsSome, IsSomeAnd, Result, Ok, Err}
 use Rattle.outside.specs.Changes.{Change, Failed}
 use Rattle.outside.specs.Faults.{Rose}
+use Rattle.wire_core.specs.Bytes.{IsBytes}
 use Rattle.transcript_form.specs.declared.transcript.Transcript.{Transcript}
 use Rattle.transcript_form.specs.Transcript.{transcript_spelling}
 use Rattle.key_store.specs.KeyFiles.{key_read}
 use Rattle.round_link.specs.Traffic.{Shown, Traffic, posts_in}
 use Rattle.round_spec.specs.Result.{Blamed as BlamedBy, DoneWith, Outcome, Waiting, result_of}
+use Rattle.round_spec.specs.Runs.{HonestRun, IsConfiguration, run_after}
 use Rattle.round_spec.specs.Say.{Configuration}
 use Rattle.member_spec.specs.Outcomes.{bits_of, state_of}
 use Rattle.member_core.specs.Promises.{IsOneList, KeepsPromise}
@@ -37,6 +39,10 @@ abbrev pub Converses : Configuration → List (List ℕ) → Type 0 → (before 
 Converses c frames P before now = (exchange : Exchange c [] 0 frames before now)
     × (P → posts_in exchange.calls ≡ posts_due c frames 0) × BeginsWith (posts_due c frames 0) (posts_in exchange.calls)
 
+-- an answer is neither that the link failed, nor that memory was wanting
+abbrev pub IsHeardOut : Result (List ℕ) Status → Type 0
+IsHeardOut answer = (answer ≢ Err LinkFault) × (answer ≢ Err OutOfMemory)
+
 -- ---- what it comes to
 
 -- what is told of an outcome: the slots of the list, or the status that ends the command
@@ -63,17 +69,18 @@ HoldsTranscript files name outcome = files.now ≡ files.before
 abbrev pub IsBlamed : Outcome → Type 0
 IsBlamed outcome = (t : Transcript) × (outcome ≡ BlamedBy t)
 
--- what a settled outcome is told as, with the transcript written; or that could not be written, or memory was wanting
+-- what a settled outcome is told as, with the transcript written; or that could not be written, or memory was wanting, and no
+-- file was touched unless somebody is blamed
 abbrev pub Settles : Change (Option Held) → List ℕ → Outcome → Result (List ℕ) Status → Type 0
 Settles files name outcome answer = ((answer ≡ told_of outcome) × HoldsTranscript files name outcome)
     ⊎ ((answer ≡ Err WriteFault) × IsBlamed outcome × Failed files)
-    ⊎ (answer ≡ Err OutOfMemory)
+    ⊎ ((answer ≡ Err OutOfMemory) × (IsBlamed outcome ⊎ (files.now ≡ files.before)))
 
 -- The answer of a round that was taken part in. It is settled where it ended, and where nothing comes any more,
--- with no frame left; or it was flooded, or the link failed.
+-- with no frame left, and fewer taken than are taken at most; or it was flooded, or the link failed.
 abbrev pub Ends : Change (Option Held) → List ℕ → (before now : Shown) → List (List ℕ) → Outcome → Result (List ℕ) Status → Type 0
 Ends files name before now frames outcome answer =
-    (WaitsOnlyIf (Rose before.ends now.ends × IsAllTaken now) outcome × Settles files name outcome answer)
+    (WaitsOnlyIf (Rose before.ends now.ends × IsAllTaken now × (length frames < FRAME_LIMIT)) outcome × Settles files name outcome answer)
     ⊎ ((answer ≡ Err Flooded) × IsWaiting outcome × (length frames ≡ FRAME_LIMIT) × (files.now ≡ files.before))
     ⊎ ((answer ≡ Err LinkFault) × Rose before.faults now.faults × (files.now ≡ files.before))
     ⊎ ((answer ≡ Err OutOfMemory) × (files.now ≡ files.before))
@@ -89,15 +96,20 @@ IsListOfAll c frames (DoneWith slots) = IsOneList c frames slots
 IsListOfAll c frames outcome = Unit {0}
 
 -- A member entered the round, its key file being raised, and took these frames. Whatever the frames are, the round stands as
--- their result, and, unless memory was wanting, keeps the promise of its end: each honest message is there; or the evidence
--- convicts somebody faulty; or exactly those are named who are missed.
+-- their result, and, unless memory was wanting, they are bytes, its run is honest, and it keeps the promise of its end: each
+-- honest message is there; or the evidence convicts somebody faulty; or exactly those are named who are missed.
 pub record TookPart (words : MemberWords) (entrant : Entrant) (c : Configuration) (outside : Outside) (answer : Result (List ℕ) Status) : Type 0
   where
     pub frames : List (List ℕ)
+    -- it stands among honest runs as soon as its own is one of them, and nothing of theirs was forged in the frames
+    pub config : IsConfiguration c
+    pub bytes : answer ≢ Err OutOfMemory → All IsBytes frames
+    pub honest : answer ≢ Err OutOfMemory → HonestRun (run_after c frames)
+    pub stood : IfSome outside.disk.before.names (λ _. IsSome (key_file_told outside.disk.before words.key))
     pub raised : IsRaised outside.disk words.key words.round entrant
     pub counted : outside.link_now.frames ≡ count_after (length frames) outside.link_before.frames
     pub at_most : length frames ≤ FRAME_LIMIT
-    pub converses : IfTold outside.link_before outside.link_now (Converses c frames (answer ≡ told_of (result_of c frames)))
+    pub converses : IfTold outside.link_before outside.link_now (Converses c frames (IsHeardOut answer))
     pub promise : answer ≢ Err OutOfMemory → KeepsPromise c frames (state_of (result_of c frames))
     pub one_list : answer ≢ Err OutOfMemory → IsListOfAll c frames (result_of c frames)
     pub ends : Ends outside.files words.transcript outside.link_before outside.link_now frames (result_of c frames) answer

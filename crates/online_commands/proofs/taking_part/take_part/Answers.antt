@@ -7,7 +7,7 @@ use Rattle.offline_commands.specs.Delivery.{answer_bytes}
 use Rattle.offline_commands.specs.Outside.{telling}
 use Rattle.member_entry.specs.Entering.{MemberWords}
 use Rattle.round_link.specs.Traffic.{shown_by}
-use Rattle.online_commands.proofs.Stepping.{begun-named, not-begun, not-entered}
+use Rattle.online_commands.proofs.Stepping.{begun-named, no-memory, not-begun, not-entered, not-linked}
 use Rattle.online_commands.proofs.Taken.{config-named, others-named, takes-part, tells-named}
 use Rattle.online_commands.proofs.taking_part.take_part.Goals as goal
 
@@ -18,6 +18,16 @@ returns-in_err-entrant g c =
     (change_of g.D.Disk.faults (telling g.D.Disk.file g.D.Disk.names) c.args.disk.now c.enter.new.disk)
     c.args.command.now c.args.fresh.now (shown_by g.L.Link.faults g.L.Link.frames g.L.Link.ends g.L.Link.told c.args.link.now)
     c.in_err-entrant.field-0.0 c.in_err-entrant.ensures.entered)
+
+pub returns-in_err-begin_link : goal.returns-in_err-begin_link
+returns-in_err-begin_link g c =
+    let p = err_from_is_err_and c.from_residual-in_err-begin_link.result c.from_residual-in_err-begin_link.ensures.1 in
+    rw (p.1, p.2) (not-linked (change_of g.F.Files.faults g.F.Files.told c.args.files.now c.enter.new.files)
+    (change_of g.D.Disk.faults (telling g.D.Disk.file g.D.Disk.names) c.args.disk.now c.enter.new.disk)
+    c.args.command.now c.args.fresh.now (shown_by g.L.Link.faults g.L.Link.frames g.L.Link.ends g.L.Link.told c.args.link.now)
+    (shown_by g.L.Link.faults g.L.Link.frames g.L.Link.ends g.L.Link.told c.begin_link.new.link)
+    c.in_ok-entrant.entrant c.in_err-begin_link.field-0.0 c.in_ok-entrant.ensures.entered c.in_err-begin_link.ensures.idle
+    c.in_err-begin_link.ensures.no_fall c.in_err-begin_link.ensures.failed)
 
 pub returns-in_err-leaves : goal.returns-in_err-leaves
 returns-in_err-leaves g c =
@@ -35,6 +45,24 @@ returns-in_err-leaves g c =
       idle = c.in_ok-begin_link.ensures.idle;
       link_count = c.in_ok-begin_link.ensures.no_fall;
     }))
+
+pub returns-in_err-member : goal.returns-in_err-member
+returns-in_err-member g c =
+    let p = err_from_is_err_and c.from_residual-in_err-member.result c.from_residual-in_err-member.ensures.1 in
+    rw (p.1, p.2) (no-memory (change_of g.F.Files.faults g.F.Files.told c.args.files.now c.enter.new.files)
+    (change_of g.D.Disk.faults (telling g.D.Disk.file g.D.Disk.names) c.args.disk.now c.begin_round.new.disk)
+    (telling g.D.Disk.file g.D.Disk.names c.enter.new.disk) (g.D.Disk.faults c.enter.new.disk)
+    c.args.command.now c.args.fresh.now (shown_by g.L.Link.faults g.L.Link.frames g.L.Link.ends g.L.Link.told c.args.link.now)
+    (shown_by g.L.Link.faults g.L.Link.frames g.L.Link.ends g.L.Link.told c.begin_link.new.link)
+    c.in_ok-entrant.entrant c.begin_round.new.key c.in_ok-leaves.leaves
+    (record {
+      enters = c.in_ok-entrant.ensures.entered;
+      begins = begun-named _ _ _ _ _ _ (ap (λ (w : MemberWords). w.round) c.command.view_is) c.in_ok-leaves.ensures.begun;
+      beside = c.in_ok-leaves.ensures.beside;
+      idle = c.in_ok-begin_link.ensures.idle;
+      link_count = c.in_ok-begin_link.ensures.no_fall;
+    })
+    (g.met.D.Disk.names_show_file c.enter.new.disk) (g.met.D.Disk.names_show_file c.begin_round.new.disk))
 
 pub returns : goal.returns
 returns g c =
