@@ -37,7 +37,6 @@ use Rattle.accountability.proofs.Endings.{ending-cases, outcome-cases}
 use Rattle.round_spec.proofs.Given.{first_posts_delivered}
 use Rattle.signed_post.specs.Frame.{frame_of}
 use Rattle.signed_post.proofs.Frames.{framed-again, framed-found}
-use Rattle.phase_message.proofs.Spelled.{given}
 use Rattle.phase_message.specs.Header.{header_of}
 use Rattle.conviction.proofs.OwnRows.{in-range}
 use Rattle.phase_message.specs.Stages.{is_slot}

@@ -1,5 +1,5 @@
 -- When accusations hold.
-use Rattle.std.proofs.Common.{◌≡◌, ◌≢◌, ℕ, zero, suc, ◌+◌, ◌-◌, ◌<◌, ◌≤◌, Bool, true, false, cond, not, ◌&&◌, List, [], ◌∷◌, length, map, get_or, refl, sym, ap, subst, ◌∙◌, arith, Option, Some, None, All, ◌⊎◌, inl, inr}
+use Rattle.std.proofs.Common.{◌≡◌, ◌≢◌, ℕ, zero, suc, ◌+◌, ◌-◌, ◌<◌, ◌≤◌, Bool, true, false, cond, not, ◌&&◌, List, [], ◌∷◌, length, map, get_or, refl, sym, ap, subst, ◌∙◌, arith, Option, Some, None, ◌⊎◌, inl, inr}
 use Rattle.std.specs.Prelude.{nat_le, ◌↔◌}
 use Rattle.std.specs.Option.{option_map, option_and_then}
 use Rattle.std.specs.List.{find, range_with_len, enumerate_from}
@@ -9,22 +9,22 @@ use Rattle.std.proofs.lemmas.List.{get_or-map, length-map}
 use Rattle.std.proofs.lemmas.List.Elements.{All-map}
 use Rattle.std.proofs.lemmas.List.FromFn.{length-enumerate_from, get_or-enumerate_from}
 use Rattle.std.proofs.lemmas.Slice.Eq.{bytes_eq-Decides}
-use Rattle.wire_core.specs.Answers.{first_some, first_below, fault_unless}
+use Rattle.wire_core.specs.Answers.{fault_unless}
 use Rattle.wire_core.proofs.AnswerLemmas.{first_some-none, first_some-none_parts, fault_unless-true, fault_unless-holds, first_below-found}
 use Rattle.pad_stream.specs.Stream.{pad_of}
 use Rattle.ring_encrypt.specs.Capsule.{capsule_of}
 use Rattle.transcript_form.specs.declared.accusation.Accusation.{Accusation}
-use Rattle.transcript_form.specs.Accusation.{accusation_of, accusation_at}
+use Rattle.transcript_form.specs.Accusation.{accusation_at}
 use Rattle.bulk_descriptor.specs.declared.slot_state.SlotState.{SlotState}
 use Rattle.bulk_descriptor.specs.declared.slot_state.SlotState.TheVariants.{Empty, Bad, Mismatched, Message}
 use Rattle.bulk_descriptor.specs.Descriptor.{Description, descriptor_text, descriptor_read, made_descriptor, hash_of_pad, pad_hash_for, capsule_for, fits}
 use Rattle.bulk_descriptor.specs.SlotState.{first_unfit, joined_state, joined_pads, unless_bad, slot_state, slot_states, pads_for}
 use Rattle.bulk_descriptor.specs.Laws.{CanMake}
 use Rattle.bulk_descriptor.proofs.SpellingLemmas.{spelled_are_read}
-use Rattle.bulk_descriptor.proofs.FittingLemmas.{made_is_of_grammar, other_pads_fit, fits_parts, fits_from, capsule_for-made, length_of-made}
+use Rattle.bulk_descriptor.proofs.FittingLemmas.{made_is_of_grammar, other_pads_fit, fits_parts, capsule_for-made, length_of-made}
 use Rattle.accusation.specs.declared.holding.AccusationRefusal.{AccusationRefusal}
-use Rattle.accusation.specs.declared.holding.AccusationRefusal.TheVariants.{Slot, Member, Capsule, PadHash, PadSent}
-use Rattle.accusation.specs.Accusation.{descriptor_at, key_for, pad_sent, seed_refusal, refusal_by, refusal_of, HoldsOf, Holds}
+use Rattle.accusation.specs.declared.holding.AccusationRefusal.TheVariants.{Member, Capsule, PadHash, PadSent}
+use Rattle.accusation.specs.Accusation.{descriptor_at, key_for, pad_sent, seed_refusal, refusal_by, refusal_of, HoldsOf}
 use Rattle.accusation.specs.Item.{first_in, accusation_by, item_accusation, empty_item, NamesWithin}
 use Rattle.accusation.specs.Laws.{HoldsExactly, HoldsLooksAtOne, EmptyItemRefused, ItemHolds, StatesNameMembers}
 

@@ -1,5 +1,5 @@
 -- The item, as the code finds it.
-use Rattle.std.proofs.Common.{◌≡◌, ℕ, ◌+◌, ◌-◌, ◌<◌, ◌≤◌, List, [], length, get_or, refl, sym, ap, subst, ◌∙◌, arith, Option, Some, None, All}
+use Rattle.std.proofs.Common.{◌≡◌, ℕ, ◌+◌, ◌-◌, ◌<◌, ◌≤◌, List, [], length, get_or, sym, ap, subst, ◌∙◌, arith, Option, Some, None, All}
 use Rattle.std.specs.Option.{option_map, option_map_or}
 use Rattle.std.proofs.lemmas.List.{get_or_read}
 use Rattle.std.proofs.lemmas.List.Elements.{All-get_or}
@@ -8,7 +8,7 @@ use Rattle.wire_core.proofs.AnswerLemmas.{first_below-none, first_below-some}
 use Rattle.transcript_form.specs.declared.accusation.Accusation.{Accusation}
 use Rattle.transcript_form.specs.Accusation.{accusation_spelling}
 use Rattle.bulk_descriptor.specs.declared.slot_state.SlotState.{SlotState}
-use Rattle.bulk_descriptor.specs.declared.slot_state.SlotState.TheVariants.{Empty, Bad}
+use Rattle.bulk_descriptor.specs.declared.slot_state.SlotState.TheVariants.{Empty}
 use Rattle.accusation.specs.Item.{first_in, accusation_by, item_accusation, item_row, empty_item, NamesWithin}
 use Rattle.accusation.proofs.AccusationLemmas.{first_in_cases}
 

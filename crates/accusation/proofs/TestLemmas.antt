@@ -1,12 +1,12 @@
 -- The tests of the code, over plain values.
-use Rattle.std.proofs.Common.{◌≡◌, ℕ, ◌+◌, ◌-◌, ◌<◌, ◌≤◌, Bool, true, false, cond, not, ◌&&◌, List, [], ◌∷◌, length}
-use Rattle.std.proofs.Common.{map, get_or, refl, sym, ap, subst, ◌∙◌, arith, Option, Some, None, Result, Ok, Err, All}
-use Rattle.std.proofs.Common.{◌⊎◌, inl, inr}
+use Rattle.std.proofs.Common.{◌≡◌, ℕ, ◌-◌, ◌<◌, ◌≤◌, Bool, true, false, not, ◌&&◌, List, [], ◌∷◌, length}
+use Rattle.std.proofs.Common.{map, get_or, refl, sym, ap, ◌∙◌, arith, Option, Some, None, Result, Ok, Err}
+use Rattle.std.proofs.Common.{inl, inr}
 use Rattle.std.specs.Prelude.{nat_le, IfSome}
 use Rattle.std.specs.Option.{option_map}
 use Rattle.std.specs.Str.{bytes_eq}
-use Rattle.std.proofs.lemmas.Bool.{cond-true, cond-false, and_from, and_parts, leb-true, le-leb, cases_Bool, cases_lt, both_ways, false_from_ne_true, not_from_true, not_from_false}
-use Rattle.std.proofs.lemmas.List.{get_or-map, get_or_read, length-map, get_or_past}
+use Rattle.std.proofs.lemmas.Bool.{cond-true, cond-false, and_from, and_parts, leb-true, le-leb, cases_Bool, cases_lt, false_from_ne_true, not_from_true, not_from_false}
+use Rattle.std.proofs.lemmas.List.{get_or-map, get_or_read, get_or_past}
 use Rattle.std.proofs.lemmas.List.Elements.{All-get_or}
 use Rattle.std.proofs.lemmas.Slice.Eq.{bytes_eq-Decides}
 use Rattle.wire_core.specs.Answers.{first_some, fault_unless, value_unless}

@@ -1,5 +1,5 @@
 -- When an accusation holds. Slots and members count from 1.
-use Rattle.std.specs.Prelude.{◌≡◌, ◌≢◌, ℕ, ◌-◌, ◌≤◌, List, [], ◌∷◌, length, Bool, not, ◌&&◌, nat_le, slice_index_or, Option, Some, None, if◌then◌else◌}
+use Rattle.std.specs.Prelude.{◌≡◌, ◌≢◌, ℕ, ◌-◌, ◌≤◌, List, [], ◌∷◌, length, not, ◌&&◌, nat_le, slice_index_or, Option, Some, None, if◌then◌else◌}
 use Rattle.std.specs.Str.{bytes_eq}
 use Rattle.wire_core.specs.Answers.{first_some, fault_unless}
 use Rattle.pad_stream.specs.Stream.{pad_of}

@@ -1,12 +1,12 @@
 -- What a member puts into the second shuffle.
-use Rattle.std.specs.Prelude.{◌≡◌, ℕ, ◌+◌, ◌-◌, ◌≤◌, List, [], ◌∷◌, length, All, replicate, slice_index_or, Option, Some, None, if◌then◌else◌}
+use Rattle.std.specs.Prelude.{ℕ, ◌+◌, ◌-◌, ◌≤◌, List, [], length, replicate, slice_index_or, Option, Some, None, if◌then◌else◌}
 use Rattle.std.specs.Option.{option_map, option_map_or}
 use Rattle.std.specs.Str.{bytes_eq}
 use Rattle.wire_core.specs.Answers.{first_below}
 use Rattle.transcript_form.specs.declared.accusation.Accusation.{Accusation}
 use Rattle.transcript_form.specs.Accusation.{accusation_spelling}
 use Rattle.bulk_descriptor.specs.declared.slot_state.SlotState.{SlotState}
-use Rattle.bulk_descriptor.specs.declared.slot_state.SlotState.TheVariants.{Empty, Bad, Mismatched, Message}
+use Rattle.bulk_descriptor.specs.declared.slot_state.SlotState.TheVariants.{Empty, Bad}
 
 -- the first member whose pad fails in a slot that opened to the member's own descriptor's bytes
 abbrev pub first_in : List ℕ → Option (List ℕ) → SlotState → Option ℕ

@@ -1,6 +1,6 @@
 //! How the program is called.
 
-/// The forms of all commands, a line each, for who gave other words.
+/// The forms of the commands that are built, a line each, for who gave other words. `live` is not among them yet.
 pub fn usage_text() -> &'static str {
     "keygen --key FILE --height 5|10 --width 1|2|4|8\n\
      roster --toml FILE --out FILE\n\
@@ -8,6 +8,5 @@ pub fn usage_text() -> &'static str {
      judge --roster FILE --transcript FILE\n\
      group --script FILE --roster FILE --transcript FILE\n\
      make --number K --members N --bytes B --fault NAME\n\
-     member --roster FILE --key FILE --round R --message FILE --transcript FILE --wait S ADDRESS..\n\
-     live --script FILE\n"
+     member --roster FILE --key FILE --round R --message FILE --transcript FILE --wait S ADDRESS..\n"
 }

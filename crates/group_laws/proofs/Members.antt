@@ -1,4 +1,4 @@
--- That the members of a script are shown, each with its fault.
+-- That the members of a script are shown, and of each whether it has a fault.
 use Rattle.std.proofs.Common.{◌≡◌, ℕ, List, ap, sym, ◌∙◌, refl, subst}
 use Rattle.round_script.specs.declared.script.Script.{Script}
 use Rattle.group_spec.specs.Driver.{MemberShown, group_end, shown_of}

@@ -16,8 +16,8 @@ use Rattle.group_laws.specs.Members.{IsFaultyAsSaid, numbers_shown}
 use Rattle.group_laws.specs.Naming.{PrintsMissed}
 use Rattle.group_laws.specs.Promises.{IsHonestIn, KeepsItsPromise}
 
--- The members of the script are shown, each once and with its fault. Each honest one keeps its promise, and the words for one
--- that is open name exactly those that are missed. Where no two strings of the honest runs have one hash, one that is done has
+-- The members of the script are shown, each once, and of each whether it has a fault. Each honest one keeps its promise, and the
+-- words for one that is open name exactly those that are missed. Where no two strings of the honest runs have one hash, one that is done has
 -- every honest message; whom one blames has no honest run, where no string of its transcript collides either; all that are
 -- done have one list; and where the script has no fault and no post is lost, all are done, with all messages.
 pub record IsAccountable (script : Script) : Type 0 where

@@ -17,7 +17,7 @@ IsFaultyAsSaid script shown = shown.faulty ≡ is_faulty (fault_in script.faults
 abbrev pub MembersAreShown : Type 0
 MembersAreShown = (script : Script) → IsScript script → numbers_shown script ≡ script_members script
 
--- each with its fault
+-- of each that is shown, whether the script gives it a fault
 abbrev pub FaultsAreShown : Type 0
 FaultsAreShown = (script : Script) (shown : MemberShown) → IsScript script → Contains (script_end script) shown →
     IsFaultyAsSaid script shown

@@ -64,8 +64,8 @@ pub fn undisturbed_groups_are_done()
     ensures { UndisturbedGroupsAreDone }
 {}
 
-/// All of this of one group: its members are shown, each once and with its fault; the honest ones keep their promise, and name
-/// those that are missed while they are open; where no two strings of their runs have one hash, those
+/// All of this of one group: its members are shown, each once and by number, and whether it has a fault; the honest ones keep
+/// their promise, and name those that are missed while they are open; where no two strings of their runs have one hash, those
 /// that are done have every honest message, and one list, and whom they blame is faulty; and without faults and losses all
 /// are done.
 pub fn groups_are_accountable()

@@ -14,7 +14,7 @@ use Rattle.phase_message.specs.Slots.{stage_count}
 use Rattle.group_roster.specs.Given.{roster_of}
 use Rattle.group_roster.specs.Roster.{Roster}
 use Rattle.round_spec.specs.Say.{Configuration, shape_in}
-use Rattle.member_core.specs.declared.config.Config.{Config}
+use Rattle.member_parts.specs.declared.config.Config.{Config}
 use Rattle.member_core.specs.Stands.{configuration_of}
 use Rattle.round_script.specs.declared.fault.Fault.{Fault}
 use Rattle.group_spec.specs.Driver.{MemberShown, group_end, shown_of}

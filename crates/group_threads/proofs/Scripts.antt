@@ -11,7 +11,6 @@ use Rattle.bulk_descriptor.specs.declared.making.TheConstants.{MESSAGE_LIMIT}
 use Rattle.phase_message.specs.declared.stage.Slot.{Slot}
 use Rattle.group_roster.specs.Given.{roster_of}
 use Rattle.group_roster.specs.Roster.{Roster}
-use Rattle.member_core.specs.declared.config.Config.{Config}
 use Rattle.round_script.specs.declared.fault.Fault.{Fault}
 use Rattle.round_script.specs.declared.script.Script.{Script}
 use Rattle.round_script.specs.Script.{IsMessage, IsRepeat, IsScript}
@@ -20,6 +19,7 @@ use Rattle.group_spec.specs.Driver.{group_end}
 use Rattle.group_spec.specs.World.{Seat}
 use Rattle.group_threads.specs.Given.{IsGroup, seat_of, seats_of}
 use Rattle.group_threads.specs.Scripted.{Entrance, entrance_of, leaves_of, script_entrance, script_secret, spare_of}
+use Rattle.member_parts.specs.declared.config.Config.{Config}
 
 -- ---- lists
 

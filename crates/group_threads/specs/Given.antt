@@ -4,7 +4,7 @@ use Rattle.std.specs.List.{range_with_len}
 use Rattle.lms_tree.specs.States.{RunState}
 use Rattle.bulk_descriptor.specs.declared.making.TheConstants.{MESSAGE_LIMIT}
 use Rattle.group_roster.specs.Given.{roster_of}
-use Rattle.member_core.specs.declared.config.Config.{Config}
+use Rattle.member_parts.specs.declared.config.Config.{Config}
 use Rattle.member_core.specs.Stands.{configuration_of}
 use Rattle.round_script.specs.declared.fault.Fault.{Fault}
 use Rattle.group_spec.specs.Driver.{MemberShown}

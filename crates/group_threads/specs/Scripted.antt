@@ -5,9 +5,9 @@ use Rattle.wire_core.specs.Hash.{hash_of}
 use Rattle.lms_tree.specs.States.{RunState, SecretState}
 use Rattle.group_roster.specs.Given.{roster_of}
 use Rattle.group_roster.specs.Roster.{Roster}
-use Rattle.member_core.specs.declared.config.Config.{Config}
 use Rattle.round_script.specs.declared.script.Script.{Script}
 use Rattle.group_spec.specs.Scripts.{LEAVES, script_key}
+use Rattle.member_parts.specs.declared.config.Config.{Config}
 
 -- what a member enters a round with, without its leaves
 pub record Entrance : Type 0 where

@@ -1,14 +1,15 @@
 -- What each call on a key file makes sure of, for all that happens to the file over time.
-use Rattle.std.proofs.Common.{◌≡◌, ℕ, ◌+◌, ◌<◌, ◌≤◌, Bool, false, List, Option, Some, None, IfSome, Result, Ok, take, refl, sym, ap, ◌∙◌, subst, arith}
+use Rattle.std.proofs.Common.{◌≡◌, ℕ, ◌+◌, ◌<◌, ◌≤◌, List, Option, Some, None, IfSome, Result, Ok, take, refl, sym, ap, ◌∙◌, subst, arith}
 use Rattle.std.specs.Prelude.{IsSome}
-use Rattle.lms_tree.specs.States.{RunState, SecretState, made_leaves}
 use Rattle.key_store.specs.declared.layout.Standing.{Standing}
 use Rattle.key_store.specs.declared.layout.KeyContent.{KeyContent}
 use Rattle.crash_disk.specs.Disk.{Every, LeavesOf, LeavesOnly}
-use Rattle.key_store.specs.Crashes.{IsMidway, IsPaired, IsRise, Keeps, KeepsFront}
+use Rattle.key_store.specs.Crashes.{IsMidway, IsPaired, Keeps, KeepsFront}
 use Rattle.key_store.specs.History.{Handed, IsCall, IsKept, IsRaised, raised_to}
-use Rattle.key_store.specs.KeyFiles.{IsAtRest, chosen, key_read, parts_in}
-use Rattle.key_store.specs.Store.{IsCurrent, KeyState}
+use Rattle.key_store.specs.KeyFiles.{IsAtRest, key_read}
+use Rattle.key_store.specs.Store.{begun_by, handed_when}
+use Rattle.crash_disk.specs.declared.disk.DiskAnswer.{DiskAnswer}
+use Rattle.crash_disk.specs.declared.disk.DiskAnswer.TheVariants.{Done, Failed}
 use Rattle.key_store.proofs.Begun.{keeps_itself, rest_keeps}
 use Rattle.crash_disk.proofs.Moments.{started}
 
@@ -120,33 +121,24 @@ module _ {D : Type 0} (told : D → Option (List ℕ)) (may_leave : D → List �
       rests = rest_keeps (told new) (may_leave new) now (raised_to content raised) rest
           (keeps_itself (raised_to content raised) now read paired)
 
--- the leaves that were reserved
-pub handed_is : (round n : ℕ) (run : RunState) (secret : SecretState) (content : KeyContent)
-    → run ≡ record { parts = secret.parts; first = secret.next; left = n }
-    → secret ≡ record { parts = parts_in content; next = content.kept.next }
-    → ◌≡◌ {A = Handed} record { round = round; first = run.first; leaves = run.left } record
-    { round = round; first = content.kept.next; leaves = n }
-handed_is round n run secret content reserved secret_is =
-    ap (λ (r : RunState). let h : Handed = record { round = round; first = r.first; leaves = r.left } in h) reserved
-    ∙ ap (λ (s : SecretState). let h : Handed = record { round = round; first = s.next; leaves = n } in h) secret_is
-
--- a disk at rest as the key file last saw it
-pub rest_seen : (told : Option (List ℕ)) (images : List ℕ → Type 0) (key : KeyState) (image : List ℕ) (secret : SecretState) (failed : Bool)
-    → ◌≡◌ {A = KeyState} record { parts = secret.parts; image = image; failed = failed } key → failed ≡ false → IsCurrent key told images
-    → IsAtRest told images image
-rest_seen told images key image secret failed view works current =
-    subst (IsAtRest told images) (sym (ap (λ (k : KeyState). k.image) view)) (current (sym (ap (λ (k : KeyState). k.failed) view) ∙ works))
-
--- a round that may begin, where its slots are paired
-pub rises : (content : KeyContent) (image : List ℕ) (at total round n : ℕ) → total ≡ made_leaves content.height → at ≡ chosen total image
-    → key_read image ≡ Ok content
-    → content.kept.round < round → content.kept.next + n ≤ made_leaves content.height → 0 < n → IsPaired image
-    → IsRise content image at round (content.kept.next + n)
-rises content image at total round n found chose read later enough some paired = record {
-  read = read;
-  paired = paired;
-  place = chose ∙ ap (λ (m : ℕ). chosen m image) found;
-  later = later;
-  higher = omega arith;
-  enough = enough;
-}
+  -- a raise that is answered
+  pub raise_used : (old new : D) (image now : List ℕ) (at : ℕ) (content : KeyContent) (round n : ℕ) (answer : DiskAnswer)
+      → IsAtRest (told old) (may_leave old) image → key_read image ≡ Ok content → content.kept.round < round
+      → (IsSome (told old) → IsSome (told new))
+      → (IsPaired image → LeavesOf moment left_since (told old) old new (IsMidway content at))
+      → (answer ≡ Done → IsAtRest (told new) (may_leave new) now) → (answer ≡ Done → key_read now ≡ Ok (begun_by content round n))
+      → (answer ≡ Done → IsPaired image → IsPaired now)
+      → IfSome (told old) (λ _. IsSome (told new) × IsCall may_leave moment left_since old new (handed_when answer content round n))
+  raise_used old new image now at content round n answer rest read later still run rests says pairs =
+      if_told (told old) (λ file e. (
+        still (is_told (told old) file e),
+        λ least keeps. raise_keeps old new image file at content least (handed_when answer content round n) e rest read run keeps
+            (by_answer least (still (is_told (told old) file e)) answer refl),
+      ))
+    where
+      by_answer : (least : KeyContent) → IsSome (told new) → (given : DiskAnswer) → answer ≡ given → IsPaired image → Says least content
+          → IfSome (handed_when given content round n) (λ h. IsRaised least h (may_leave new))
+      by_answer least some Done is paired said =
+          raise_hands new now content least record { round = round; first = content.kept.next; leaves = n } round n some
+          (rests is) (says is) (pairs is paired) later refl said
+      by_answer least some Failed is paired said = tt

@@ -5,7 +5,7 @@ use Rattle.std.proofs.lemmas.List.{get_or-take, length-take, take_at, take_more,
 use Rattle.crash_disk.specs.Disk.{Elapses, ImagesTear, IsTorn, LeavesOf, Only, Tears, Writes, overwritten}
 use Rattle.key_store.specs.KeyFiles.{IsAtRest, IsClosing, Mirrors, closed}
 use Rattle.crash_disk.proofs.Moments.{goes_on, started, torn_nowhere, torn_only, weaker}
-use Rattle.crash_disk.proofs.Overwrites.{overwritten_torn, length-overwritten, take-overwritten}
+use Rattle.crash_disk.proofs.Overwrites.{overwritten_torn, take-overwritten}
 
 -- the file is as long as the image
 pub mirror_length : (file image : List ℕ) → take 128 file ≡ image → length image ≡ 128 → 128 ≤ length file

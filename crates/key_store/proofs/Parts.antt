@@ -1,10 +1,9 @@
 -- Parts of files of which some bytes are overwritten.
-use Rattle.std.proofs.Common.{◌≡◌, ℕ, ◌+◌, ◌-◌, ◌≤◌, ◌⊎◌, List, [], ◌∷◌, ◌++◌, length, take, drop, slice_index, refl, sym, ap, ◌∙◌, arith, append_assoc, inl, inr}
-use Rattle.std.proofs.lemmas.List.{drop_at, drop-drop, drop-take, get_or-drop, get_or-take, length-take-le, take-append-le, take-take}
-use Rattle.std.proofs.Math.Seq.{drop-append-add}
+use Rattle.std.proofs.Common.{◌≡◌, ℕ, ◌+◌, ◌≤◌, ◌⊎◌, List, [], ◌∷◌, ◌++◌, length, take, drop, slice_index, refl, sym, ap, ◌∙◌, arith, append_assoc, inl, inr}
+use Rattle.std.proofs.lemmas.List.{drop_at, drop-drop, drop-take, get_or-drop, get_or-take, length-take-le, take-append-le}
 use Rattle.crash_disk.specs.Disk.{overwritten}
 use Rattle.key_store.specs.KeyFiles.{part}
-use Rattle.crash_disk.proofs.Overwrites.{drop-after, take-before, front_length}
+use Rattle.crash_disk.proofs.Overwrites.{drop-after, take-before}
 
 -- n bytes from k on have none of the bytes from `at` on
 abbrev pub IsApart : (k n at size : ℕ) → Type 0

@@ -1,5 +1,5 @@
 -- What a crash may leave of a key file, and what all that it may leave keeps.
-use Rattle.std.specs.Prelude.{◌≡◌, ◌≢◌, ◌⊎◌, ℕ, ◌<◌, ◌≤◌, List, take, Ok}
+use Rattle.std.specs.Prelude.{◌≡◌, ◌≢◌, ◌⊎◌, ℕ, ◌<◌, ◌≤◌, List, take, Option, IfSome, IsSomeAnd, Ok}
 use Rattle.lms_tree.specs.States.{made_leaves}
 use Rattle.key_store.specs.declared.layout.Slot.{Slot}
 use Rattle.key_store.specs.declared.layout.Standing.{Standing}
@@ -34,6 +34,17 @@ KeepsFront least image = Keeps least (take 128 image)
 pub record IsMidway (least : KeyContent) (at : ℕ) (file image : List ℕ) : Type 0 where
   pub beside : IsTorn file at 13 image
   pub keeps : KeepsFront least image
+
+-- A file behind a raise for so many leaves that broke off, which said `content`: at most the thirteen bytes of the slot that
+-- was chosen differ; and where its slots were paired, and a leaf was asked for, it is a key file of the same key, with paired
+-- slots, which stands for no less than before.
+pub record IsHalfRaised (content : KeyContent) (leaves : ℕ) (file now : List ℕ) : Type 0 where
+  pub beside : IsTorn file (chosen (made_leaves content.height) (take 128 file)) 13 now
+  pub keeps : 0 < leaves → IsPaired (take 128 file) → KeepsFront content now
+
+-- the same of a disk that tells its file, and goes on to tell it
+abbrev pub LeavesHalfRaised : Option (List ℕ) → Option (List ℕ) → KeyContent → (leaves : ℕ) → Type 0
+LeavesHalfRaised told now content leaves = IfSome told (λ file. IsSomeAnd now (IsHalfRaised content leaves file))
 
 -- a slot may be raised to this round and next leaf: the file was read, its slots are paired, the slot is the chosen one,
 -- and both numbers are greater than those that the file stands for

@@ -1,11 +1,13 @@
 -- A key file as its callers see it, and what its calls answer.
-use Rattle.std.specs.Prelude.{◌≡◌, ℕ, Bool, false, List, take, Option, Some, None, IfSome, Result, Ok, Err, IsOk}
+use Rattle.std.specs.Prelude.{◌≡◌, ℕ, ◌+◌, ◌<◌, ◌≤◌, Bool, false, IsTrue, List, take, Option, Some, None, IfSome, Result, Ok, Err, IsOk}
 use Rattle.lms_tree.specs.Secret.{SecretParts, leaves}
-use Rattle.lms_tree.specs.States.{RunState, SecretState}
+use Rattle.lms_tree.specs.States.{RunState, SecretState, made_leaves}
 use Rattle.key_store.specs.declared.layout.Standing.{Standing}
 use Rattle.key_store.specs.declared.layout.KeyContent.{KeyContent}
 use Rattle.key_store.specs.declared.refusals.StoreRefusal.{StoreRefusal}
 use Rattle.key_store.specs.declared.refusals.StoreRefusal.TheVariants.{DiskFault, NotKeyFile, OldRound, Exhausted, Memory}
+use Rattle.crash_disk.specs.declared.disk.DiskAnswer.{DiskAnswer}
+use Rattle.crash_disk.specs.declared.disk.DiskAnswer.TheVariants.{Done, Failed}
 use Rattle.outside.specs.Faults.{Rose}
 use Rattle.key_store.specs.History.{Handed}
 use Rattle.key_store.specs.KeyFiles.{IsAtRest, key_read, parts_in, stands}
@@ -38,6 +40,28 @@ IsLoaded (Ok content) image key =
     (key ≡ record { parts = parts_in content; image = image; failed = false }) × (kept_by key ≡ content.kept)
 IsLoaded (Err at) image key = ⊥
 
+-- a key file that works, and says this, may begin a round that is greater, and for which enough leaves are left
+pub record MayBegin (key : KeyState) (content : KeyContent) (round leaves : ℕ) : Type 0 where
+  pub works : key.failed ≡ false
+  pub read : key_read key.image ≡ Ok content
+  pub parts : key.parts ≡ parts_in content
+  pub kept : kept_by key ≡ content.kept
+  pub later : content.kept.round < round
+  pub enough : content.kept.next + leaves ≤ made_leaves content.height
+
+-- what it says once the round has begun
+abbrev pub begun_by : KeyContent → (round leaves : ℕ) → KeyContent
+begun_by content round leaves = record content { kept = record { round = round; next = content.kept.next + leaves } }
+
+-- why a round may not begin: the disk failed before; or the round is not greater; or else fewer leaves are left
+abbrev pub RoundRefused : StoreRefusal → KeyState → (round leaves : ℕ) → Type 0
+RoundRefused DiskFault key round leaves = IsTrue key.failed
+RoundRefused (OldRound kept) key round leaves = (key.failed ≡ false) × (kept ≡ (kept_by key).round) × (round ≤ (kept_by key).round)
+RoundRefused (Exhausted next) key round leaves =
+    (key.failed ≡ false) × (next ≡ (kept_by key).next) × ((kept_by key).round < round) × (leaves_of key < (kept_by key).next + leaves)
+RoundRefused Memory key round leaves = ⊥
+RoundRefused (NotKeyFile at) key round leaves = ⊥
+
 -- the disk failed: its count of faults rose
 abbrev pub IsFault : StoreRefusal → (before now : ℕ) → Type 0
 IsFault refusal before now = (refusal ≡ DiskFault) × Rose before now
@@ -62,3 +86,8 @@ FrontRefused (Exhausted next) read = ⊥
 abbrev pub handed_by : (round : ℕ) → Result RunState StoreRefusal → Option Handed
 handed_by round (Ok run) = Some record { round = round; first = run.first; leaves = run.left }
 handed_by round (Err e) = None
+
+-- what the raise of a file that says this hands out
+abbrev pub handed_when : DiskAnswer → KeyContent → (round leaves : ℕ) → Option Handed
+handed_when Done content round leaves = Some record { round = round; first = content.kept.next; leaves = leaves }
+handed_when Failed content round leaves = None

@@ -1,12 +1,16 @@
 //! The steps by which a key file is written: each changes the image in memory and the file alike.
-ghost use Rattle.std.specs.Prelude.{◌≡◌, ℕ, List, IsSome, IfSome, ◌+◌, ◌<◌, ◌≤◌, ◌∷◌, [], length, option_map};
+ghost use Rattle.std.specs.Prelude.{◌≡◌, ℕ, List, IsSome, IfSome, Ok, ◌+◌, ◌<◌, ◌≤◌, ◌∷◌, [], length, option_map};
 ghost use Rattle.outside.specs.Faults.{Rose};
 ghost use Rattle.crash_disk.specs.Disk.{Elapses, IsTorn, LeavesOf, Only, Tears, overwritten};
-ghost use Rattle.key_store.specs.Crashes.{IsMidway, IsRise};
+ghost use Rattle.key_store.specs.Crashes.{IsMidway, IsPaired, IsRise, LeavesHalfRaised};
 ghost use Rattle.crash_disk.specs.Names.{StaysBeside};
 ghost use Rattle.key_store.specs.declared.layout.KeyContent.{KeyContent};
-ghost use Rattle.key_store.specs.KeyFiles.{IsAtRest, IsClosing, IsSlot, closed, numbers, opened, raised, written};
+ghost use Rattle.key_store.specs.KeyFiles.{IsAtRest, IsClosing, IsSlot, chosen, closed, key_read, numbers, opened, raised, written};
+ghost use Rattle.key_store.specs.Store.{begun_by, handed_when};
+ghost use Rattle.key_store.specs.History.{IsCall};
+ghost use Rattle.lms_tree.specs.States.{made_leaves};
 
+use crate::layout::{self, KeyContent};
 use crash_disk::{Disk, DiskAnswer, overwrite};
 
 /// Writes bytes into the image and the file, and syncs.
@@ -104,15 +108,9 @@ pub fn open_gate<D: Disk>(disk: &mut D, image: &mut [u8; 128], at: u32) -> DiskA
     put(disk, image, at, &[1])
 }
 
-/// Raises a slot: closes it, writes its numbers and opens it, each brought onto the disk before the next.
+// Raises a slot: closes it, writes its numbers and opens it, each brought onto the disk before the next.
 #[tactic(auto, unfolding(crate::specs::KeyFiles::raised))]
-pub fn raise<D: Disk>(
-    disk: &mut D,
-    image: &mut [u8; 128],
-    at: u32,
-    round: u64,
-    next: u32,
-) -> DiskAnswer
+fn raise<D: Disk>(disk: &mut D, image: &mut [u8; 128], at: u32, round: u64, next: u32) -> DiskAnswer
     requires slot { IsSlot at }
     requires current { IsAtRest (D.file disk.old) (D.may_leave disk.old) image.old }
     ensures image { result ≡ DiskAnswer.Done → image.new ≡ raised image.old at round next }
@@ -133,6 +131,38 @@ pub fn raise<D: Disk>(
         DiskAnswer::Done => open_gate(disk, image, at),
         DiskAnswer::Failed => DiskAnswer::Failed,
     }
+}
+
+/// Raises the slot that is chosen, in a file that says this, for a round that may begin.
+pub fn raise_for<D: Disk>(
+    disk: &mut D,
+    image: &mut [u8; 128],
+    content: &KeyContent,
+    round: u64,
+    leaves: u32,
+) -> DiskAnswer
+    requires read { key_read image.old ≡ Ok content.now }
+    requires later { content.now.kept.round < round }
+    requires enough { content.now.kept.next + leaves ≤ made_leaves content.now.height }
+    requires current { IsAtRest (D.file disk.old) (D.may_leave disk.old) image.old }
+    ensures raised { result ≡ DiskAnswer.Done → image.new
+        ≡ raised image.old (chosen (made_leaves content.now.height) image.old) round (content.now.kept.next + leaves) }
+    ensures says { result ≡ DiskAnswer.Done → key_read image.new ≡ Ok (begun_by content.now round leaves) }
+    ensures paired { result ≡ DiskAnswer.Done → 0 < leaves → IsPaired image.old → IsPaired image.new }
+    ensures current { result ≡ DiskAnswer.Done → IsAtRest (D.file disk.new) (D.may_leave disk.new) image.new }
+    ensures moments { 0 < leaves → IsPaired image.old → LeavesOf D.moment D.left_since (D.file disk.old) disk.old disk.new
+        (IsMidway content.now (chosen (made_leaves content.now.height) image.old)) }
+    ensures beside_slot { LeavesOf D.moment D.left_since (D.file disk.old) disk.old disk.new
+        (λ file. IsTorn file (chosen (made_leaves content.now.height) image.old) 13) }
+    ensures used { 0 < leaves → IfSome (D.file disk.old) (λ _. IsSome (D.file disk.new)
+        × IsCall D.may_leave D.moment D.left_since disk.old disk.new (handed_when result content.now round leaves)) }
+    ensures torn { LeavesHalfRaised (D.file disk.old) (D.file disk.new) content.now leaves }
+    ensures failed { result ≡ DiskAnswer.Failed → Rose (D.faults disk.old) (D.faults disk.new) }
+    ensures beside { StaysBeside (D.names disk.old) (D.names disk.new) }
+    ensures no_fall { D.faults disk.old ≤ D.faults disk.new }
+{
+    let at = layout::chosen(image, layout::leaves(content.height));
+    raise(disk, image, at, round, content.kept.next + leaves)
 }
 
 // The numbers of a slot, as they are written.

@@ -13,7 +13,7 @@ ghost use Rattle.key_store.specs.Store.{FrontRefused, IsLoaded};
 use crate::front::read_front;
 use crate::layout::{self, KeyContent, Standing, read_key};
 use crate::refusals::StoreRefusal;
-use crate::steps::{put, raise};
+use crate::steps::{put, raise_for};
 use crash_disk::{Disk, DiskAnswer};
 use lms_tree::{LeafRun, LmsPublic, LmsSecret, MadeHeight, OtsType, parts_of_master};
 use std::alloc::Global;
@@ -150,12 +150,12 @@ impl KeyFile {
     ghost use Rattle.lms_tree.specs.Secret.{own_public};
     ghost use Rattle.key_store.specs.declared.layout.KeyContent.{KeyContent};
     ghost use Rattle.key_store.specs.declared.refusals.StoreRefusal.TheVariants.{DiskFault, Exhausted, Memory, NotKeyFile, OldRound};
-    ghost use Rattle.key_store.specs.Crashes.{IsMidway, IsPaired, Keeps, KeepsFront};
+    ghost use Rattle.key_store.specs.Crashes.{IsMidway, IsPaired, Keeps, KeepsFront, LeavesHalfRaised};
     ghost use Rattle.crash_disk.specs.Disk.{Every, IsTorn, LeavesOf, LeavesOnly};
     ghost use Rattle.key_store.specs.History.{IsCall};
     ghost use Rattle.key_store.specs.KeyFiles.{chosen, key_read, raised};
     ghost use Rattle.crash_disk.specs.Names.{StaysBeside};
-    ghost use Rattle.key_store.specs.Store.{IsCurrent, IsFault, IsLoaded, LoadRefused, handed_by, kept_by, leaves_of};
+    ghost use Rattle.key_store.specs.Store.{IsCurrent, IsFault, IsLoaded, LoadRefused, MayBegin, RoundRefused, handed_by, kept_by, leaves_of};
 
     /// Reads a key file. `NotKeyFile` tells the first offset at which its bytes are none; `OldRound` and `Exhausted`
     /// are not answered. The file stays as it is.
@@ -252,31 +252,21 @@ impl KeyFile {
         // It differs in no other place also where no leaf is asked for, and where the slots are not paired.
         ensures beside_slot { self.old.failed ≡ false → LeavesOf D.moment D.left_since (D.file disk.old) disk.old disk.new
             (λ file. IsTorn file (chosen (leaves_of self.old) self.old.image) 13) }
+        // After a fault the file itself is as it was, but for at most that slot, and where its slots were paired it keeps what
+        // it said.
+        ensures torn { self.old.failed ≡ false → result ≡ Err DiskFault → IfOk (key_read self.old.image) (λ content.
+            LeavesHalfRaised (D.file disk.old) (D.file disk.new) content leaves) }
         ensures paired { IfOk result (λ _. 0 < leaves → IsPaired self.old.image → IsPaired self.new.image) }
         // So whatever was handed out before, this is later and behind it, and stays so whenever a crash comes.
         ensures used { 0 < leaves → IfSome (D.file disk.old) (λ _. IsSome (D.file disk.new)
             × IsCall D.may_leave D.moment D.left_since disk.old disk.new (handed_by round result)) }
     {
-        if self.failed {
-            return Err(StoreRefusal::DiskFault);
-        }
-        let Ok(content) = read_key(&self.image) else {
-            unreachable!()
-        };
-        let kept = content.kept;
-        let total = layout::leaves(content.height);
-        if round <= kept.round {
-            return Err(StoreRefusal::OldRound { kept: kept.round });
-        }
-        if leaves > total - kept.next {
-            return Err(StoreRefusal::Exhausted { next: kept.next });
-        }
+        let content = self.content_to_raise(round, leaves)?;
         let run = match self.secret.reserve(alloc, leaves) {
             Ok(run) => run,
             Err(_) => return Err(StoreRefusal::Memory),
         };
-        let at = layout::chosen(&self.image, total);
-        match raise(disk, &mut self.image, at, round, kept.next + leaves) {
+        match raise_for(disk, &mut self.image, &content, round, leaves) {
             DiskAnswer::Done => Ok(run),
             DiskAnswer::Failed => {
                 self.failed = true;
@@ -284,5 +274,26 @@ impl KeyFile {
                 Err(StoreRefusal::DiskFault)
             }
         }
+    }
+
+    // What the file says, where a round may begin for so many leaves.
+    fn content_to_raise(&self, round: u64, leaves: u32) -> Result<KeyContent, StoreRefusal>
+        ensures raisable { IfOk result (λ content. MayBegin self.now content round leaves) }
+        ensures refused { IfErr result (λ e. RoundRefused e self.now round leaves) }
+    {
+        if self.failed {
+            return Err(StoreRefusal::DiskFault);
+        }
+        let Ok(content) = read_key(&self.image) else {
+            unreachable!()
+        };
+        let Standing { round: last, next } = content.kept;
+        if round <= last {
+            return Err(StoreRefusal::OldRound { kept: last });
+        }
+        if leaves > layout::leaves(content.height) - next {
+            return Err(StoreRefusal::Exhausted { next });
+        }
+        Ok(content)
     }
 }

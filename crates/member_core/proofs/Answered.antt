@@ -19,6 +19,7 @@ use Rattle.member_spec.specs.declared.conduct.Speech.TheVariants.{Wait, Silent}
 use Rattle.member_spec.specs.declared.mood.Mood.TheVariants.{Mute, PutOff, Spoken}
 use Rattle.member_spec.specs.Actor.{Actor, actor_behind_answer, actor_behind_question, speech_about}
 use Rattle.member_spec.specs.Replies.{HasSlot, Replies}
+use Rattle.member_parts.specs.Secrets.{no_secrets}
 use Rattle.member_core.specs.declared.machine.Machine.{Machine}
 use Rattle.member_core.specs.Asking.{IsSpeakable, IsToBeAsked, StandsAsked, asked_at}
 use Rattle.member_core.specs.Membership.{holdings_of}
@@ -26,7 +27,8 @@ use Rattle.member_core.specs.Needs.{HoldsNeeded, was_asked}
 use Rattle.member_core.specs.Shorts.{own_limit}
 use Rattle.member_core.specs.Sound.{IsFormed, IsMachineOf, IsReady, IsSound, slot_here}
 use Rattle.member_core.specs.Stands.{AnswersBy, IsOwnOf, StandsFor}
-use Rattle.member_core.proofs.Posting.{entered-asked, mute-needed, mute-ready, muted, round-shape, shows-open, silent-here}
+use Rattle.member_core.proofs.Changes.{entry-with, formed-bare, formed-mood, no-secrets-of, ready-mood}
+use Rattle.member_core.proofs.Posting.{mute-needed, mute-ready, muted, round-shape, shows-open, silent-here}
 
 -- ---- the question
 
@@ -56,7 +58,7 @@ speech-is now start c a m bytes f r s = elim (cases_lt 0 m.stage) [
   | inl behind ↦
       let past = some_of (before m.log m.stage) r.past in
       let first = some_is (before m.log 1) _ (before-front m.log 1 m.stage past.0 behind past.1) in
-      let shape = round-shape c m f (entered-asked c (holdings_of m) Spoken s.entered) in
+      let shape = round-shape c m f s.entered in
       let said : past_of m.log m.stage ≡ contents_of a.stand.past = ap (λ (o : Option (List Post)). contents_of (unwrap_or o [])) s.at.past
       in
       let told = asked-told now start c (past_of m.log 1) (was_asked m.stage Spoken 1) s.conduct (lt-ltb 1 (m.stage + 1) (omega arith)) in
@@ -97,51 +99,15 @@ question-so now start c a m n bytes speech f r told s behind =
 abbrev pub put_off : Machine → List ℕ → Machine
 put_off m bytes = record m { mood = PutOff bytes }
 
-pub put_off-formed : (m : Machine) (bytes : List ℕ) → IsFormed m → IsFormed (put_off m bytes)
-put_off-formed m bytes f =
-    let e : IsMachineOf f.entered.0 m = f.entered.1 in
-    record {
-      entered = (
-        f.entered.0,
-        record {
-          roster = e.roster;
-          seat = e.seat;
-          message = e.message;
-          secrets = e.secrets;
-          hidden = e.hidden;
-          hidden_short = e.hidden_short;
-          pad = e.pad;
-        },
-      );
-      message = f.message;
-      log = f.log;
-      shape = f.shape;
-      stand = f.stand;
-      short = f.short;
-      stray = f.stray;
-      leaves = f.leaves;
-      handed = f.handed;
-    }
-
 pub put_off-sound : (m : Machine) (bytes : List ℕ) → IsFormed m → IsReady m → IsSpeakable m → HasSlot (slot_here m) bytes
     → length bytes ≤ own_limit (kind_of_stage m.log.shape m.stage) → IsSound (put_off m bytes)
 put_off-sound m bytes f r able slot short =
     let n : HoldsNeeded (asked_at (holdings_of m) Spoken) = able.needed in
     let silent = silent-here m r able.to_be_asked in
     record {
-      formed = put_off-formed m bytes f;
-      ready = λ still. record {
-        stage = r.stage;
-        past = r.past;
-        seen = r.seen;
-        keys = r.keys;
-        opened = r.opened;
-        slots = r.slots;
-        keys_behind = r.keys_behind;
-        opened_behind = r.opened_behind;
-        slots_behind = r.slots_behind;
-        mood = (silent.empty, silent.stray, record { speaks = able.to_be_asked.speaks; slot = slot; short = short });
-      };
+      formed = formed-mood m (PutOff bytes) f;
+      ready = λ still. ready-mood m (PutOff bytes)
+          (silent.empty, silent.stray, record { speaks = able.to_be_asked.speaks; slot = slot; short = short }) r;
       needed = record { first = n.first; bulk = n.bulk; second = n.second };
     }
 
@@ -150,19 +116,9 @@ pub put_off-stands : (now start : Replies) (c : Configuration) (a : Actor) (m : 
     (holdings_of (put_off m bytes))
 put_off-stands now start c a m bytes asked s =
     let made_own : IsOwnOf start c (asked_at (holdings_of m) Spoken) = s.own in
-    let entered = s.entered in
     record {
       can_enter = s.can_enter;
-      entered = record {
-        roster = entered.roster;
-        number = entered.number;
-        round = entered.round;
-        message = entered.message;
-        key =
-            entered.key;
-        next = entered.next;
-        secrets = entered.secrets;
-      };
+      entered = s.entered;
       at = record {
         log = s.at.log;
         stage = s.at.stage;
@@ -177,35 +133,9 @@ put_off-stands now start c a m bytes asked s =
 
 -- ---- where nothing is said
 
-pub muted-formed : (m : Machine) → IsFormed m → IsFormed (muted m)
-muted-formed m f =
-    let e : IsMachineOf f.entered.0 m = f.entered.1 in
-    record {
-      entered = (
-        f.entered.0,
-        record {
-          roster = e.roster;
-          seat = e.seat;
-          message = e.message;
-          secrets = record { first = tt; bulk = tt; second = tt };
-          hidden = e.hidden;
-          hidden_short = e.hidden_short;
-          pad = e.pad;
-        },
-      );
-      message = f.message;
-      log = f.log;
-      shape = f.shape;
-      stand = f.stand;
-      short = f.short;
-      stray = f.stray;
-      leaves = f.leaves;
-      handed = f.handed;
-    }
-
 pub muted-sound : (m : Machine) → IsFormed m → IsReady m → IsToBeAsked m → IsSound (muted m)
 muted-sound m f r asked = record {
-  formed = muted-formed m f;
+  formed = formed-bare m Mute m.ending f;
   ready = λ still. mute-ready m m.leaves m.stray r asked;
   needed = mute-needed (holdings_of (muted m)) refl refl;
 }
@@ -214,18 +144,9 @@ pub muted-stands : (now start : Replies) (c : Configuration) (a : Actor) (m : Ma
     → StandsAsked now start c a (holdings_of m)
     → StandsFor now start c (actor_behind_answer c a Silent) (holdings_of (muted m))
 muted-stands now start c a m asked s =
-    let entered = s.entered in
     record {
       can_enter = s.can_enter;
-      entered = record {
-        roster = entered.roster;
-        number = entered.number;
-        round = entered.round;
-        message = entered.message;
-        key = entered.key;
-        next = entered.next;
-        secrets = record { first = tt; bulk = tt; second = tt };
-      };
+      entered = entry-with c (holdings_of m) no_secrets s.entered (no-secrets-of c);
       at = record {
         log = s.at.log;
         stage = s.at.stage;

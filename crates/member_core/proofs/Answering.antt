@@ -11,10 +11,10 @@ use Rattle.member_spec.specs.declared.taken.Taken.TheVariants.{Evidence, Finishe
 use Rattle.member_spec.specs.Actor.{Actor}
 use Rattle.member_spec.specs.Outcomes.{members_missing, outcome_of}
 use Rattle.member_spec.specs.Taking.{LeavesAll, answer_by_end}
-use Rattle.member_core.specs.declared.ending.Ending.{Ending}
-use Rattle.member_core.specs.declared.ending.Ending.TheVariants.{Blamed, Done, Open, Stopped}
+use Rattle.member_parts.specs.declared.ending.Ending.{Ending}
+use Rattle.member_parts.specs.declared.ending.Ending.TheVariants.{Blamed, Done, Open, Stopped}
+use Rattle.member_parts.specs.Endings.{HasBlamed, IsOpen, IsRunning}
 use Rattle.member_core.specs.Found.{TellsEnding, answer_behind}
-use Rattle.member_core.specs.Membership.{HasBlamed, IsOpen, IsRunning}
 use Rattle.member_core.specs.Stands.{ShowsOutcome}
 
 -- an open round runs

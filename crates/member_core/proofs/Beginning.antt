@@ -29,13 +29,13 @@ use Rattle.member_spec.specs.declared.mood.Mood.TheVariants.{Unasked}
 use Rattle.member_spec.specs.Actor.{first_actor}
 use Rattle.member_spec.specs.Replies.{Replies}
 use Rattle.member_spec.proofs.Moves.{filter-none}
-use Rattle.member_core.specs.declared.config.Config.{Config}
-use Rattle.member_core.specs.declared.ending.Ending.TheVariants.{Open}
+use Rattle.member_parts.specs.declared.config.Config.{Config}
+use Rattle.member_parts.specs.declared.ending.Ending.TheVariants.{Open}
+use Rattle.member_parts.specs.declared.own.Own.{Own}
+use Rattle.member_parts.specs.declared.secrets.Secrets.{Secrets}
+use Rattle.member_parts.specs.Secrets.{AreAll, AreSecretsOf}
 use Rattle.member_core.specs.declared.machine.Machine.{Machine}
-use Rattle.member_core.specs.declared.own.Own.{Own}
-use Rattle.member_core.specs.declared.secrets.Secrets.{Secrets}
 use Rattle.member_core.specs.Membership.{holdings_of, own_posts_kept}
-use Rattle.member_core.specs.Needs.{AreAll, AreSecretsOf}
 use Rattle.member_core.specs.Sound.{IsSound}
 use Rattle.member_core.specs.Stands.{StandsFor, configuration_of}
 use Rattle.member_core.proofs.Belonging.{no-pad}

@@ -9,13 +9,16 @@ use Rattle.member_spec.specs.declared.mood.Mood.{Mood}
 use Rattle.member_spec.specs.declared.mood.Mood.TheVariants.{Unasked, Spoken}
 use Rattle.member_spec.specs.Actor.{Actor}
 use Rattle.member_spec.specs.Replies.{Replies}
+use Rattle.member_parts.specs.declared.own.Own.{Own}
+use Rattle.member_parts.specs.declared.secrets.Secrets.{Secrets}
+use Rattle.member_parts.specs.Endings.{is_going}
+use Rattle.member_parts.specs.Secrets.{AreSecretsOf, without_bulk, without_shuffle}
 use Rattle.member_core.specs.declared.machine.Machine.{Machine}
-use Rattle.member_core.specs.declared.own.Own.{Own}
-use Rattle.member_core.specs.declared.secrets.Secrets.{Secrets}
 use Rattle.member_core.specs.Asking.{IsToBeAsked, StandsAsked, asked_at}
 use Rattle.member_core.specs.Membership.{holdings_of}
-use Rattle.member_core.specs.Needs.{AreSecretsOf, HoldsNeeded, is_going, is_mute, needs, was_asked, without_bulk, without_shuffle}
+use Rattle.member_core.specs.Needs.{HoldsNeeded, is_mute, needs, was_asked}
 use Rattle.member_core.specs.Stands.{AnswersBy, GoesOn, IsOwnOf, KeepsOwn, StandsFor}
+use Rattle.member_core.proofs.Changes.{entry-with}
 
 -- ---- what it was asked about
 
@@ -118,15 +121,7 @@ pub asked-with : (now after start : Replies) (c : Configuration) (a : Actor) (m 
     → StandsAsked after start c a (holdings_of (record m { secrets = secrets; own = own }))
 asked-with now after start c a m secrets own stands are answers keeps = record {
   can_enter = stands.can_enter;
-  entered = record {
-    roster = stands.entered.roster;
-    number = stands.entered.number;
-    round = stands.entered.round;
-    message = stands.entered.message;
-    key = stands.entered.key;
-    next = stands.entered.next;
-    secrets = are;
-  };
+  entered = entry-with c (holdings_of m) secrets stands.entered are;
   at = record {
     log = stands.at.log;
     stage = stands.at.stage;

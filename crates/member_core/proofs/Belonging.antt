@@ -27,15 +27,17 @@ use Rattle.honest_say.specs.Seats.{IsSeatOf}
 use Rattle.honest_say.specs.Stays.{AreReached}
 use Rattle.honest_say.proofs.Staying.{keys_stay}
 use Rattle.closing_verdict.specs.Carried.{AreItemsOf, AreKeysOf, AreSlotsOf, CarriesOpened, CarriesSlots, stage_found, stage_opened}
+use Rattle.member_parts.specs.declared.ending.Ending.{Ending}
+use Rattle.member_parts.specs.declared.ending.Ending.TheVariants.{Open, Done, Blamed, Stopped}
+use Rattle.member_parts.specs.declared.own.Own.{Own}
+use Rattle.member_parts.specs.declared.secrets.Secrets.{Secrets}
+use Rattle.member_parts.specs.Endings.{IsOpen, is_going}
+use Rattle.member_parts.specs.Secrets.{AreSecretsOf, shuffle_secrets}
 use Rattle.member_core.specs.declared.machine.Machine.{Machine}
-use Rattle.member_core.specs.declared.own.Own.{Own}
-use Rattle.member_core.specs.declared.secrets.Secrets.{Secrets}
 use Rattle.member_spec.specs.declared.mood.Mood.{Mood}
-use Rattle.member_core.specs.declared.ending.Ending.{Ending}
-use Rattle.member_core.specs.declared.ending.Ending.TheVariants.{Open, Done, Blamed, Stopped}
 use Rattle.member_core.specs.Asking.{IsToBeAsked}
-use Rattle.member_core.specs.Membership.{IsOpen, holdings_of}
-use Rattle.member_core.specs.Needs.{AreSecretsOf, HoldsNeeded, is_going, is_mute, needs, shuffle_secrets, was_asked}
+use Rattle.member_core.specs.Membership.{holdings_of}
+use Rattle.member_core.specs.Needs.{HoldsNeeded, is_mute, needs, was_asked}
 use Rattle.member_core.specs.Sound.{CarriesKeys, IsFormed, IsMachineOf}
 use Rattle.member_core.specs.Stands.{HasEntered}
 
@@ -73,22 +75,6 @@ of-group m formed =
       first = m.seat.least;
       last = omega (arith, members, m.seat.most);
     }
-
--- with other secrets and with other that it made of its own
-pub formed-with : (m : Machine) (secrets : Secrets) (own : Own) → IsFormed m → (c : Configuration)
-    × IsMachineOf c (record m { secrets = secrets; own = own })
-    → IsFormed (record m { secrets = secrets; own = own })
-formed-with m secrets own formed entered = record {
-  entered = entered;
-  message = formed.message;
-  log = formed.log;
-  shape = formed.shape;
-  stand = formed.stand;
-  short = formed.short;
-  leaves = formed.leaves;
-  handed = formed.handed;
-  stray = formed.stray;
-}
 
 -- a pad that is not made yet is that of no message
 pub no-pad : (seeds : List (List ℕ)) (number : ℕ) → (let none : List ℕ = [] in own_pad seeds number none ≡ none)

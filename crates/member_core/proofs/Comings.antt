@@ -26,9 +26,10 @@ use Rattle.member_spec.specs.Replies.{Replies}
 use Rattle.member_spec.specs.Taking.{answer_by_end, answer_to, idle_answer, is_content, LeavesAll}
 use Rattle.member_spec.proofs.Hearing.{contradiction-empty, contradiction-full, fault-inside, fault-of}
 use Rattle.member_spec.proofs.Idle.{ended-delivery, nothing-delivered, open-delivery}
-use Rattle.member_core.specs.declared.taking.Found.{Found}
-use Rattle.member_core.specs.declared.taking.Found.TheVariants.{New, Same as Kept, Other, Malformed}
-use Rattle.member_core.specs.Found.{IsOfAnother, found_beside, found_of}
+use Rattle.member_parts.specs.declared.finding.Found.{Found}
+use Rattle.member_parts.specs.declared.finding.Found.TheVariants.{New, Same as Kept, Other, Malformed}
+use Rattle.member_parts.specs.Finding.{found_beside, found_of}
+use Rattle.member_core.specs.Found.{IsOfAnother}
 
 -- a delivery leads a member to another, and is answered so
 pub record ComesTo (replies : Replies) (c : Configuration) (a : Actor) (bytes : List ℕ) (b : Actor) (taken : Taken) : Type 0 where

@@ -19,10 +19,11 @@ use Rattle.member_spec.specs.Outcomes.{members_missing, outcome_of}
 use Rattle.member_spec.specs.Replies.{Replies}
 use Rattle.member_spec.specs.Taking.{answer_to}
 use Rattle.member_spec.proofs.Idle.{ended-delivery}
-use Rattle.member_core.specs.declared.ending.Ending.{Ending}
-use Rattle.member_core.specs.declared.ending.Ending.TheVariants.{Open, Done, Blamed, Stopped}
+use Rattle.member_parts.specs.declared.ending.Ending.{Ending}
+use Rattle.member_parts.specs.declared.ending.Ending.TheVariants.{Open, Done, Blamed, Stopped}
+use Rattle.member_parts.specs.Endings.{HasEnded, IsOpen, IsOutOfMemory, IsRunning}
 use Rattle.member_core.specs.Found.{TakesAs}
-use Rattle.member_core.specs.Membership.{HasEnded, IsOpen, IsOutOfMemory, IsRunning, Membership}
+use Rattle.member_core.specs.Membership.{Membership}
 use Rattle.member_core.specs.Stands.{ShowsOutcome, Stands, StandsFor}
 
 -- ---- what has ended the round

@@ -20,14 +20,16 @@ use Rattle.member_spec.specs.declared.mood.Mood.{Mood}
 use Rattle.member_spec.specs.declared.mood.Mood.TheVariants.{Mute, PutOff, Spoken, Unasked}
 use Rattle.member_spec.specs.Actor.{Actor, content_to_say, descriptor_made}
 use Rattle.member_spec.specs.Replies.{Replies}
+use Rattle.member_parts.specs.declared.own.Own.{Own}
+use Rattle.member_parts.specs.declared.secrets.Secrets.{Secrets}
+use Rattle.member_parts.specs.Endings.{is_going}
 use Rattle.member_core.specs.declared.machine.Machine.{Machine}
-use Rattle.member_core.specs.declared.own.Own.{Own}
-use Rattle.member_core.specs.declared.secrets.Secrets.{Secrets}
 use Rattle.member_core.specs.Asking.{IsDue, IsPlainKind, IsToBeAsked, StandsAsked, asked_at, content_here}
 use Rattle.member_core.specs.Membership.{holdings_of}
-use Rattle.member_core.specs.Needs.{HoldsNeeded, is_going, is_mute, needs, was_asked}
+use Rattle.member_core.specs.Needs.{HoldsNeeded, is_mute, needs, was_asked}
 use Rattle.member_core.specs.Sound.{IsFormed, IsMoodOf, IsReady}
 use Rattle.member_core.specs.Stands.{AnswersBy, GoesOn, IsOwnOf, KeepsOwn, StandsFor}
+use Rattle.member_core.proofs.Changes.{ready-else}
 use Rattle.member_core.proofs.Belonging.{past-is, seat-of, shape-is}
 use Rattle.member_core.proofs.Posting.{shows-open}
 use Rattle.member_core.proofs.StageKinds.{IsPlaced, kind-place}
@@ -142,19 +144,9 @@ needed-plain m n asked apart = record {
 pub stands-plain : (now start : Replies) (c : Configuration) (a : Actor) (m : Machine) → IsToBeAsked m → IsApart m.log.shape m.stage
     → StandsFor now start c a (holdings_of m) → StandsAsked now start c a (holdings_of m)
 stands-plain now start c a m asked apart s =
-    let entered = s.entered in
     record {
       can_enter = s.can_enter;
-      entered = record {
-        roster = entered.roster;
-        number = entered.number;
-        round = entered.round;
-        message = entered.message;
-        key =
-            entered.key;
-        next = entered.next;
-        secrets = entered.secrets;
-      };
+      entered = s.entered;
       at = record {
         log = s.at.log;
         stage = s.at.stage;
@@ -203,25 +195,8 @@ content-form m header body f same form fits =
 -- ---- a member that is left with other secrets, and what it made of its own
 
 pub ready-left : (m n : Machine) → n ≡ record m { secrets = n.secrets; own = n.own } → IsReady m → IsReady n
-ready-left m n e r = subst IsReady (sym e) (record {
-  stage = r.stage;
-  past = r.past;
-  seen = r.seen;
-  keys = r.keys;
-  opened = r.opened;
-  slots = r.slots;
-  keys_behind = r.keys_behind;
-  opened_behind = r.opened_behind;
-  slots_behind = r.slots_behind;
-  mood = mood-left m n.secrets n.own m.mood r.mood;
-})
-  where
-    mood-left : (m : Machine) (secrets : Secrets) (own : Own) (mood : Mood) → IsMoodOf m mood
-        → IsMoodOf (record m { secrets = secrets; own = own }) mood
-    mood-left m secrets own Unasked is = is
-    mood-left m secrets own (PutOff bytes) is = (is.0, is.1, record { speaks = is.2.speaks; slot = is.2.slot; short = is.2.short })
-    mood-left m secrets own Spoken is = is
-    mood-left m secrets own Mute is = is
+ready-left m n e r =
+    subst IsReady (sym e) (ready-else m m.leaves m.stray m.handed n.secrets n.own m.mood r.mood r)
 
 pub asked-left : (m n : Machine) → n ≡ record m { secrets = n.secrets; own = n.own } → IsToBeAsked m → IsToBeAsked n
 asked-left m n e asked = subst IsToBeAsked (sym e) (record { going = asked.going; speaks = asked.speaks; unasked = asked.unasked })

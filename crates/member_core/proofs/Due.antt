@@ -27,10 +27,10 @@ use Rattle.honest_say.specs.declared.secrets.ShuffleSecrets.{ShuffleSecrets}
 use Rattle.honest_say.proofs.PastLemmas.{posts-are}
 use Rattle.member_spec.specs.Actor.{Actor, descriptor_made}
 use Rattle.member_spec.specs.Replies.{Replies}
+use Rattle.member_parts.specs.Secrets.{AreSecretsOf}
 use Rattle.member_core.specs.declared.machine.Machine.{Machine}
 use Rattle.member_core.specs.Asking.{IsDue, IsToBeAsked}
 use Rattle.member_core.specs.Membership.{holdings_of}
-use Rattle.member_core.specs.Needs.{AreSecretsOf}
 use Rattle.member_core.specs.Sound.{IsFormed, IsMachineOf, IsReady}
 use Rattle.member_core.specs.Stands.{StandsFor}
 use Rattle.member_core.proofs.Belonging.{IsOfGroup, of-group, past-is, seat-of, shape-is}

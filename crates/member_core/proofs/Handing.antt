@@ -16,15 +16,17 @@ use Rattle.member_spec.specs.declared.mood.Mood.{Mood}
 use Rattle.member_spec.specs.declared.mood.Mood.TheVariants.{Unasked, PutOff, Spoken, Mute}
 use Rattle.member_spec.specs.Actor.{Actor}
 use Rattle.member_spec.specs.Replies.{IsPlain, Replies}
-use Rattle.member_core.specs.declared.ending.Ending.{Ending}
-use Rattle.member_core.specs.declared.ending.Ending.TheVariants.{Open, Done, Blamed, Stopped}
+use Rattle.member_parts.specs.declared.ending.Ending.{Ending}
+use Rattle.member_parts.specs.declared.ending.Ending.TheVariants.{Open, Done, Blamed, Stopped}
+use Rattle.member_parts.specs.Endings.{IsOutOfMemory, IsRunning}
 use Rattle.member_core.specs.declared.machine.Machine.{Machine}
 use Rattle.member_core.specs.Concluding.{machine_ended}
-use Rattle.member_core.specs.Membership.{Holdings, IsOutOfMemory, IsRunning, Membership, handed_next, holdings_of, own_posts_kept, posts_made}
+use Rattle.member_core.specs.Membership.{Holdings, Membership, handed_next, holdings_of, own_posts_kept, posts_made}
 use Rattle.member_core.specs.Needs.{HoldsNeeded}
 use Rattle.member_core.specs.Promises.{IsPlainMember}
 use Rattle.member_core.specs.Sound.{IsFormed, IsMachineOf, IsMoodOf, IsReady, IsSound}
 use Rattle.member_core.specs.Stands.{GoesOn, KeepsOwn, Stands, StandsFor}
+use Rattle.member_core.proofs.Changes.{formed-bare, ready-else}
 use Rattle.member_core.proofs.Promised.{posts-said}
 use Rattle.member_core.proofs.Shown.{plain-made}
 
@@ -72,37 +74,6 @@ handed-small m post formed e =
 abbrev pub with_handed : Machine → ℕ → Machine
 with_handed m n = record m { handed = n }
 
-mood-handed : (m : Machine) (n : ℕ) (mood : Mood) → IsMoodOf m mood → IsMoodOf (with_handed m n) mood
-mood-handed m n Unasked is = is
-mood-handed m n (PutOff bytes) is = (is.0, is.1, record { speaks = is.2.speaks; slot = is.2.slot; short = is.2.short })
-mood-handed m n Spoken is = is
-mood-handed m n Mute is = is
-
-machine-handed : (c : Configuration) (m : Machine) (n : ℕ) → IsMachineOf c m → IsMachineOf c (with_handed m n)
-machine-handed c m n is = record {
-  roster = is.roster;
-  seat = is.seat;
-  message = is.message;
-  secrets = is.secrets;
-  hidden = is.hidden;
-  hidden_short = is.hidden_short;
-  pad = is.pad;
-}
-
-ready-handed : (m : Machine) (n : ℕ) → IsReady m → IsReady (with_handed m n)
-ready-handed m n is = record {
-  stage = is.stage;
-  past = is.past;
-  seen = is.seen;
-  keys = is.keys;
-  opened = is.opened;
-  slots = is.slots;
-  keys_behind = is.keys_behind;
-  opened_behind = is.opened_behind;
-  slots_behind = is.slots_behind;
-  mood = mood-handed m n m.mood is.mood;
-}
-
 pub needed-handed : (h : Holdings) (n : ℕ) → HoldsNeeded h → HoldsNeeded (record h { handed = n })
 needed-handed h n is = record { first = is.first; bulk = is.bulk; second = is.second }
 
@@ -111,7 +82,7 @@ pub handed-sound : (m : Machine) (post : Post) → IsSound m → slice_get (post
 handed-sound m post is e =
     let f = is.formed in record {
       formed = record {
-        entered = (f.entered.0, machine-handed f.entered.0 m (m.handed + 1) f.entered.1);
+        entered = f.entered;
         message = f.message;
         log = f.log;
         shape = f.shape;
@@ -121,35 +92,14 @@ handed-sound m post is e =
         handed = (let lt = slice_get_within (posts_made (holdings_of m)) m.handed post e in omega (arith, lt));
         stray = f.stray;
       };
-      ready = λ going. ready-handed m (m.handed + 1) (is.ready going);
+      ready = λ going. (let r = is.ready going in ready-else m m.leaves m.stray (m.handed + 1) m.secrets m.own m.mood r.mood r);
       needed = needed-handed (holdings_of m) (m.handed + 1) is.needed;
     }
 
 -- a member that is stopped
-machine-stopped : (c : Configuration) (m : Machine) → IsMachineOf c m → IsMachineOf c (machine_ended m Stopped)
-machine-stopped c m is = record {
-  roster = is.roster;
-  seat = is.seat;
-  message = is.message;
-  secrets = record { first = tt; bulk = tt; second = tt };
-  hidden = is.hidden;
-  hidden_short = is.hidden_short;
-  pad = is.pad;
-}
-
 pub stopped-sound : (m : Machine) → IsFormed m → IsSound (machine_ended m Stopped)
 stopped-sound m f = record {
-  formed = record {
-    entered = (f.entered.0, machine-stopped f.entered.0 m f.entered.1);
-    message = f.message;
-    log = f.log;
-    shape = f.shape;
-    stand = f.stand;
-    short = f.short;
-    leaves = f.leaves;
-    handed = f.handed;
-    stray = f.stray;
-  };
+  formed = formed-bare m m.mood Stopped f;
   ready = λ going. absurd going;
   needed = record { first = refl; bulk = refl; second = refl };
 }
@@ -174,15 +124,7 @@ for-handed : (now start : Replies) (c : Configuration) (a : Actor) (h : Holdings
     → StandsFor now start c a (record h { handed = n })
 for-handed now start c a h n is = record {
   can_enter = is.can_enter;
-  entered = record {
-    roster = is.entered.roster;
-    number = is.entered.number;
-    round = is.entered.round;
-    message = is.entered.message;
-    key = is.entered.key;
-    next = is.entered.next;
-    secrets = is.entered.secrets;
-  };
+  entered = is.entered;
   at = record {
     log = is.at.log;
     stage = is.at.stage;

@@ -43,20 +43,24 @@ use Rattle.member_spec.specs.Outcomes.{outcome_of}
 use Rattle.member_spec.specs.Replies.{Replies}
 use Rattle.member_spec.specs.Taking.{LeavesAll, answer_by_end, answer_to}
 use Rattle.member_spec.proofs.Idle.{idle_leaves_all}
-use Rattle.member_core.specs.declared.ending.Ending.{Ending}
-use Rattle.member_core.specs.declared.ending.Ending.TheVariants.{Blamed}
+use Rattle.member_parts.specs.declared.ending.Ending.{Ending}
+use Rattle.member_parts.specs.declared.ending.Ending.TheVariants.{Blamed}
+use Rattle.member_parts.specs.declared.finding.Found.{Found}
+use Rattle.member_parts.specs.declared.finding.Found.TheVariants.{Malformed, New, Other, Same as Kept}
+use Rattle.member_parts.specs.Endings.{IsOpen, IsRunning}
+use Rattle.member_parts.specs.Secrets.{no_secrets}
+use Rattle.member_parts.specs.Finding.{found_of, verdict_shown}
 use Rattle.member_core.specs.declared.machine.Machine.{Machine}
-use Rattle.member_core.specs.declared.taking.Found.{Found}
-use Rattle.member_core.specs.declared.taking.Found.TheVariants.{Malformed, New, Other, Same as Kept}
 use Rattle.member_core.specs.Concluding.{machine_ended}
-use Rattle.member_core.specs.Found.{BlamesBy, IsOfAnother, IsStorable, TakesAs, answer_behind, found_in, found_of, verdict_shown}
-use Rattle.member_core.specs.Membership.{Holdings, IsOpen, IsRunning, holdings_of}
+use Rattle.member_core.specs.Found.{BlamesBy, IsOfAnother, IsStorable, TakesAs, answer_behind, found_in}
+use Rattle.member_core.specs.Membership.{Holdings, holdings_of}
 use Rattle.member_core.specs.Sound.{IsFormed, IsMachineOf, IsSound}
 use Rattle.member_core.specs.Stands.{GoesOn, IsOwnOf, KeepsOwn, ShowsOutcome, StandsFor}
 use Rattle.member_core.proofs.Answering.{answer-same}
 use Rattle.member_core.proofs.Belonging.{seat-of}
 use Rattle.member_core.proofs.Comings.{ComesTo, IsNew, found-new, found-other, malformed-comes, new-comes, other-comes, own-comes, refused-comes, same-comes, unframed-comes}
-use Rattle.member_core.proofs.Passing.{needed-ended, no-secrets-of}
+use Rattle.member_core.proofs.Changes.{entry-with, formed-bare, no-secrets-of}
+use Rattle.member_core.proofs.Passing.{needed-ended}
 use Rattle.member_core.proofs.Saying.{ok-read}
 use Rattle.member_core.proofs.Shown.{goes-on}
 
@@ -288,31 +292,7 @@ blame-comes now start c delivered m bytes header post found kind f going is told
 
 -- the code that has ended so
 pub formed-ended : (m : Machine) (ending : Ending) → IsFormed m → IsFormed (machine_ended m ending)
-formed-ended m ending f =
-    let e : IsMachineOf f.entered.0 m = f.entered.1 in
-    record {
-      entered = (
-        f.entered.0,
-        record {
-          roster = e.roster;
-          seat = e.seat;
-          message = e.message;
-          secrets = no-secrets-of f.entered.0;
-          hidden =
-              e.hidden;
-          hidden_short = e.hidden_short;
-          pad = e.pad;
-        },
-      );
-      message = f.message;
-      log = f.log;
-      shape = f.shape;
-      stand = f.stand;
-      short = f.short;
-      leaves = f.leaves;
-      handed = f.handed;
-      stray = f.stray;
-    }
+formed-ended m ending f = formed-bare m m.mood ending f
 
 pub sound-blamed : (m : Machine) (shown : Conviction) → IsFormed m → IsSound (machine_ended m (Blamed shown))
 sound-blamed m shown f = record {
@@ -332,15 +312,7 @@ stands-blamed : (now start : Replies) (c : Configuration) (a : Actor) (m : Machi
     → StandsFor now start c (record a { ending = verdict }) (holdings_of (machine_ended m (Blamed shown)))
 stands-blamed now start c a m verdict shown told s = record {
   can_enter = s.can_enter;
-  entered = record {
-    roster = s.entered.roster;
-    number = s.entered.number;
-    round = s.entered.round;
-    message = s.entered.message;
-    key = s.entered.key;
-    next = s.entered.next;
-    secrets = no-secrets-of c;
-  };
+  entered = entry-with c (holdings_of m) no_secrets s.entered (no-secrets-of c);
   at = record {
     log = s.at.log;
     stage = s.at.stage;

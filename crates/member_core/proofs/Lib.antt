@@ -31,3 +31,4 @@ pub mod TurnSteps
 mod Submitted
 pub mod Beginning
 pub mod Advancing
+pub mod Changes

@@ -29,14 +29,16 @@ use Rattle.member_spec.specs.Actor.{Actor, actor_behind_stage, actor_behind_step
 use Rattle.member_spec.specs.Outcomes.{members_missing, outcome_of}
 use Rattle.member_spec.specs.Replies.{Replies}
 use Rattle.member_spec.proofs.Steps.{open-step, posts-within}
-use Rattle.member_core.specs.declared.ending.Ending.{Ending}
-use Rattle.member_core.specs.declared.ending.Ending.TheVariants.{Open, Done as EndingDone, Blamed}
+use Rattle.member_parts.specs.declared.ending.Ending.{Ending}
+use Rattle.member_parts.specs.declared.ending.Ending.TheVariants.{Open, Done as EndingDone, Blamed}
+use Rattle.member_parts.specs.declared.secrets.Secrets.{Secrets}
+use Rattle.member_parts.specs.Secrets.{AreSecretsOf}
 use Rattle.member_core.specs.declared.machine.Machine.{Machine}
-use Rattle.member_core.specs.declared.secrets.Secrets.{Secrets}
 use Rattle.member_core.specs.Membership.{Holdings, completed_of, holdings_of}
-use Rattle.member_core.specs.Needs.{AreSecretsOf, was_asked}
+use Rattle.member_core.specs.Needs.{was_asked}
 use Rattle.member_core.specs.Sound.{IsFormed, IsReady}
 use Rattle.member_core.specs.Stands.{AnswersBy, GoesOn, HasEntered, IsAt, IsOwnOf, KeepsOwn, ShowsOutcome, StandsFor}
+use Rattle.member_core.proofs.Changes.{entry-with}
 use Rattle.member_core.proofs.Belonging.{IsOfGroup, of-group}
 use Rattle.member_core.proofs.Passing.{asked-behind, machine_past, spoken-or-silent}
 
@@ -107,15 +109,7 @@ pub stands-past : (m : Machine) (keys : Option GroupKeys) (seen : Seen) (secrets
 unfolding stand_behind
 stands-past m keys seen secrets opened slots ending formed ready there left now start c a posts is next shows = record {
   can_enter = is.can_enter;
-  entered = record {
-    roster = is.entered.roster;
-    number = is.entered.number;
-    round = is.entered.round;
-    message = is.entered.message;
-    key = is.entered.key;
-    next = is.entered.next;
-    secrets = left c is.entered.secrets;
-  };
+  entered = entry-with c (holdings_of m) secrets is.entered (left c is.entered.secrets);
   at = record {
     log = is.at.log;
     stage = ap (λ (n : ℕ). n + 1) is.at.stage;

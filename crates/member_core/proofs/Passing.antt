@@ -24,13 +24,16 @@ use Rattle.honest_say.proofs.StageLemmas.{final-slot, submit-slot}
 use Rattle.closing_verdict.specs.Carried.{CarriesOpened, CarriesSlots, stage_found, stage_opened}
 use Rattle.member_spec.specs.declared.mood.Mood.{Mood}
 use Rattle.member_spec.specs.declared.mood.Mood.TheVariants.{Unasked, PutOff, Spoken, Mute}
-use Rattle.member_core.specs.declared.ending.Ending.{Ending}
+use Rattle.member_parts.specs.declared.ending.Ending.{Ending}
+use Rattle.member_parts.specs.declared.secrets.Secrets.{Secrets}
+use Rattle.member_parts.specs.Endings.{is_going}
+use Rattle.member_parts.specs.Secrets.{AreSecretsOf, no_secrets}
 use Rattle.member_core.specs.declared.machine.Machine.{Machine}
-use Rattle.member_core.specs.declared.secrets.Secrets.{Secrets}
 use Rattle.member_core.specs.Membership.{holdings_of}
-use Rattle.member_core.specs.Needs.{AreSecretsOf, HoldsNeeded, is_going, is_mute, needs, no_secrets, was_asked}
+use Rattle.member_core.specs.Needs.{HoldsNeeded, is_mute, needs, was_asked}
 use Rattle.member_core.specs.Sound.{CarriesKeys, IsEmptyFrom, IsFormed, IsMoodOf, IsReady}
 use Rattle.member_core.proofs.Belonging.{IsOfGroup, of-group}
+use Rattle.member_core.proofs.Changes.{formed-else, held-with}
 
 -- ---- the posts
 
@@ -135,28 +138,10 @@ pub formed-past : (m : Machine) (keys : Option GroupKeys) (seen : Seen) (secrets
     (slots : Option Slots)
     (ending : Ending) → IsFormed m → ((c : Configuration) → AreSecretsOf c m.secrets → AreSecretsOf c secrets)
     → IsFormed (machine_past m keys seen secrets opened slots ending)
-formed-past m keys seen secrets opened slots ending formed left = record {
-  entered = (
-    formed.entered.0,
-    record {
-      roster = formed.entered.1.roster;
-      seat = formed.entered.1.seat;
-      message = formed.entered.1.message;
-      secrets = left formed.entered.0 formed.entered.1.secrets;
-      hidden = formed.entered.1.hidden;
-      hidden_short = formed.entered.1.hidden_short;
-      pad = formed.entered.1.pad;
-    },
-  );
-  message = formed.message;
-  log = formed.log;
-  shape = formed.shape;
-  stand = formed.stand;
-  short = formed.short;
-  leaves = formed.leaves;
-  handed = formed.handed;
-  stray = formed.stray;
-}
+formed-past m keys seen secrets opened slots ending formed left =
+    let c : Configuration = formed.entered.0 in
+    formed-else m secrets m.own seen (m.stage + 1) Unasked keys opened slots ending
+    (c, held-with c m secrets formed.entered.1 (left c formed.entered.1.secrets)) formed
 
 -- what it is to carry, where the round goes on
 pub record AreCarried (m : Machine) (keys : Option GroupKeys) (seen : Seen) (opened : Option (Vec (Option (List ℕ)) Global))
@@ -231,7 +216,3 @@ needed-ended m ended none = record {
   second = ap (λ (s : Secrets). is_some s.second) none
       ∙ none-needed (is_going m.ending) (is_mute m.mood) (was_asked m.stage m.mood (final_stage m.log.shape 2)) ended;
 }
-
--- what is not held is of nobody
-pub no-secrets-of : (c : Configuration) → AreSecretsOf c no_secrets
-no-secrets-of c = record { first = tt; bulk = tt; second = tt }

@@ -40,17 +40,20 @@ use Rattle.member_spec.specs.declared.mood.Mood.TheVariants.{Mute, Spoken, Unask
 use Rattle.member_spec.specs.Actor.{Actor, actor_behind_post, descriptor_made}
 use Rattle.member_spec.specs.Outcomes.{outcome_of}
 use Rattle.member_spec.specs.Replies.{KeepsSlot, Replies}
-use Rattle.member_core.specs.declared.ending.Ending.{Ending}
-use Rattle.member_core.specs.declared.ending.Ending.TheVariants.{Blamed, Done, Open, Stopped}
+use Rattle.member_parts.specs.declared.ending.Ending.{Ending}
+use Rattle.member_parts.specs.declared.ending.Ending.TheVariants.{Blamed, Done, Open, Stopped}
+use Rattle.member_parts.specs.declared.secrets.Secrets.{Secrets}
+use Rattle.member_parts.specs.Endings.{IsOpen, is_going}
+use Rattle.member_parts.specs.Secrets.{no_secrets}
 use Rattle.member_core.specs.declared.machine.Machine.{Machine}
-use Rattle.member_core.specs.declared.secrets.Secrets.{Secrets}
 use Rattle.member_core.specs.Asking.{IsSpeakable, IsToBeAsked, StandsAsked, asked_at}
 use Rattle.member_core.specs.Found.{IsOthers}
-use Rattle.member_core.specs.Membership.{Holdings, IsOpen, holdings_of, own_posts_kept, posts_made}
-use Rattle.member_core.specs.Needs.{HoldsNeeded, is_going, no_secrets, was_asked}
+use Rattle.member_core.specs.Membership.{Holdings, holdings_of, own_posts_kept, posts_made}
+use Rattle.member_core.specs.Needs.{HoldsNeeded, was_asked}
 use Rattle.member_core.specs.Shorts.{IsShortLog, most_in, own_limit}
 use Rattle.member_core.specs.Sound.{IsEmptyFrom, IsFormed, IsMachineOf, IsMoodOf, IsReady, IsSound, slot_here}
 use Rattle.member_core.specs.Stands.{HasEntered, IsOwnOf, ShowsOutcome, StandsFor}
+use Rattle.member_core.proofs.Changes.{entry-said, held-with, leaf_spent, no-secrets-of, ready-else}
 use Rattle.member_core.proofs.OwnPosts.{fewer-said, kept-cases, one-more, own-elsewhere, own-here, said-before}
 use Rattle.member_core.proofs.Saying.{filled-stands, ok-read, put-fills, read-kept, read-stands}
 use Rattle.member_core.proofs.Storing.{answers-stay, asked-within, before-stays, keys-stay, open-shown, opened-stay, past-stays, posts-stay, shown-open, slots-stay, some-mapped}
@@ -90,10 +93,6 @@ leaf-left m f r asked =
     omega (arith, fewer, made, twelve)
 
 -- ---- the post
-
--- the leaves behind a signature
-abbrev pub leaf_spent : RunState → RunState
-leaf_spent leaves = record { parts = leaves.parts; first = leaves.first + 1; left = leaves.left - 1 }
 
 -- a post is signed with the next leaf of a member, and its content is not too long
 pub record IsSigned (m : Machine) (post : Post) : Type 0 where
@@ -204,22 +203,10 @@ pub posted-formed : (m : Machine) (post : Post) → IsFormed m → IsReady m →
 posted-formed m post f r asked signed own =
     let silent = silent-here m r asked in
     let left = leaf-left m f r asked in
-    let e : IsMachineOf f.entered.0 m = f.entered.1 in
     let made = ap length (posted-made m post f asked silent) in
     let longer = length-append (posts_made (holdings_of m)) (post ∷ []) in
     record {
-      entered = (
-        f.entered.0,
-        record {
-          roster = e.roster;
-          seat = e.seat;
-          message = e.message;
-          secrets = e.secrets;
-          hidden = e.hidden;
-          hidden_short = e.hidden_short;
-          pad = e.pad;
-        },
-      );
+      entered = f.entered;
       message = f.message;
       log = filled-is_log m.log (slot_here m) post f.log own.kept;
       shape = f.shape;
@@ -281,22 +268,10 @@ pub strayed-formed : (m : Machine) (post : Post) → IsFormed m → IsReady m �
 strayed-formed m post f r asked signed =
     let silent = silent-here m r asked in
     let left = leaf-left m f r asked in
-    let e : IsMachineOf f.entered.0 m = f.entered.1 in
     let made = ap length (strayed-made m post silent) in
     let longer = length-append (posts_made (holdings_of m)) (post ∷ []) in
     record {
-      entered = (
-        f.entered.0,
-        record {
-          roster = e.roster;
-          seat = e.seat;
-          message = e.message;
-          secrets = record { first = tt; bulk = tt; second = tt };
-          hidden = e.hidden;
-          hidden_short = e.hidden_short;
-          pad = e.pad;
-        },
-      );
+      entered = (f.entered.0, held-with f.entered.0 m no_secrets f.entered.1 (no-secrets-of f.entered.0));
       message = f.message;
       log = f.log;
       shape = f.shape;
@@ -316,18 +291,8 @@ muted m = record m { secrets = no_secrets; mood = Mute }
 -- it carries what it did
 pub mute-ready : (m : Machine) (leaves : RunState) (stray : Option Post) → IsReady m → IsToBeAsked m
     → IsReady (record m { leaves = leaves; stray = stray; secrets = no_secrets; mood = Mute })
-mute-ready m leaves stray r asked = record {
-  stage = r.stage;
-  past = r.past;
-  seen = r.seen;
-  keys = r.keys;
-  opened = r.opened;
-  slots = r.slots;
-  keys_behind = r.keys_behind;
-  opened_behind = r.opened_behind;
-  slots_behind = r.slots_behind;
-  mood = ((silent-here m r asked).empty, asked.speaks);
-}
+mute-ready m leaves stray r asked =
+    ready-else m leaves stray m.handed no_secrets m.own Mute ((silent-here m r asked).empty, asked.speaks) r
 
 and-none : (b : Bool) → false ≡ (b && false)
 and-none true = refl
@@ -358,18 +323,6 @@ pub round-shape : (c : Configuration) (m : Machine) → IsFormed m → HasEntere
 round-shape c m f entered =
     let e : IsMachineOf f.entered.0 m = f.entered.1 in
     f.shape ∙ e.seat.shape ∙ ap (λ (roster : Roster). shape_of_roster roster) (sym e.roster ∙ entered.roster)
-
--- what it entered with does not hang on its mood
-pub entered-asked : (c : Configuration) (h : Holdings) (mood : Mood) → HasEntered c (asked_at h mood) → HasEntered c h
-entered-asked c h mood e = record {
-  roster = e.roster;
-  number = e.number;
-  round = e.round;
-  message = e.message;
-  key = e.key;
-  next = e.next;
-  secrets = e.secrets;
-}
 
 -- it has used as many leaves as it has spoken before
 leaf-is : (c : Configuration) (m : Machine) → IsFormed m → IsReady m → IsToBeAsked m → HasEntered c (holdings_of m)
@@ -409,16 +362,7 @@ pub posted-stands : (now start : Replies) (c : Configuration) (a : Actor) (m : M
 posted-stands now start c a m post f r asked signed reads s =
     subst (λ (x : Actor). StandsFor now start c x (holdings_of (posted m post))) (sym behind) (record {
       can_enter = s.can_enter;
-      entered = record {
-        roster = s.entered.roster;
-        number = s.entered.number;
-        round = s.entered.round;
-        message = s.entered.message;
-        key = s.entered.key;
-        next = (let used = s.entered.next in let longer = length-append (posts_made (holdings_of m)) (post ∷ []) in let more = ap length
-            made in omega (arith, used, longer, more));
-        secrets = s.entered.secrets;
-      };
+      entered = entry-said c (holdings_of m) post _ m.secrets made s.entered s.entered.secrets;
       at = record {
         log = log_is;
         stage = s.at.stage;
@@ -454,7 +398,7 @@ posted-stands now start c a m post f r asked signed reads s =
     made_own = s.own
 
     same : post ≡ signed_at c a.stand.at post.content
-    same = post-is c a m post f r asked signed (entered-asked c (holdings_of m) Spoken s.entered) s.at.stage
+    same = post-is c a m post f r asked signed s.entered s.at.stage
 
     made : posts_made (holdings_of (posted m post)) ≡ posts_made (holdings_of m) ++ post ∷ []
     made = posted-made m post f asked silent
@@ -469,7 +413,7 @@ posted-stands now start c a m post f r asked signed reads s =
     behind : actor_behind_post c a (signed_at c a.stand.at post.content) ≡ next
     behind = cond-true (is_ok (content_read (shape_in c) post.content)) _ _
         (ap (λ (shape : Shape). is_ok (content_read shape post.content))
-        (sym (round-shape c m f (entered-asked c (holdings_of m) Spoken s.entered))) ∙ reads)
+        (sym (round-shape c m f s.entered)) ∙ reads)
 
     log_is : log ≡ filled a.log (record { stage = a.stand.at; sender = c.number }) (signed_at c a.stand.at post.content)
     log_is = ap (λ (l : Log). filled l (slot_here m) post) s.at.log
@@ -489,23 +433,14 @@ pub strayed-stands : (now start : Replies) (c : Configuration) (a : Actor) (m : 
 strayed-stands now start c a m post f r asked signed outside s =
     subst (λ (x : Actor). StandsFor now start c x (holdings_of (strayed m post))) (sym behind) (record {
       can_enter = s.can_enter;
-      entered = record {
-        roster = s.entered.roster;
-        number = s.entered.number;
-        round = s.entered.round;
-        message = s.entered.message;
-        key = s.entered.key;
-        next = (let used = s.entered.next in let longer = length-append (posts_made (holdings_of m)) (post ∷ []) in let more = ap length
-            made in omega (arith, used, longer, more));
-        secrets = record { first = tt; bulk = tt; second = tt };
-      };
+      entered = entry-said c (holdings_of m) post _ no_secrets made s.entered (no-secrets-of c);
       at = record {
         log = s.at.log;
         stage = s.at.stage;
         past = s.at.past;
         mood = refl;
         made = made ∙ ap (λ (posts : List Post). posts ++ post ∷ []) s.at.made
-            ∙ ap (λ (p : Post). a.made ++ p ∷ []) (post-is c a m post f r asked signed (entered-asked c (holdings_of m) Spoken s.entered)
+            ∙ ap (λ (p : Post). a.made ++ p ∷ []) (post-is c a m post f r asked signed s.entered
             s.at.stage);
         ending = shows-open c a next m.ending asked.going refl s.at.ending;
       };
@@ -522,7 +457,7 @@ strayed-stands now start c a m post f r asked signed outside s =
     behind : actor_behind_post c a (signed_at c a.stand.at post.content) ≡ next
     behind = cond-false (is_ok (content_read (shape_in c) post.content)) _ _
         (ap (λ (shape : Shape). is_ok (content_read shape post.content))
-        (sym (round-shape c m f (entered-asked c (holdings_of m) Spoken s.entered))) ∙ outside)
+        (sym (round-shape c m f s.entered)) ∙ outside)
 
 -- ---- as the code holds it
 

@@ -8,42 +8,18 @@ use Rattle.member_spec.specs.declared.mood.Mood.{Mood}
 use Rattle.member_spec.specs.declared.mood.Mood.TheVariants.{Unasked, PutOff, Spoken, Mute}
 use Rattle.member_spec.specs.Actor.{Actor, actor_behind_repeat}
 use Rattle.member_spec.specs.Replies.{Replies}
+use Rattle.member_parts.specs.Endings.{IsOpen, is_going}
 use Rattle.member_core.specs.declared.machine.Machine.{Machine}
 use Rattle.member_core.specs.Asking.{IsSpeakable, StandsAsked, asked_at}
-use Rattle.member_core.specs.Membership.{Holdings, IsOpen, holdings_of}
-use Rattle.member_core.specs.Needs.{HoldsNeeded, is_going, is_mute, needs, was_asked}
+use Rattle.member_core.specs.Membership.{Holdings, holdings_of}
+use Rattle.member_core.specs.Needs.{HoldsNeeded, is_mute, needs, was_asked}
 use Rattle.member_core.specs.Sound.{IsFormed, IsMachineOf, IsMoodOf, IsPutOff, IsReady}
 use Rattle.member_core.specs.Stands.{AnswersBy, GoesOn, IsOwnOf, KeepsOwn, StandsFor}
+use Rattle.member_core.proofs.Changes.{ready-mood}
 
 -- a member in another mood
 abbrev pub with_mood : Machine → Mood → Machine
 with_mood m mood = record m { mood = mood }
-
-pub formed-mood : (m : Machine) (mood : Mood) → IsFormed m → IsFormed (with_mood m mood)
-formed-mood m mood f =
-    let e : IsMachineOf f.entered.0 m = f.entered.1 in
-    record {
-      entered = (
-        f.entered.0,
-        record {
-          roster = e.roster;
-          seat = e.seat;
-          message = e.message;
-          secrets = e.secrets;
-          hidden = e.hidden;
-          hidden_short = e.hidden_short;
-          pad = e.pad;
-        },
-      );
-      message = f.message;
-      log = f.log;
-      shape = f.shape;
-      stand = f.stand;
-      short = f.short;
-      leaves = f.leaves;
-      handed = f.handed;
-      stray = f.stray;
-    }
 
 -- ---- what was put off
 
@@ -53,23 +29,10 @@ mood-put-off m bytes e r = subst (λ (mood : Mood). IsMoodOf m mood) e r.mood
 pub ready-unasked : (m : Machine) (bytes : List ℕ) → m.mood ≡ PutOff bytes → IsReady m → IsReady (with_mood m Unasked)
 ready-unasked m bytes e r =
     let is = mood-put-off m bytes e r in
-    record {
-      stage = r.stage;
-      past = r.past;
-      seen = r.seen;
-      keys = r.keys;
-      opened = r.opened;
-      slots = r.slots;
-      keys_behind = r.keys_behind;
-      opened_behind = r.opened_behind;
-      slots_behind = r.slots_behind;
-      mood = (is.0, is.1);
-    }
+    ready-mood m Unasked (is.0, is.1) r
 
 pub question-again : (m : Machine) (bytes : List ℕ) → m.mood ≡ PutOff bytes → IsReady m → IsPutOff (with_mood m Unasked) bytes
-question-again m bytes e r =
-    let is = mood-put-off m bytes e r in
-    record { speaks = is.2.speaks; slot = is.2.slot; short = is.2.short }
+question-again m bytes e r = (mood-put-off m bytes e r).2
 
 -- a member that was asked needs the same secrets, whether it has put off or spoken
 needs-asked : (h : Holdings) (bytes : List ℕ) (stage : ℕ) → h.mood ≡ PutOff bytes → needs h stage ≡ needs (asked_at h Spoken) stage
@@ -96,15 +59,7 @@ pub stands-again : (now start : Replies) (c : Configuration) (a : Actor) (h : Ho
     → StandsAsked now start c a (asked_at h Unasked)
 stands-again now start c a h bytes e s = record {
   can_enter = s.can_enter;
-  entered = record {
-    roster = s.entered.roster;
-    number = s.entered.number;
-    round = s.entered.round;
-    message = s.entered.message;
-    key = s.entered.key;
-    next = s.entered.next;
-    secrets = s.entered.secrets;
-  };
+  entered = s.entered;
   at = record { log = s.at.log; stage = s.at.stage; past = s.at.past; mood = refl; made = s.at.made; ending = s.at.ending };
   conduct = subst (λ (mood : Mood). AnswersBy now start c (past_of h.log 1) (was_asked h.stage mood 1)) e
       (subst (λ (mood : Mood). GoesOn now start c h mood) e s.conduct);

@@ -16,9 +16,10 @@ use Rattle.member_spec.specs.Plain.{ComesTo}
 use Rattle.member_spec.specs.Replies.{IsPlain, Replies}
 use Rattle.member_spec.proofs.PlainLaws.{plain_comes_to_result}
 use Rattle.member_spec.proofs.Standing.{open_stand_at_first}
-use Rattle.member_core.specs.declared.ending.Ending.{Ending}
-use Rattle.member_core.specs.declared.ending.Ending.TheVariants.{Open, Done, Blamed, Stopped}
-use Rattle.member_core.specs.Membership.{Holdings, IsOpen, Membership, evidence_held, posts_made, slots_held, state_by}
+use Rattle.member_parts.specs.declared.ending.Ending.{Ending}
+use Rattle.member_parts.specs.declared.ending.Ending.TheVariants.{Open, Done, Blamed, Stopped}
+use Rattle.member_parts.specs.Endings.{IsOpen, evidence_held, slots_held}
+use Rattle.member_core.specs.Membership.{Holdings, Membership, posts_made, state_by}
 use Rattle.member_core.specs.Stands.{IsAt, ShowsOutcome, Stands}
 
 -- ---- open

@@ -1,6 +1,6 @@
 -- A post of another member that is kept: what is true of a member stays true.
 use Rattle.std.proofs.Common.{◌≡◌, ℕ, zero, suc, ◌+◌, ◌*◌, ◌^◌, ◌<◌, ◌≤◌, Bool, true, false, List, [], ◌∷◌, length, Option, Some, None, ap, sym, ◌∙◌, refl, subst, arith, inl, inr}
-use Rattle.std.specs.Prelude.{◌++◌, IsSome, ◌==◌, unwrap_or, if◌then◌else◌}
+use Rattle.std.specs.Prelude.{◌++◌, IfSome, IsSome, ◌==◌, unwrap_or, if◌then◌else◌}
 use Rattle.std.specs.List.{slice_get, slice_set}
 use Rattle.std.specs.Option.{option_flatten, option_map, option_to_list}
 use Rattle.std.proofs.lemmas.Bool.{cases_Bool, cond-false, cond-true, ltb-true}
@@ -39,11 +39,12 @@ use Rattle.member_spec.specs.Actor.{Actor, descriptor_made}
 use Rattle.member_spec.specs.Outcomes.{members_missing, outcome_of}
 use Rattle.member_spec.specs.Replies.{Replies}
 use Rattle.member_spec.proofs.Moves.{filter-in}
-use Rattle.member_core.specs.declared.ending.Ending.{Ending}
-use Rattle.member_core.specs.declared.ending.Ending.TheVariants.{Blamed, Done, Open, Stopped}
+use Rattle.member_parts.specs.declared.ending.Ending.{Ending}
+use Rattle.member_parts.specs.declared.ending.Ending.TheVariants.{Blamed, Done, Open, Stopped}
+use Rattle.member_parts.specs.Endings.{IsOpen}
 use Rattle.member_core.specs.declared.machine.Machine.{Machine}
 use Rattle.member_core.specs.Found.{IsOthers, IsStorable}
-use Rattle.member_core.specs.Membership.{Holdings, IsOpen, holdings_of, own_posts_kept, posts_made}
+use Rattle.member_core.specs.Membership.{Holdings, holdings_of, own_posts_kept, posts_made}
 use Rattle.member_core.specs.Needs.{HoldsNeeded, stages_behind, was_asked}
 use Rattle.member_core.specs.Shorts.{IsShortLog, most_in, own_limit}
 use Rattle.member_core.specs.Sound.{CarriesKeys, IsFormed, IsMachineOf, IsMoodOf, IsReady, IsSound}
@@ -165,6 +166,16 @@ kept-short number log slot post short e =
     let below = most-below log.shape number slot.stage slot.sender in
     omega (arith, most, below)
 
+if-kept : (o : Option Post) (P : Post → Type 0) → ((post : Post) → o ≡ Some post → P post) → IfSome o P
+if-kept None P each = tt
+if-kept (Some post) P each = each post refl
+
+-- so it can be of the post of a slot, if one is kept there
+pub short-there : (number : ℕ) (log : Log) (slot : Slot) → IsShortLog number log
+    → IfSome (kept_in log slot) (λ (post : Post). length (post_spelling post) < 2 ^ 32)
+short-there number log slot short = if-kept (kept_in log slot) (λ (post : Post). length (post_spelling post) < 2 ^ 32)
+    (λ post e. kept-short number log slot post short e)
+
 short-stays : (log : Log) (number : ℕ) (slot : Slot) (post : Post) → length (post_spelling post) ≤ POST_LIMIT → IsShortLog number log
     → IsShortLog number (filled log slot post)
 short-stays log number slot post small short stage sender kept e = elim
@@ -189,21 +200,9 @@ posts-made h slot post is = ap (λ (posts : List Post). posts ++ option_to_list 
 
 pub formed-stays : (m : Machine) (slot : Slot) (post : Post) → IsStorable m slot post → IsFormed m → IsFormed (with_post m slot post)
 formed-stays m slot post s f =
-    let e : IsMachineOf f.entered.0 m = f.entered.1 in
     let made = ap length (posts-made (holdings_of m) slot post s.others) in
     record {
-      entered = (
-        f.entered.0,
-        record {
-          roster = e.roster;
-          seat = e.seat;
-          message = e.message;
-          secrets = e.secrets;
-          hidden = e.hidden;
-          hidden_short = e.hidden_short;
-          pad = e.pad;
-        },
-      );
+      entered = f.entered;
       message = f.message;
       log = filled-is_log m.log slot post f.log s.kept;
       shape = f.shape;
@@ -249,7 +248,7 @@ mood-stays m slot post (PutOff bytes) is e = (
   λ later le. own-stays m.log m.seat.number slot post later is
       ∙ e.0 later le,
   e.1,
-  record { speaks = e.2.speaks; slot = e.2.slot; short = e.2.short },
+  e.2,
 )
 mood-stays m slot post Spoken is e = (
   λ later le. own-stays m.log m.seat.number slot post later is

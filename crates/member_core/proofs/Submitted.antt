@@ -16,14 +16,16 @@ use Rattle.honest_say.specs.Seats.{IsSeatOf}
 use Rattle.member_spec.specs.declared.mood.Mood.TheVariants.{Spoken}
 use Rattle.member_spec.specs.Actor.{Actor, descriptor_made}
 use Rattle.member_spec.specs.Replies.{Replies}
+use Rattle.member_parts.specs.declared.own.Own.{Own}
+use Rattle.member_parts.specs.Secrets.{AreSecretsOf, without_bulk}
 use Rattle.member_core.specs.declared.machine.Machine.{Machine}
-use Rattle.member_core.specs.declared.own.Own.{Own}
 use Rattle.member_core.specs.Asking.{IsDue, IsToBeAsked, StandsAsked}
 use Rattle.member_core.specs.Membership.{holdings_of}
-use Rattle.member_core.specs.Needs.{AreSecretsOf, was_asked, without_bulk}
+use Rattle.member_core.specs.Needs.{was_asked}
 use Rattle.member_core.specs.Sound.{IsFormed, IsMachineOf}
 use Rattle.member_core.specs.Stands.{AnswersBy, GoesOn, IsOwnOf, StandsFor}
-use Rattle.member_core.proofs.Belonging.{formed-with, seat-of, shape-is}
+use Rattle.member_core.proofs.Changes.{formed-with, held-with}
+use Rattle.member_core.proofs.Belonging.{seat-of, shape-is}
 use Rattle.member_core.proofs.BeingAsked.{asked-here, asked-same, asked-with, goes-on_as, secrets-bulk}
 use Rattle.member_core.proofs.Due.{past-heard, plain-due}
 use Rattle.member_core.proofs.RowForms.{item_size, submission-fits}
@@ -148,18 +150,8 @@ pub formed-second : (m : Machine) (inner : List ℕ) → IsFormed m
 formed-second m inner formed =
     let c : Configuration = formed.entered.0 in
     let its : IsMachineOf c m = formed.entered.1 in
-    formed-with m (without_bulk m.secrets) (record m.own { inner_ciphertext = inner }) formed (
-      c,
-      record {
-        roster = its.roster;
-        seat = its.seat;
-        message = its.message;
-        secrets = secrets-bulk c m.secrets its.secrets;
-        hidden = its.hidden;
-        hidden_short = its.hidden_short;
-        pad = its.pad;
-      },
-    )
+    formed-with m (without_bulk m.secrets) (record m.own { inner_ciphertext = inner }) formed
+    (c, held-with c m (without_bulk m.secrets) its (secrets-bulk c m.secrets its.secrets))
 
 pub stands-second : (now start : Replies) (c : Configuration) (a : Actor) (m : Machine) (inner : List ℕ) → IsToBeAsked m
     → StandsFor now start c a (holdings_of m)

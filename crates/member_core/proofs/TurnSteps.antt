@@ -19,12 +19,12 @@ use Rattle.member_spec.specs.Actor.{Actor, actor_behind_question, actor_behind_s
 use Rattle.member_spec.specs.Outcomes.{members_missing, outcome_of}
 use Rattle.member_spec.specs.Replies.{Replies}
 use Rattle.member_spec.proofs.Steps.{ended-step, open-step, posts-past, posts-within}
-use Rattle.member_core.specs.declared.ending.Ending.{Ending}
-use Rattle.member_core.specs.declared.ending.Ending.TheVariants.{Open, Done, Blamed, Stopped}
+use Rattle.member_parts.specs.declared.ending.Ending.{Ending}
+use Rattle.member_parts.specs.declared.ending.Ending.TheVariants.{Open, Done, Blamed, Stopped}
+use Rattle.member_parts.specs.Endings.{IsOpen, is_going}
 use Rattle.member_core.specs.declared.machine.Machine.{Machine}
 use Rattle.member_core.specs.Concluding.{is_due_by, is_filled}
-use Rattle.member_core.specs.Membership.{IsOpen, holdings_of}
-use Rattle.member_core.specs.Needs.{is_going}
+use Rattle.member_core.specs.Membership.{holdings_of}
 use Rattle.member_core.specs.Sound.{IsFormed}
 use Rattle.member_core.specs.Stands.{ShowsOutcome, StandsFor}
 use Rattle.member_core.proofs.Belonging.{seat-of, shape-is}

@@ -34,18 +34,21 @@ use Rattle.closing_verdict.specs.Judgement.{TellsVerdict, stage_closed, verdict_
 use Rattle.member_spec.specs.Actor.{Actor, actor_behind_stage, actor_behind_step}
 use Rattle.member_spec.specs.Outcomes.{outcome_of}
 use Rattle.member_spec.specs.Replies.{Replies}
-use Rattle.member_core.specs.declared.ending.Ending.{Ending}
-use Rattle.member_core.specs.declared.ending.Ending.TheVariants.{Open, Done as EndingDone, Blamed, Stopped}
+use Rattle.member_parts.specs.declared.ending.Ending.{Ending}
+use Rattle.member_parts.specs.declared.ending.Ending.TheVariants.{Open, Done as EndingDone, Blamed, Stopped}
+use Rattle.member_parts.specs.Endings.{IsOpen, IsRunning, is_going}
+use Rattle.member_parts.specs.Secrets.{no_secrets}
 use Rattle.member_core.specs.declared.machine.Machine.{Machine}
 use Rattle.member_core.specs.Concluding.{HasSlotsFor, is_filled, machine_behind, machine_by, machine_done}
-use Rattle.member_core.specs.Membership.{IsOpen, IsRunning, completed_of, holdings_of}
-use Rattle.member_core.specs.Needs.{HoldsNeeded, is_going, no_secrets}
+use Rattle.member_core.specs.Membership.{completed_of, holdings_of}
+use Rattle.member_core.specs.Needs.{HoldsNeeded}
 use Rattle.member_core.specs.Sound.{CarriesKeys, IsFormed, IsReady, IsSound}
 use Rattle.member_core.specs.Stands.{HasEntered, IsAt, ShowsOutcome, StandsFor}
 use Rattle.member_core.proofs.Belonging.{past-is, reaches, seat-of, shape-is}
 use Rattle.member_core.proofs.Judging.{shape-of-group}
 use Rattle.member_core.proofs.PassedStages.{goes-elsewhere, passes-step, shows-blamed, shows-done, shows-goes, stands-past, verdict-is}
-use Rattle.member_core.proofs.Passing.{AreCarried, NextPast, formed-past, machine_past, needed-ended, needed-past, next-past, no-secrets-of, ready-past}
+use Rattle.member_core.proofs.Changes.{no-secrets-of}
+use Rattle.member_core.proofs.Passing.{AreCarried, NextPast, formed-past, machine_past, needed-ended, needed-past, next-past, ready-past}
 use Rattle.member_core.proofs.Shown.{goes-on}
 use Rattle.member_core.proofs.StageKinds.{kind-place}
 

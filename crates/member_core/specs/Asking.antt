@@ -15,8 +15,9 @@ use Rattle.member_spec.specs.declared.mood.Mood.{Mood}
 use Rattle.member_spec.specs.declared.mood.Mood.TheVariants.{Unasked, Spoken}
 use Rattle.member_spec.specs.Actor.{Actor, descriptor_made}
 use Rattle.member_spec.specs.Replies.{Replies}
+use Rattle.member_parts.specs.Endings.{IsOpen}
 use Rattle.member_core.specs.declared.machine.Machine.{Machine}
-use Rattle.member_core.specs.Membership.{Holdings, IsOpen, holdings_of}
+use Rattle.member_core.specs.Membership.{Holdings, holdings_of}
 use Rattle.member_core.specs.Needs.{HoldsNeeded}
 use Rattle.member_core.specs.Shorts.{own_limit}
 use Rattle.member_core.specs.Stands.{StandsFor}

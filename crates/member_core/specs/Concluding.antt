@@ -11,10 +11,10 @@ use Rattle.closing_verdict.specs.declared.judging.Judged.{Judged}
 use Rattle.closing_verdict.specs.declared.judging.Judged.TheVariants.{Goes, Opens, Finds, Agreed, Convicts}
 use Rattle.member_spec.specs.declared.mood.Mood.{Mood}
 use Rattle.member_spec.specs.declared.mood.Mood.TheVariants.{Unasked}
-use Rattle.member_core.specs.declared.ending.Ending.{Ending}
-use Rattle.member_core.specs.declared.ending.Ending.TheVariants.{Done, Blamed}
+use Rattle.member_parts.specs.declared.ending.Ending.{Ending}
+use Rattle.member_parts.specs.declared.ending.Ending.TheVariants.{Done, Blamed}
+use Rattle.member_parts.specs.Secrets.{no_secrets}
 use Rattle.member_core.specs.declared.machine.Machine.{Machine}
-use Rattle.member_core.specs.Needs.{no_secrets}
 
 -- ---- what is to be done
 

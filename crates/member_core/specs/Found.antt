@@ -24,13 +24,15 @@ use Rattle.member_spec.specs.declared.taken.Taken.TheVariants.{Evidence, Finishe
 use Rattle.member_spec.specs.Actor.{actor_after, actor_behind_delivery}
 use Rattle.member_spec.specs.Replies.{Replies}
 use Rattle.member_spec.specs.Taking.{answer_to, is_content}
-use Rattle.member_core.specs.declared.ending.Ending.{Ending}
-use Rattle.member_core.specs.declared.ending.Ending.TheVariants.{Blamed}
+use Rattle.member_parts.specs.declared.ending.Ending.{Ending}
+use Rattle.member_parts.specs.declared.ending.Ending.TheVariants.{Blamed}
+use Rattle.member_parts.specs.declared.finding.Found.{Found}
+use Rattle.member_parts.specs.declared.finding.Found.TheVariants.{New, Same, Other, Malformed}
+use Rattle.member_parts.specs.Endings.{HasBlamed}
+use Rattle.member_parts.specs.Finding.{found_of}
 use Rattle.member_core.specs.declared.machine.Machine.{Machine}
-use Rattle.member_core.specs.declared.taking.Found.{Found}
-use Rattle.member_core.specs.declared.taking.Found.TheVariants.{New, Same, Other, Malformed}
 use Rattle.member_core.specs.Concluding.{machine_ended}
-use Rattle.member_core.specs.Membership.{HasBlamed, Holdings}
+use Rattle.member_core.specs.Membership.{Holdings}
 use Rattle.member_core.specs.Stands.{StandsFor}
 
 -- ---- what it is
@@ -41,18 +43,7 @@ pub record IsOfAnother (roster : Roster) (round number : ℕ) (bytes : List ℕ)
   pub admitted : framed_admission_of roster round post ≡ Ok header
   pub other : (header.sender == number) ≡ false
 
--- what a content of the grammar is to a slot that does not hold it: it is new, or another than the one that is kept
-abbrev pub found_beside : Option Post → Found
-found_beside None = New
-found_beside (Some kept) = Other
-
--- what a content is to its slot, which holds this
-abbrev pub found_of : Shape → Option Post → List ℕ → Found
-found_of shape kept content =
-    if is_content content kept then Same
-    else (if is_ok (content_read shape content) then found_beside kept else Malformed)
-
--- and to what a member keeps
+-- what a content is to what a member keeps
 abbrev pub found_in : Machine → Header → List ℕ → Found
 found_in m header content = found_of (shape_of m.seat.shape) (kept_in m.log (slot_named header)) content
 
@@ -72,11 +63,6 @@ pub record IsStorable (m : Machine) (slot : Slot) (post : Post) : Type 0 where
   pub short : length (post_spelling post) ≤ POST_LIMIT
 
 -- ---- what it shows
-
--- the verdict that a string shows: with the post that its slot keeps, where it holds another content, and else alone
-abbrev pub verdict_shown : ℕ → Header → List ℕ → Option Post → Found → Verdict
-verdict_shown round header bytes (Some first) Other = conviction round header.sender Equivocation (post_spelling first ∷ bytes ∷ [])
-verdict_shown round header bytes kept found = conviction round header.sender Outside (bytes ∷ [])
 
 -- a member has come to blame somebody by a verdict, which ends its round
 pub record BlamesBy (verdict : Verdict) (old new : Machine) : Type 0 where

@@ -13,11 +13,11 @@ use Rattle.closing_verdict.specs.Judgement.{Completed}
 use Rattle.member_spec.specs.declared.mood.Mood.{Mood}
 use Rattle.member_spec.specs.declared.state.State.{State}
 use Rattle.member_spec.specs.declared.state.State.TheVariants.{Waiting as StateWaiting, Done as StateDone, Blamed as StateBlamed, Stopped as StateStopped}
-use Rattle.member_core.specs.declared.ending.Ending.{Ending}
-use Rattle.member_core.specs.declared.ending.Ending.TheVariants.{Open, Done, Blamed, Stopped}
+use Rattle.member_parts.specs.declared.ending.Ending.{Ending}
+use Rattle.member_parts.specs.declared.ending.Ending.TheVariants.{Open, Done, Blamed, Stopped}
+use Rattle.member_parts.specs.declared.own.Own.{Own}
+use Rattle.member_parts.specs.declared.secrets.Secrets.{Secrets}
 use Rattle.member_core.specs.declared.machine.Machine.{Machine}
-use Rattle.member_core.specs.declared.own.Own.{Own}
-use Rattle.member_core.specs.declared.secrets.Secrets.{Secrets}
 
 -- the group, its number, the round and its message; the leaves that are left; the posts that it keeps; the stage that is
 -- being filled, and whether it has spoken there; the post that it made and did not keep; how many of its posts were
@@ -73,34 +73,6 @@ posts_made h = own_posts_kept h.log h.number ++ option_to_list h.stray
 abbrev pub completed_of : Holdings → Completed
 completed_of h = record { roster = h.roster; round = h.round; log = h.log; stage = h.stage }
 
--- ---- what has ended the round
-
--- nothing has
-abbrev pub IsOpen : Ending → Type 0
-IsOpen Open = Unit {0}
-IsOpen ending = ⊥
-
--- a call ran out of memory
-abbrev pub IsOutOfMemory : Ending → Type 0
-IsOutOfMemory Stopped = Unit {0}
-IsOutOfMemory ending = ⊥
-
--- none did
-abbrev pub IsRunning : Ending → Type 0
-IsRunning Stopped = ⊥
-IsRunning ending = Unit {0}
-
--- the round is done, or the member blames somebody
-abbrev pub HasEnded : Ending → Type 0
-HasEnded (Done slots) = Unit {0}
-HasEnded (Blamed conviction) = Unit {0}
-HasEnded ending = ⊥
-
--- the member blames somebody
-abbrev pub HasBlamed : Ending → Type 0
-HasBlamed (Blamed conviction) = Unit {0}
-HasBlamed ending = ⊥
-
 -- ---- what is shown
 
 -- the state by what has ended the round
@@ -109,16 +81,6 @@ state_by h Open = StateWaiting h.stage (missing_bits h.log h.stage)
 state_by h (Done slots) = StateDone
 state_by h (Blamed conviction) = StateBlamed conviction.accused conviction.claim
 state_by h Stopped = StateStopped
-
--- the slots of the list, exactly where the round is done
-abbrev pub slots_held : Ending → Option (List SlotState)
-slots_held (Done slots) = Some slots
-slots_held ending = None
-
--- the transcript, exactly where the member blames somebody
-abbrev pub evidence_held : Ending → Option (List ℕ)
-evidence_held (Blamed conviction) = Some conviction.transcript
-evidence_held ending = None
 
 -- one post more was handed out, if there was one
 abbrev pub handed_next : {A B : Type 0} → Membership A → Option B → Membership A

@@ -1,47 +1,10 @@
--- The secrets that a member holds: those that it still needs.
-use Rattle.std.specs.Prelude.{◌≡◌, ℕ, ◌+◌, Bool, true, false, not, ◌&&◌, ◌==◌, nat_lt, is_some, IsSome, IfSome, Option, None, if◌then◌else◌}
-use Rattle.honest_say.specs.declared.secrets.ShuffleSecrets.{ShuffleSecrets}
-use Rattle.honest_say.specs.Own.{AreBulkSecrets, AreShuffleSecrets}
-use Rattle.round_spec.specs.Say.{Configuration}
+-- Until when a member needs its secrets.
+use Rattle.std.specs.Prelude.{◌≡◌, ℕ, ◌+◌, Bool, true, false, not, ◌&&◌, nat_lt, is_some}
 use Rattle.round_spec.specs.Slots.{final_stage, submit_stage}
 use Rattle.member_spec.specs.declared.mood.Mood.{Mood}
 use Rattle.member_spec.specs.declared.mood.Mood.TheVariants.{Unasked, Mute}
-use Rattle.member_core.specs.declared.ending.Ending.{Ending}
-use Rattle.member_core.specs.declared.ending.Ending.TheVariants.{Open}
-use Rattle.member_core.specs.declared.secrets.Secrets.{Secrets}
+use Rattle.member_parts.specs.Endings.{is_going}
 use Rattle.member_core.specs.Membership.{Holdings}
-
--- ---- the secrets
-
--- all of them are held
-pub record AreAll (secrets : Secrets) : Type 0 where
-  pub first : IsSome secrets.first
-  pub bulk : IsSome secrets.bulk
-  pub second : IsSome secrets.second
-
--- those that are held are those of the fresh bytes that a member entered with
-pub record AreSecretsOf (c : Configuration) (secrets : Secrets) : Type 0 where
-  pub first : IfSome secrets.first (AreShuffleSecrets c 1)
-  pub bulk : IfSome secrets.bulk (AreBulkSecrets c)
-  pub second : IfSome secrets.second (AreShuffleSecrets c 2)
-
--- those of a shuffle
-abbrev pub shuffle_secrets : Secrets → ℕ → Option ShuffleSecrets
-shuffle_secrets secrets shuffle = if shuffle == 1 then secrets.first else secrets.second
-
--- all but those of a shuffle
-abbrev pub without_shuffle : Secrets → ℕ → Secrets
-without_shuffle secrets shuffle = if shuffle == 1 then record secrets { first = None } else record secrets { second = None }
-
--- all but those of the messages
-abbrev pub without_bulk : Secrets → Secrets
-without_bulk secrets = record secrets { bulk = None }
-
--- none
-abbrev pub no_secrets : Secrets
-no_secrets = record { first = None; bulk = None; second = None }
-
--- ---- where they are needed
 
 -- how many stages a member was asked at or goes past: those before the one that is being filled, and this one once it
 -- was asked there
@@ -57,11 +20,6 @@ was_asked stage mood other = nat_lt other (stages_behind stage mood)
 abbrev pub is_mute : Mood → Bool
 is_mute Mute = true
 is_mute mood = false
-
--- whether nothing has ended the round
-abbrev pub is_going : Ending → Bool
-is_going Open = true
-is_going ending = false
 
 -- whether the secrets that a stage takes are still needed: the round is open, the member is not mute, and it was not
 -- asked at that stage yet

@@ -3,9 +3,11 @@ use Rattle.std.specs.Prelude.{◌≡◌, ℕ, ◌+◌, ◌≤◌, ◌<◌, ◌^�
 use Rattle.std.specs.Option.{option_map}
 use Rattle.phase_message.specs.declared.post.Post.{Post}
 use Rattle.phase_message.specs.declared.stage.Slot.{Slot}
+use Rattle.phase_message.specs.Shape.{Shape}
 use Rattle.phase_message.specs.Slots.{stage_count}
 use Rattle.phase_message.specs.Stages.{is_slot, kind_of_stage, shape_of}
 use Rattle.group_roster.specs.Given.{roster_of}
+use Rattle.group_roster.specs.Roster.{Roster}
 use Rattle.stage_log.specs.Log.{before}
 use Rattle.stage_log.specs.Seen.{HasSeen}
 use Rattle.stage_log.specs.Table.{IsLog, Log, kept_in}
@@ -15,28 +17,36 @@ use Rattle.bulk_descriptor.specs.declared.making.TheConstants.{MESSAGE_LIMIT}
 use Rattle.bulk_descriptor.specs.Descriptor.{own_pad}
 use Rattle.round_spec.specs.Say.{Configuration, own_pad_seeds}
 use Rattle.honest_say.specs.declared.group_keys.GroupKeys.{GroupKeys}
+use Rattle.honest_say.specs.declared.seat.Seat.{Seat}
 use Rattle.honest_say.specs.Seats.{IsSeatOf}
 use Rattle.closing_verdict.specs.Carried.{AreKeysOf, CarriesOpened, CarriesSlots, stage_found, stage_opened}
 use Rattle.member_spec.specs.declared.mood.Mood.{Mood}
 use Rattle.member_spec.specs.declared.mood.Mood.TheVariants.{Unasked, PutOff, Spoken, Mute}
 use Rattle.member_spec.specs.Replies.{HasSlot}
+use Rattle.member_parts.specs.Endings.{IsOpen}
+use Rattle.member_parts.specs.declared.secrets.Secrets.{Secrets}
+use Rattle.member_parts.specs.Secrets.{AreSecretsOf}
 use Rattle.member_core.specs.declared.machine.Machine.{Machine}
-use Rattle.member_core.specs.Membership.{IsOpen, holdings_of, posts_made}
-use Rattle.member_core.specs.Needs.{AreSecretsOf, HoldsNeeded}
+use Rattle.member_core.specs.Membership.{holdings_of, posts_made}
+use Rattle.member_core.specs.Needs.{HoldsNeeded}
 use Rattle.member_core.specs.Shorts.{IsShortLog, own_limit}
 
 -- ---- always
 
--- the code holds what a member that entered with this does: its group, its place, its message, secrets of its fresh bytes,
--- and the pad that it sends itself, of some message of at most 65,536 bytes
-pub record IsMachineOf (c : Configuration) (m : Machine) : Type 0 where
-  pub roster : roster_of m.roster ≡ c.roster
-  pub seat : IsSeatOf c m.seat
-  pub message : m.message ≡ c.message
-  pub secrets : AreSecretsOf c m.secrets
+-- these are what a member that entered with this holds: its group, its place, its message, secrets of its fresh bytes, and
+-- the pad that it sends itself, of some message of at most 65,536 bytes
+pub record IsHeldOf (c : Configuration) (group : Roster) (place : Seat) (text : List ℕ) (held : Secrets) (sent : List ℕ) : Type 0 where
+  pub roster : group ≡ c.roster
+  pub seat : IsSeatOf c place
+  pub message : text ≡ c.message
+  pub secrets : AreSecretsOf c held
   pub hidden : List ℕ
   pub hidden_short : length hidden ≤ MESSAGE_LIMIT
-  pub pad : m.own.pad ≡ own_pad (own_pad_seeds c) c.number hidden
+  pub pad : sent ≡ own_pad (own_pad_seeds c) c.number hidden
+
+-- the code holds them
+abbrev pub IsMachineOf : Configuration → Machine → Type 0
+IsMachineOf c m = IsHeldOf c (roster_of m.roster) m.seat m.message m.secrets m.own.pad
 
 -- some member entered so; the log is one of the round, with posts that stand in their slots and are not too long; there
 -- is a leaf for each own slot without a post; no post was handed out that was not made; and that which it does not keep can
@@ -63,11 +73,15 @@ abbrev pub IsEmptyFrom : Log → ℕ → ℕ → Type 0
 IsEmptyFrom log number stage =
     (later : ℕ) → stage ≤ later → kept_in log (record { stage = later; sender = number }) ≡ None
 
--- bytes that were put off name the own slot, where the member speaks, and are not too long
-pub record IsPutOff (m : Machine) (bytes : List ℕ) : Type 0 where
-  pub speaks : IsTrue (is_slot m.log.shape m.stage m.seat.number)
-  pub slot : HasSlot (slot_here m) bytes
-  pub short : length bytes ≤ own_limit (kind_of_stage m.log.shape m.stage)
+-- bytes name a slot where its member speaks, and are not too long there
+pub record AreOfSlot (shape : Shape) (place : Slot) (bytes : List ℕ) : Type 0 where
+  pub speaks : IsTrue (is_slot shape place.stage place.sender)
+  pub slot : HasSlot place bytes
+  pub short : length bytes ≤ own_limit (kind_of_stage shape place.stage)
+
+-- bytes that were put off are of the own slot
+abbrev pub IsPutOff : Machine → List ℕ → Type 0
+IsPutOff m bytes = AreOfSlot m.log.shape (slot_here m) bytes
 
 -- what a mood says: where the member has not spoken, its slots from the stage on are empty; where it has, its slots behind
 -- are, and its post is there; only a mute member may have made a post that it does not keep.

@@ -2,7 +2,9 @@
 use Rattle.std.specs.Prelude.{◌≡◌, ℕ, ◌+◌, List, Bool, true, false, All, Some, IsTrue, length}
 use Rattle.wire_core.specs.Bytes.{IsBytes}
 use Rattle.lms_tree.specs.States.{RunState}
+use Rattle.phase_message.specs.declared.post.Post.{Post}
 use Rattle.group_roster.specs.Given.{roster_of}
+use Rattle.group_roster.specs.Roster.{Roster}
 use Rattle.stage_log.specs.Log.{before}
 use Rattle.transcript_form.specs.Transcript.{transcript_spelling}
 use Rattle.shuffle_blame.specs.Asked.{past_of}
@@ -17,11 +19,13 @@ use Rattle.member_spec.specs.Actor.{Actor, actor_after, descriptor_made}
 use Rattle.round_spec.specs.Runs.{CanEnter}
 use Rattle.member_spec.specs.Outcomes.{outcome_of}
 use Rattle.member_spec.specs.Replies.{Replies}
-use Rattle.member_core.specs.declared.config.Config.{Config}
-use Rattle.member_core.specs.declared.ending.Ending.{Ending}
-use Rattle.member_core.specs.declared.ending.Ending.TheVariants.{Open, Done, Blamed}
+use Rattle.member_parts.specs.declared.config.Config.{Config}
+use Rattle.member_parts.specs.declared.ending.Ending.{Ending}
+use Rattle.member_parts.specs.declared.ending.Ending.TheVariants.{Open, Done, Blamed}
+use Rattle.member_parts.specs.declared.secrets.Secrets.{Secrets}
+use Rattle.member_parts.specs.Secrets.{AreSecretsOf}
 use Rattle.member_core.specs.Membership.{Holdings, Membership, posts_made}
-use Rattle.member_core.specs.Needs.{AreSecretsOf, was_asked}
+use Rattle.member_core.specs.Needs.{was_asked}
 
 -- what a member enters a round with, and the leaves that it is handed
 abbrev pub configuration_of : Config → RunState → Configuration
@@ -37,16 +41,21 @@ configuration_of config leaves = record {
 
 -- ---- what it entered with
 
--- a member is the one that entered with this: its group, number, round and message, its key, of which it has used a leaf
--- for each post that it made, and its secrets
-pub record HasEntered (c : Configuration) (h : Holdings) : Type 0 where
-  pub roster : h.roster ≡ c.roster
-  pub number : h.number ≡ c.number
-  pub round : h.round ≡ c.round
-  pub message : h.message ≡ c.message
-  pub key : h.leaves.parts ≡ c.key
-  pub next : h.leaves.first ≡ c.first + length (posts_made h)
-  pub secrets : AreSecretsOf c h.secrets
+-- these are of the member that entered with this: its group, number, round and message, its key, of which it has used a
+-- leaf for each post that it made, and its secrets
+pub record IsEntryOf (c : Configuration) (group : Roster) (own at : ℕ) (text : List ℕ) (left : RunState) (said : List Post) (held : Secrets) :
+    Type 0 where
+  pub roster : group ≡ c.roster
+  pub number : own ≡ c.number
+  pub round : at ≡ c.round
+  pub message : text ≡ c.message
+  pub key : left.parts ≡ c.key
+  pub next : left.first ≡ c.first + length said
+  pub secrets : AreSecretsOf c held
+
+-- a member holds them
+abbrev pub HasEntered : Configuration → Holdings → Type 0
+HasEntered c h = IsEntryOf c h.roster h.number h.round h.message h.leaves (posts_made h) h.secrets
 
 -- ---- where it stands
 

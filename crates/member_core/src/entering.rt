@@ -1,19 +1,9 @@
 //! Entering a round.
 
-ghost use Rattle.std.specs.Prelude.{◌≡◌, IfOk, length};
-ghost use Rattle.group_roster.specs.Given.{roster_of};
-ghost use Rattle.group_roster.specs.Roster.{shape_of_roster};
-ghost use Rattle.stage_log.specs.Table.{empty_log};
-ghost use Rattle.round_spec.specs.Say.{Configuration, shape_in};
-ghost use Rattle.member_core.specs.Needs.{AreAll, AreSecretsOf};
-
-use crate::config::{Config, have_bounds};
-use crate::ending::Ending;
 use crate::machine::Machine;
-use crate::own::Own;
-use crate::secrets::Secrets;
 use honest_say::Seat;
 use lms_tree::LeafRun;
+use member_parts::{Config, Ending, Own, Secrets};
 use member_spec::Mood;
 use stage_log::{Seen, StageLog};
 use std::alloc::Global;
@@ -28,8 +18,9 @@ impl Machine {
     ghost use Rattle.round_spec.specs.Say.{Configuration, shape_in};
     ghost use Rattle.member_spec.specs.Actor.{first_actor};
     ghost use Rattle.member_spec.specs.Replies.{Replies};
-    ghost use Rattle.member_core.specs.Membership.{IsOpen, holdings_of};
-    ghost use Rattle.member_core.specs.Needs.{AreAll, AreSecretsOf};
+    ghost use Rattle.member_parts.specs.Endings.{IsOpen};
+    ghost use Rattle.member_parts.specs.Secrets.{AreAll, AreSecretsOf};
+    ghost use Rattle.member_core.specs.Membership.{holdings_of};
     ghost use Rattle.member_core.specs.Sound.{IsSound};
     ghost use Rattle.member_core.specs.Stands.{StandsFor, configuration_of};
 
@@ -45,7 +36,7 @@ impl Machine {
         ensures stands { IfOk result (λ machine. (now : Replies) → StandsFor now now (configuration_of config leaves)
             (first_actor (configuration_of config leaves)) (holdings_of machine)) }
     {
-        match log_and_secrets(alloc, &config) {
+        match config.log_and_secrets(alloc) {
             Ok((log, secrets)) => Ok(Machine::of(alloc, config, leaves, log, secrets)),
             Err(error) => {
                 leaves.retire();
@@ -76,7 +67,7 @@ impl Machine {
         ensures stands { (now : Replies) → StandsFor now now (configuration_of config leaves)
             (first_actor (configuration_of config leaves)) (holdings_of result) }
     {
-        have_bounds(&config, &leaves);
+        config.have_bounds(&leaves);
         let Config {
             roster,
             number,
@@ -105,17 +96,4 @@ impl Machine {
             ending: Ending::Open,
         }
     }
-}
-
-// A log that holds nothing, and all secrets of the round.
-fn log_and_secrets(alloc: Global, config: &Config) -> Mem<(StageLog, Secrets)>
-    ensures log { IfOk result (λ made. made.0 ≡ empty_log (shape_of_roster (roster_of config.now.roster))) }
-    ensures secrets { IfOk result (λ made. (c : Configuration) → c.fresh ≡ config.now.fresh → c.round ≡ config.now.round →
-        (shape_in c).members ≡ length config.now.roster.keys → AreSecretsOf c made.1) }
-    ensures all { IfOk result (λ made. AreAll made.1) }
-{
-    let shape = config.roster.shape();
-    let log = StageLog::new(alloc, shape)?;
-    let secrets = Secrets::derive(alloc, &config.fresh, config.round, shape.members)?;
-    Ok((log, secrets))
 }

@@ -2,24 +2,20 @@
 //! to say, and comes to the result of the round.
 #![tactic(auto)]
 
-mod config;
-mod ending;
 mod entering;
 mod machine;
 mod member;
-mod own;
 mod rows;
-mod secrets;
 mod speaking;
 mod submissions;
 mod taking;
 mod turning;
 
 pub use bulk_descriptor::{Descriptor, SlotState};
-pub use config::Config;
 pub use group_roster::Roster;
 pub use lms_tree::LeafRun;
 pub use member::Member;
+pub use member_parts::Config;
 pub use member_spec::{Conduct, Honest, Speech, State, Taken};
 pub use signed_post::PostRefusal;
 pub use stage_log::StageLog;

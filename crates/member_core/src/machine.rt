@@ -1,12 +1,9 @@
 //! What a member holds, beside its conduct.
 
-use crate::ending::Ending;
-use crate::own::Own;
-use crate::secrets::Secrets;
-use bulk_descriptor::SlotState;
 use group_roster::Roster;
 use honest_say::{GroupKeys, Seat, Slots};
 use lms_tree::LeafRun;
+use member_parts::{Ending, Own, Secrets};
 use member_spec::{Mood, State};
 use phase_message::Slot;
 use stage_log::{Post, Seen, StageLog};
@@ -40,20 +37,12 @@ pub(crate) struct Machine {
 
 impl Machine {
     ghost use Rattle.std.specs.Prelude.{◌≡◌, ◌<◌, ◌^◌, IfSome, length, slice_get};
-    ghost use Rattle.std.specs.Option.{option_copied, option_map};
+    ghost use Rattle.std.specs.Option.{option_copied};
     ghost use Rattle.phase_message.specs.Slots.{stage_count};
     ghost use Rattle.phase_message.specs.Stages.{shape_of};
     ghost use Rattle.member_core.specs.Concluding.{machine_ended};
-    ghost use Rattle.member_core.specs.Membership.{evidence_held, holdings_of, posts_made, slots_held, state_by};
-    ghost use Rattle.member_core.specs.Needs.{is_going};
+    ghost use Rattle.member_core.specs.Membership.{holdings_of, posts_made, state_by};
     ghost use Rattle.member_core.specs.Sound.{IsFormed, slot_here};
-
-    // Whether its round goes on.
-    pub(crate) fn is_open(&self) -> bool
-        ensures { result ≡ is_going self.now.ending }
-    {
-        matches!(&self.ending, Ending::Open)
-    }
 
     // The slot in which it speaks at the stage that is being filled, if it does.
     pub(crate) fn own_slot(&self) -> Slot
@@ -124,26 +113,6 @@ impl Machine {
                 claim: conviction.claim,
             },
             Ending::Stopped => State::Stopped,
-        }
-    }
-
-    // The slots of the list, where the round is done.
-    pub(crate) fn slots(&self) -> Option<&Vec<SlotState>>
-        ensures { option_map (λ slots. slots.now.items) result ≡ slots_held self.now.ending }
-    {
-        match &self.ending {
-            Ending::Done(slots) => Some(slots.items()),
-            _ => None,
-        }
-    }
-
-    // The transcript, where it blames somebody.
-    pub(crate) fn evidence(&self) -> Option<&Vec<u8>>
-        ensures { option_map (λ bytes. bytes.now.items) result ≡ evidence_held self.now.ending }
-    {
-        match &self.ending {
-            Ending::Blamed(conviction) => Some(conviction.transcript.items()),
-            _ => None,
         }
     }
 

@@ -1,10 +1,9 @@
 //! The calls of a member.
 
-use crate::config::Config;
-use crate::ending::Ending;
 use crate::machine::Machine;
 use bulk_descriptor::SlotState;
 use lms_tree::LeafRun;
+use member_parts::{Config, Ending};
 use member_spec::{Conduct, State};
 use signed_post::write;
 use std::alloc::{AllocError, Global};
@@ -38,7 +37,8 @@ impl<C: Conduct> Member<C> {
     ghost use Rattle.member_spec.specs.Actor.{actor_after};
     ghost use Rattle.member_spec.specs.Outcomes.{evidence_shown, outcome_of, slots_shown, state_of};
     ghost use Rattle.member_spec.specs.Replies.{IsPlain, Replies};
-    ghost use Rattle.member_core.specs.Membership.{IsOutOfMemory, IsRunning, evidence_held, handed_next, posts_made, slots_held, state_by};
+    ghost use Rattle.member_parts.specs.Endings.{IsOutOfMemory, IsRunning, evidence_held, slots_held};
+    ghost use Rattle.member_core.specs.Membership.{handed_next, posts_made, state_by};
     ghost use Rattle.member_core.specs.Needs.{HoldsNeeded};
     ghost use Rattle.member_core.specs.Promises.{HasRosterKey, HoldsMessages, IsAllHonest, IsEvidence, IsOneList, IsPlainMember, KeepsPromise, KeepsRun, WaitsIfOpen};
     ghost use Rattle.member_core.specs.Stands.{Stands, configuration_of};
@@ -143,7 +143,7 @@ impl<C: Conduct> Member<C> {
         ensures one_list { (c : Configuration) (delivered : List (List ℕ)) → IsPlainMember C.replies c delivered self.now →
             IfSome result (λ slots. IsOneList c delivered slots.now.items) }
     {
-        self.machine.slots()
+        self.machine.ending.slots()
     }
 
     /// The transcript, as it is written, exactly where the member blames somebody; it has fewer than 134,217,728 bytes. Of
@@ -158,7 +158,7 @@ impl<C: Conduct> Member<C> {
         ensures convicts { (c : Configuration) (delivered : List (List ℕ)) → IsPlainMember C.replies c delivered self.now → HasRosterKey c →
             IfSome result (λ bytes. IsEvidence c delivered (state_by self.now.holds self.now.holds.ending) bytes.now.items) }
     {
-        self.machine.evidence()
+        self.machine.ending.evidence()
     }
 
     /// Leaves the round: what is left of the secrets and the leaves is spent. It takes no memory.

@@ -1,6 +1,6 @@
 //! The body that the rules give a member to say, by the kind of the stage.
 
-ghost use Rattle.std.specs.Prelude.{◌≡◌, IfOk, IsSome, Some};
+ghost use Rattle.std.specs.Prelude.{◌≡◌, IfOk, Some};
 ghost use Rattle.phase_message.specs.declared.stage.StageKind.TheVariants.{Check, Confirm, Final, Go, Keys, Pad, Shuffle};
 ghost use Rattle.phase_message.specs.Stages.{kind_of_stage};
 ghost use Rattle.round_spec.specs.Say.{Configuration};
@@ -9,14 +9,12 @@ ghost use Rattle.member_spec.specs.Actor.{Actor};
 ghost use Rattle.member_spec.specs.Replies.{Replies};
 ghost use Rattle.member_core.specs.Asking.{IsDue, IsToBeAsked, StandsAsked, asked_at};
 ghost use Rattle.member_core.specs.Membership.{holdings_of};
-ghost use Rattle.member_core.specs.Needs.{HoldsNeeded, shuffle_secrets};
+ghost use Rattle.member_core.specs.Needs.{HoldsNeeded};
 ghost use Rattle.member_core.specs.Sound.{IsFormed, IsReady};
 ghost use Rattle.member_core.specs.Stands.{StandsFor};
 
 use crate::machine::Machine;
-use honest_say::{
-    ShuffleSecrets, check_body, confirm_body, final_body, go_body, keys_body, pads_body, turn_body,
-};
+use honest_say::{check_body, confirm_body, final_body, go_body, keys_body, pads_body, turn_body};
 use phase_message::Body;
 use std::alloc::Global;
 use wire_core::Mem;
@@ -44,18 +42,6 @@ impl Machine {
         keys_body(first, bulk, second)
     }
 
-    // The secrets of a shuffle.
-    pub(crate) fn secrets_of(&self, shuffle: u8) -> &ShuffleSecrets
-        requires { IsSome (shuffle_secrets self.now.secrets shuffle) }
-        ensures { shuffle_secrets self.now.secrets shuffle ≡ Some result.now }
-    {
-        if shuffle == 1 {
-            held(&self.secrets.first)
-        } else {
-            held(&self.secrets.second)
-        }
-    }
-
     // Its turn of a shuffle.
     #[tactic(none)]
     pub(crate) fn turn_due(&self, alloc: Global, shuffle: u8) -> Mem<Body>
@@ -66,7 +52,7 @@ impl Machine {
         requires kind { kind_of_stage self.now.log.shape self.now.stage ≡ Some (Shuffle shuffle self.now.seat.number) }
         ensures { IfOk result (λ body. (now : Replies) → IsDue now self.now (Shuffle shuffle self.now.seat.number) body) }
     {
-        let secrets = self.secrets_of(shuffle);
+        let secrets = self.secrets.of_shuffle(shuffle);
         turn_body(alloc, &self.seat, &self.log, secrets, shuffle)
     }
 
@@ -148,15 +134,4 @@ impl Machine {
     {
         confirm_body(alloc, &self.log)
     }
-}
-
-// Secrets that are held.
-fn held(secrets: &Option<ShuffleSecrets>) -> &ShuffleSecrets
-    requires { IsSome secrets.now }
-    ensures { secrets.now ≡ Some result.now }
-{
-    let Some(secrets) = secrets else {
-        unreachable!()
-    };
-    secrets
 }

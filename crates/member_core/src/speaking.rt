@@ -15,9 +15,11 @@ ghost use Rattle.member_spec.specs.declared.conduct.Speech.TheVariants.{Say as S
 ghost use Rattle.member_spec.specs.declared.mood.Mood.TheVariants.{Mute, Spoken};
 ghost use Rattle.member_spec.specs.Actor.{Actor, actor_behind_answer, actor_behind_question, content_to_say};
 ghost use Rattle.member_spec.specs.Replies.{HasSlot, KeepsSlot, Replies};
+ghost use Rattle.member_parts.specs.Endings.{IsOpen};
+ghost use Rattle.member_parts.specs.Secrets.{no_secrets};
 ghost use Rattle.member_core.specs.Asking.{IsDue, IsPlainKind, IsSpeakable, IsToBeAsked, StandsAsked, asked_at, content_here};
-ghost use Rattle.member_core.specs.Membership.{IsOpen, holdings_of};
-ghost use Rattle.member_core.specs.Needs.{HoldsNeeded, no_secrets};
+ghost use Rattle.member_core.specs.Membership.{holdings_of};
+ghost use Rattle.member_core.specs.Needs.{HoldsNeeded};
 ghost use Rattle.member_core.specs.Shorts.{own_limit};
 ghost use Rattle.member_core.specs.Sound.{IsFormed, IsPutOff, IsReady, IsSound, slot_here};
 ghost use Rattle.member_core.specs.Stands.{StandsFor};

@@ -12,16 +12,17 @@ ghost use Rattle.honest_say.specs.Seats.{IsSeatOf};
 ghost use Rattle.member_spec.specs.declared.mood.Mood.TheVariants.{Spoken};
 ghost use Rattle.member_spec.specs.Actor.{Actor};
 ghost use Rattle.member_spec.specs.Replies.{Replies};
+ghost use Rattle.member_parts.specs.Secrets.{AreSecretsOf, shuffle_secrets};
 ghost use Rattle.member_core.specs.Asking.{IsDue, IsToBeAsked, StandsAsked, asked_at};
 ghost use Rattle.member_core.specs.Membership.{holdings_of};
-ghost use Rattle.member_core.specs.Needs.{AreSecretsOf, HoldsNeeded, shuffle_secrets};
+ghost use Rattle.member_core.specs.Needs.{HoldsNeeded};
 ghost use Rattle.member_core.specs.Sound.{IsFormed, IsReady};
 ghost use Rattle.member_core.specs.Stands.{StandsFor};
 
 use crate::machine::Machine;
-use crate::own::Own;
 use bulk_descriptor::Made;
 use honest_say::{accusation_item, make_descriptor, submit};
+use member_parts::Own;
 use member_spec::Conduct;
 use phase_message::Body;
 use shuffle_core::Submission;
@@ -118,7 +119,7 @@ impl Machine {
         let Some(keys) = &self.keys else {
             unreachable!()
         };
-        let secrets = self.secrets_of(shuffle);
+        let secrets = self.secrets.of_shuffle(shuffle);
         if shuffle == 1 {
             submit(alloc, &self.seat, secrets, &keys.first, shuffle, item)
         } else {

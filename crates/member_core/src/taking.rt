@@ -1,66 +1,32 @@
 //! Taking a delivery.
 
-ghost use Rattle.std.specs.Prelude.{◌≡◌, bytes_eq};
-ghost use Rattle.round_spec.specs.Embedded.{slot_named};
-
-use crate::ending::Ending;
 use crate::machine::Machine;
 use crate::member::Member;
-use closing_verdict::{Conviction, contradicted, malformed};
+use member_parts::{Ending, Found, find, shown, slot_of};
 use member_spec::{Conduct, Mood, Taken};
-use phase_message::{Header, Post, Slot, first_offence};
+use phase_message::{Header, Post};
 use signed_post::{Parts, PostRefusal, check_parts, unframed};
 use std::alloc::{AllocError, Global};
 use wire_core::{List, Mem};
 
-// What a member finds of a checked post of another member.
-#[derive(Clone, Copy)]
-pub(crate) enum Found {
-    // Its body is outside the grammar.
-    Malformed,
-    // Its slot is empty.
-    New,
-    // Its slot holds a post with this content.
-    Same,
-    // Its slot holds a post with another content.
-    Other,
-}
-
 impl Machine {
-    ghost use Rattle.std.specs.Prelude.{◌≡◌, ◌≤◌, ◌<◌, ◌^◌, ◌↔◌, ℕ, List, IfErr, IfOk, IsOk, IsSome, IsTrue, None, length};
+    ghost use Rattle.std.specs.Prelude.{◌≡◌, ◌≤◌, ◌↔◌, ℕ, List, IfErr, IfOk, IsOk, IsSome, IsTrue, None, length};
     ghost use Rattle.group_roster.specs.Given.{roster_of};
     ghost use Rattle.phase_message.specs.declared.post.TheConstants.{POST_LIMIT};
     ghost use Rattle.phase_message.specs.Stages.{is_slot};
     ghost use Rattle.stage_log.specs.Table.{IsKept, filled, kept_in};
     ghost use Rattle.round_spec.specs.Embedded.{slot_named};
     ghost use Rattle.round_spec.specs.Say.{Configuration};
-    ghost use Rattle.closing_verdict.specs.Convicting.{TellsConviction};
     ghost use Rattle.member_spec.specs.Actor.{Actor, actor_after, actor_behind_repeat, actor_behind_steps};
     ghost use Rattle.member_spec.specs.Replies.{Replies};
     ghost use Rattle.member_spec.specs.Taking.{LeavesAll, answer_to};
-    ghost use Rattle.member_core.specs.Found.{BlamesBy, IsOfAnother, IsStorable, TakesAs, TellsEnding, answer_behind, found_in, verdict_shown};
-    ghost use Rattle.member_core.specs.Membership.{IsOpen, IsRunning, holdings_of};
+    ghost use Rattle.member_parts.specs.Endings.{IsOpen, IsRunning};
+    ghost use Rattle.member_parts.specs.Finding.{verdict_shown};
+    ghost use Rattle.member_core.specs.Found.{BlamesBy, IsOfAnother, IsStorable, TakesAs, TellsEnding, answer_behind};
+    ghost use Rattle.member_core.specs.Membership.{holdings_of};
     ghost use Rattle.member_core.specs.Shorts.{IsShortLog};
     ghost use Rattle.member_core.specs.Sound.{IsFormed, IsSound};
     ghost use Rattle.member_core.specs.Stands.{StandsFor};
-
-    // What a checked content of another member is to what is kept.
-    fn find(&self, header: Header, content: &[u8]) -> Found
-        requires { length content.now < 2 ^ 32 }
-        ensures { result ≡ found_in self.now header content.now }
-    {
-        let kept = self.log.kept(slot_of(header));
-        if kept.is_some_and(|post| is_content(post, content)) {
-            return Found::Same;
-        }
-        if first_offence(self.seat.shape, content).is_some() {
-            return Found::Malformed;
-        }
-        match kept {
-            None => Found::New,
-            Some(_) => Found::Other,
-        }
-    }
 
     // Keeps a post in its slot, which is empty.
     fn keep(&mut self, alloc: Global, header: Header, parts: Parts<'_>) -> Mem<()>
@@ -83,28 +49,6 @@ impl Machine {
         Ok(())
     }
 
-    // The transcript that a string shows, alone or with the kept post of its slot.
-    fn shown(&self, alloc: Global, header: Header, bytes: &[u8], found: Found) -> Mem<Conviction>
-        requires least { 1 ≤ header.sender }
-        requires most { header.sender ≤ 8 }
-        requires string { length bytes.now ≤ POST_LIMIT }
-        requires short { IsShortLog self.now.seat.number self.now.log }
-        requires other { found ≡ Found.Other → IsSome (kept_in self.now.log (slot_named header)) }
-        ensures { IfOk result (TellsConviction
-            (verdict_shown self.now.seat.round header bytes.now (kept_in self.now.log (slot_named header)) found)) }
-    {
-        let round = self.seat.round;
-        match found {
-            Found::Other => {
-                let Some(first) = self.log.kept(slot_of(header)) else {
-                    unreachable!()
-                };
-                contradicted(alloc, header.sender, round, first, bytes)
-            }
-            _ => malformed(alloc, header.sender, round, bytes),
-        }
-    }
-
     // Ends the round with a transcript that a string shows, alone or with the kept post of its slot.
     fn blame(&mut self, alloc: Global, header: Header, bytes: &[u8], found: Found) -> Mem<()>
         requires least { 1 ≤ header.sender }
@@ -116,7 +60,7 @@ impl Machine {
             (verdict_shown self.old.seat.round header bytes.now (kept_in self.old.log (slot_named header)) found) self.old self.new) }
         ensures same { IfErr result (λ _. self.new ≡ self.old) }
     {
-        let conviction = self.shown(alloc, header, bytes, found)?;
+        let conviction = shown(alloc, &self.log, self.seat.round, header, bytes, found)?;
         self.end(Ending::Blamed(conviction));
         Ok(())
     }
@@ -202,7 +146,7 @@ impl Machine {
             StandsFor (C.replies conduct.old) start c (actor_after start c delivered) (holdings_of self.old) →
             LeavesAll (answer_to start c (actor_after start c delivered) bytes.now) → IsOk result }
     {
-        let found = self.find(header, parts.content);
+        let found = find(&self.log, self.seat.shape, header, parts.content);
         match found {
             Found::Same => Ok(Taken::Same),
             Found::New => self.store(alloc, conduct, header, parts),
@@ -253,7 +197,7 @@ impl<C: Conduct> Member<C> {
     ghost use Rattle.member_spec.specs.Actor.{actor_after};
     ghost use Rattle.member_spec.specs.Replies.{Replies};
     ghost use Rattle.member_spec.specs.Taking.{LeavesAll, answer_to};
-    ghost use Rattle.member_core.specs.Membership.{HasBlamed, HasEnded, IsOpen, IsOutOfMemory, IsRunning};
+    ghost use Rattle.member_parts.specs.Endings.{HasBlamed, HasEnded, IsOpen, IsOutOfMemory, IsRunning};
     ghost use Rattle.member_core.specs.Needs.{HoldsNeeded};
     ghost use Rattle.member_core.specs.Promises.{IsPlainMember, KeepsRun};
     ghost use Rattle.member_core.specs.Stands.{Stands};
@@ -296,21 +240,4 @@ impl<C: Conduct> Member<C> {
             }
         }
     }
-}
-
-// The slot that a header names.
-fn slot_of(header: Header) -> Slot
-    ensures { result ≡ slot_named header }
-{
-    Slot {
-        stage: header.stage,
-        sender: header.sender,
-    }
-}
-
-// Whether a post has this content.
-fn is_content(kept: &Post, content: &[u8]) -> bool
-    ensures { result ≡ bytes_eq kept.now.content content.now }
-{
-    kept.content.items().as_slice() == content
 }

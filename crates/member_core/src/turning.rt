@@ -4,11 +4,11 @@ ghost use Rattle.std.specs.Prelude.{◌≡◌};
 ghost use Rattle.std.specs.List.{list_any};
 ghost use Rattle.round_spec.specs.Verdict.{is_bad};
 
-use crate::ending::Ending;
 use crate::machine::Machine;
 use bulk_descriptor::SlotState;
 use closing_verdict::{Closing, Judged};
 use honest_say::{GroupKeys, Slots};
+use member_parts::Ending;
 use member_spec::{Conduct, Mood};
 use phase_message::{StageKind, is_slot, stage_kind};
 use std::alloc::Global;
@@ -26,8 +26,9 @@ impl Machine {
     ghost use Rattle.closing_verdict.specs.Judgement.{TellsVerdict};
     ghost use Rattle.member_spec.specs.Actor.{Actor, actor_behind_step, actor_behind_steps};
     ghost use Rattle.member_spec.specs.Replies.{Replies};
+    ghost use Rattle.member_parts.specs.Endings.{IsOpen, IsRunning};
     ghost use Rattle.member_core.specs.Concluding.{HasSlotsFor, is_due_by, is_filled, machine_behind, machine_by, machine_done, machine_with_slots};
-    ghost use Rattle.member_core.specs.Membership.{IsOpen, IsRunning, completed_of, holdings_of};
+    ghost use Rattle.member_core.specs.Membership.{completed_of, holdings_of};
     ghost use Rattle.member_core.specs.Sound.{CarriesKeys, IsFormed, IsReady, IsSound};
     ghost use Rattle.member_core.specs.Stands.{StandsFor};
 
@@ -194,7 +195,7 @@ impl Machine {
             StandsFor (C.replies conduct.old) start c a (holdings_of self.old) →
             StandsFor (C.replies conduct.new) start c (actor_behind_step start c a) (holdings_of self.new)) }
     {
-        if !self.is_open() {
+        if !self.ending.is_open() {
             return Ok(());
         }
         if self.is_stage_complete() {

@@ -4,6 +4,7 @@ use Rattle.outside.specs.Changes.{Change, Failed}
 use Rattle.crash_disk.specs.Names.{Names}
 use Rattle.group_roster.specs.Given.{roster_of}
 use Rattle.group_roster.specs.Roster.{Roster}
+use Rattle.key_store.specs.Crashes.{LeavesHalfRaised}
 use Rattle.key_store.specs.KeyFiles.{key_read, parts_in}
 use Rattle.key_store.specs.Store.{KeyState, kept_by}
 use Rattle.key_store.specs.declared.layout.KeyContent.{KeyContent}
@@ -56,6 +57,11 @@ KeepsKeyFile disk name = key_file_told disk.now name ≡ key_file_told disk.befo
 abbrev pub KeepsStanding : Change DiskTold → List ℕ → Type 0
 KeepsStanding disk name = IfSome (key_file_told disk.before name) (λ bytes. key_file_told disk.now name ≡ Some bytes)
 
+-- the raise of a key file of this name that said this broke off, where its bytes are known: at most one slot differs, and it
+-- stands for no less, where its slots were paired
+abbrev pub IsLeftHalfRaised : Change DiskTold → List ℕ → KeyContent → Type 0
+IsLeftHalfRaised disk name content = LeavesHalfRaised (key_file_told disk.before name) (key_file_told disk.now name) content ROUND_LEAVES
+
 -- the answer of reading all: what a member comes with, by what stood there; or the status that refuses it; or memory was
 -- wanting; the key file is as it was; or there was a fault
 abbrev pub EntersBy : Change (Option Held) → Change DiskTold → MemberWords → Found → Result EntrantRead Status → Type 0
@@ -97,7 +103,8 @@ pub record Opens (disk : Change DiskTold) (name : List ℕ) (answer : Result Key
 
 -- What beginning a round came to with a key file that said this: its next leaves are taken, and it says so, and so do the
 -- bytes of the disk's file, where they are told; or the round or the leaves are refused, or memory was wanting, and nothing
--- is touched; or the disk failed.
+-- is touched; or the round could begin, and the disk failed: then at most one slot of the file differs, and it stands for no
+-- less, where its slots were paired.
 pub record Begins (disk : Change DiskTold) (round : ℕ) (content : KeyContent) (key : KeyState) (answer : Result RunState Status) : Type 0 where
   pub answers : MatchResult answer
       (λ run. (or_not_begun round content ≡ Ok tt)
@@ -105,5 +112,7 @@ pub record Begins (disk : Change DiskTold) (round : ℕ) (content : KeyContent) 
       × IfSome disk.before.file (λ _. IsSomeAnd disk.now.file (λ bytes. key_read (take 128 bytes) ≡ Ok (raised_to round content)))
       × IsOpen key (raised_to round content))
       (λ status. ((or_not_begun round content ≡ Err status) × IsUntouched disk)
-      ⊎ ((status ≡ OutOfMemory) × IsUntouched disk) ⊎ ((status ≡ DiskFault) × Failed disk))
+      ⊎ ((status ≡ OutOfMemory) × IsUntouched disk)
+      ⊎ ((status ≡ DiskFault) × Failed disk × (or_not_begun round content ≡ Ok tt)
+      × LeavesHalfRaised disk.before.file disk.now.file content ROUND_LEAVES))
   pub count : disk.faults_before ≤ disk.faults_now

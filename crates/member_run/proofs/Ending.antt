@@ -1,11 +1,12 @@
 -- A run that has gone on ends: with all posts made, with none made any more, or behind a frame that was not delivered.
-use Rattle.std.proofs.Common.{◌≡◌, ◌⊎◌, inl, inr, ℕ, suc, ◌+◌, ◌<◌, ◌≤◌, List, [], ◌∷◌, ◌++◌, length, Option, Some, None, refl, sym, ap, ◌∙◌, subst, arith, append_assoc, append-nil}
-use Rattle.std.specs.Prelude.{IfSome, IsSomeAnd}
+use Rattle.std.proofs.Common.{◌≡◌, ◌⊎◌, inl, inr, ℕ, ◌<◌, ◌≤◌, List, [], ◌∷◌, ◌++◌, length, Option, Some, None, refl, sym, ap, ◌∙◌, subst, arith, append-nil}
+use Rattle.std.specs.Prelude.{IfSome}
 use Rattle.outside.specs.Faults.{Rose, counted}
 use Rattle.wire_core.specs.Bytes.{IsBytes}
 use Rattle.round_spec.specs.Say.{Configuration}
 use Rattle.member_spec.specs.Replies.{Replies}
-use Rattle.member_core.specs.Membership.{HasEnded, IsOpen, IsOutOfMemory, Membership}
+use Rattle.member_parts.specs.Endings.{IsOutOfMemory}
+use Rattle.member_core.specs.Membership.{Membership}
 use Rattle.member_core.specs.Promises.{IsPlainMember}
 use Rattle.round_link.specs.declared.link.LinkAnswer.TheVariants.{Failed as PostFailed, OutOfMemory as PostOutOfMemory}
 use Rattle.round_link.specs.declared.link_call.LinkCall.TheVariants.{Received}
@@ -15,7 +16,7 @@ use Rattle.member_run.specs.declared.run_end.RunEnd.{RunEnd}
 use Rattle.member_run.specs.declared.run_end.RunEnd.TheVariants.{Ended, Waiting, LinkFault, Flooded, OutOfMemory}
 use Rattle.member_run.specs.declared.run_end.TheConstants.{FRAME_LIMIT}
 use Rattle.member_run.specs.Begun.{Begun, Going, IsHandedOut}
-use Rattle.member_run.specs.Ran.{BeginsWith, EndsSo, Exchange, IfTold, MakesDue, Ran, posts_due}
+use Rattle.member_run.specs.Ran.{BeginsWith, EndsSo, Exchange, IfTold, MakesDue, Ran, RoseOnceAtMost, posts_due}
 use Rattle.member_run.proofs.Exchanges.{with_frame, with_none}
 use Rattle.member_run.proofs.Going.{OnWay, all-made, count-more, due-more, none-due, one-more, told-on}
 
@@ -35,6 +36,10 @@ way-begins : (c : Configuration) (delivered frames : List (List ℕ)) (handed no
     → (way : OnWay c delivered frames handed now t u) → BeginsWith (posts_due c (delivered ++ frames) handed) (posts_in way.0.calls)
 way-begins c delivered frames handed now t u way = (posts_due c (delivered ++ frames) now, sym way.1)
 
+-- one End was answered
+pub one-end : (begun before now : ℕ) → before ≡ begun → now ≡ counted before → RoseOnceAtMost begun now
+one-end begun before now same is = inr (is ∙ ap counted same)
+
 -- ---- with no frame more
 
 no-less : (begun before now : ℕ) → begun ≤ before → before ≤ now → begun ≤ now
@@ -42,17 +47,19 @@ no-less begun before now le more = omega (arith, le, more)
 
 ends-with : {A : Type 0} (replies_of : A → Replies) (b : Begun A) (frames : List (List ℕ)) (m m' : Membership A) (s s' : Shown) (end : RunEnd)
     → Going replies_of b frames m s → length frames ≤ FRAME_LIMIT → s'.frames ≡ s.frames → s.faults ≤ s'.faults
-    → EndsSo m'.holds (length frames) b.link s' end → (b.link.ends < s'.ends → end ≡ Waiting) → Comes replies_of m m' end
+    → EndsSo m'.holds (length frames) b.link s' end → (b.link.ends < s'.ends → end ≡ Waiting) → RoseOnceAtMost b.link.ends s'.ends
+    → Comes replies_of m m' end
     → ((c : Configuration) (delivered : List (List ℕ)) → IsPlainMember replies_of c (delivered ++ frames) m
     → IfTold b.link s (OnWay c delivered frames b.member.holds.handed m.holds.handed)
     → IfTold b.link s' (EndsWay end c delivered frames b.member.holds.handed))
     → Ran replies_of b.member m' b.link s' end
-ends-with replies_of b frames m m' s s' end g most counts rises so at_end comes told = record {
+ends-with replies_of b frames m m' s s' end g most counts rises so at_end one comes told = record {
   frames = frames;
   counted = counts ∙ g.counted;
   at_most = most;
   ends = so;
   at_end = at_end;
+  one_end = one;
   faults = no-less b.link.faults s.faults s'.faults g.faults rises;
   plain = λ c delivered is. (let from = g.plain c delivered is in
       record { member = comes c (delivered ++ frames) from.member; traffic = told c delivered from.member from.traffic });
@@ -105,7 +112,8 @@ pub hindered : {A : Type 0} (replies_of : A → Replies) (b : Begun A) (frames :
     → IsHindered end → EndsSo m'.holds (length frames) b.link s' end → Comes replies_of m m' end
     → Ran replies_of b.member m' b.link s' end
 hindered replies_of b frames m m' s s' end g most counts ends rises same is so comes =
-    ends-with replies_of b frames m m' s s' end g most counts rises so (no-rise b.link.ends s'.ends end (ends ∙ g.ends)) comes
+    ends-with replies_of b frames m m' s s' end g most counts rises so (no-rise b.link.ends s'.ends end (ends ∙ g.ends))
+    (inl (ends ∙ g.ends)) comes
     (λ c delivered plain told. told-on (OnWay c delivered frames b.member.holds.handed m.holds.handed)
     (EndsWay end c delivered frames b.member.holds.handed) b.link.traffic s.traffic s'.traffic
     (λ u e. (u, same ∙ e, λ t way. (way.0, begins-is-enough end _ _ is (way-begins c delivered frames b.member.holds.handed m.holds.handed t u way)))) told)
@@ -115,7 +123,8 @@ pub stops : {A : Type 0} (replies_of : A → Replies) (b : Begun A) (frames : Li
     → Going replies_of b frames m s → length frames ≤ FRAME_LIMIT → IsHandedOut m
     → EndsSo m.holds (length frames) b.link s end → Ran replies_of b.member m b.link s end
 stops replies_of b frames m s end g most all so =
-    ends-with replies_of b frames m m s s end g most refl (omega arith) so (no-rise b.link.ends s.ends end g.ends) (λ c delivered is. inl is)
+    ends-with replies_of b frames m m s s end g most refl (omega arith) so (no-rise b.link.ends s.ends end g.ends) (inl g.ends)
+    (λ c delivered is. inl is)
     (λ c delivered plain told. told-on (OnWay c delivered frames b.member.holds.handed m.holds.handed)
     (EndsWay end c delivered frames b.member.holds.handed) b.link.traffic s.traffic s.traffic
     (λ u e. (
@@ -132,9 +141,10 @@ stops replies_of b frames m s end g most all so =
 pub received-none : {A : Type 0} (replies_of : A → Replies) (b : Begun A) (frames : List (List ℕ)) (m : Membership A) (s s' : Shown) (end : RunEnd)
     → Going replies_of b frames m s → length frames ≤ FRAME_LIMIT → IsHandedOut m → s'.frames ≡ s.frames → s.faults ≤ s'.faults
     → TakesNone s.traffic s'.traffic ⊎ (s'.traffic ≡ s.traffic)
-    → EndsSo m.holds (length frames) b.link s' end → (b.link.ends < s'.ends → end ≡ Waiting) → Ran replies_of b.member m b.link s' end
-received-none replies_of b frames m s s' end g most all counts rises takes so at_end =
-    ends-with replies_of b frames m m s s' end g most counts rises so at_end (λ c delivered is. inl is)
+    → EndsSo m.holds (length frames) b.link s' end → (b.link.ends < s'.ends → end ≡ Waiting) → RoseOnceAtMost b.link.ends s'.ends
+    → Ran replies_of b.member m b.link s' end
+received-none replies_of b frames m s s' end g most all counts rises takes so at_end one =
+    ends-with replies_of b frames m m s s' end g most counts rises so at_end one (λ c delivered is. inl is)
     (λ c delivered plain told. told-on (OnWay c delivered frames b.member.holds.handed m.holds.handed)
     (EndsWay end c delivered frames b.member.holds.handed) b.link.traffic s.traffic s'.traffic
     (λ u e. step c delivered (none-due replies_of c (delivered ++ frames) m plain all) u e takes) told)
@@ -149,7 +159,7 @@ received-none replies_of b frames m s s' end g most all counts rises takes so at
       with_call u (Received None),
       subst (λ (o : Option Traffic). TakesNone o s'.traffic) e takes,
       λ t way. (let made = all-made c delivered frames b.member.holds.handed m.holds.handed t u none way in (
-        with_none c delivered b.member.holds.handed frames t u way.0 made,
+        with_none c delivered b.member.holds.handed frames t u way.0 made way.2,
         all-is-enough end _ _ (posts_in-append way.0.calls (Received None ∷ []) ∙ append-nil (posts_in way.0.calls) ∙ made),
       )),
     )
@@ -180,6 +190,7 @@ not-delivered replies_of b frames frame m m' s s' g less all takes counts ends r
   at_most = omega (arith, one-more frames frame, less);
   ends = tt;
   at_end = no-rise b.link.ends s'.ends OutOfMemory (ends ∙ g.ends);
+  one_end = inl (ends ∙ g.ends);
   faults = no-less b.link.faults s.faults s'.faults g.faults rises;
   plain = λ c delivered is. (let from = g.plain c delivered is in record {
     member = inr (refl, stopped);
@@ -201,7 +212,7 @@ not-delivered replies_of b frames frame m m' s s' g less all takes counts ends r
     ends-way c delivered is t u rest first way =
         let made = all-made c delivered frames b.member.holds.handed m.holds.handed t u (none-due replies_of c (delivered ++ frames) m is all) way in
         let more = due-more replies_of c delivered frames frame m is are in (
-          with_frame c delivered b.member.holds.handed frames t u frame rest way.0 made first,
+          with_frame c delivered b.member.holds.handed frames t u frame rest way.0 made way.2 first,
           (
             more.0,
             more.1 b.member.holds.handed (let before = g.handed in omega arith)

@@ -15,21 +15,22 @@ use Rattle.member_core.specs.Membership.{Membership, posts_made}
 use Rattle.member_core.specs.Promises.{IsPlainMember}
 use Rattle.member_core.proofs.Shown.{plain-made}
 use Rattle.round_link.specs.declared.link.LinkAnswer.TheVariants.{Done}
-use Rattle.round_link.specs.declared.link_call.LinkCall.{LinkCall}
 use Rattle.round_link.specs.declared.link_call.LinkCall.TheVariants.{Received, Posted}
 use Rattle.round_link.specs.Traffic.{Makes, Shown, TakesFirst, Traffic, posts_in, with_call}
 use Rattle.round_link.proofs.Calls.{posts_in-append}
 use Rattle.round_link.proofs.Fronts.{drop-front}
-use Rattle.member_run.specs.Begun.{Begun, Going, IsHandedOut}
-use Rattle.member_run.specs.Ran.{Exchange, IfTold, count_after, posts_due}
-use Rattle.member_run.proofs.Exchanges.{no_exchange, with_frame, with_post}
+use Rattle.member_run.specs.Begun.{Begun, EachTakes, Going, IsHandedOut}
+use Rattle.member_run.specs.Ran.{Exchange, count_after, posts_due}
+use Rattle.member_run.proofs.Exchanges.{frame-takes, no_call, no_exchange, post-takes, takes-push, with_frame, with_post}
 use Rattle.member_run.proofs.Growing.{due-grow}
 
--- the traffic of a run that goes on: with these that are due now, the posts that were made are those that were due
+-- the traffic of a run that goes on: with these that are due now, the posts that were made are those that were due, and each
+-- `recv` took a frame
 abbrev pub OnWay : Configuration → (delivered frames : List (List ℕ)) → (handed now : ℕ) → Traffic → Traffic → Type 0
 OnWay c delivered frames handed now earlier later =
     (exchange : Exchange c delivered handed frames earlier later)
     × (posts_in exchange.calls ++ posts_due c (delivered ++ frames) now ≡ posts_due c (delivered ++ frames) handed)
+    × EachTakes exchange.calls
 
 -- what is told goes on
 pub told-on : (P Q : Traffic → Traffic → Type 0) (before now next : Option Traffic)
@@ -58,7 +59,7 @@ begins replies_of m now = record {
     told : (c : Configuration) (delivered : List (List ℕ)) (o : Option Traffic)
         → IfSome o (λ t. IsSomeAnd o (OnWay c delivered [] m.holds.handed m.holds.handed t))
     told c delivered None = tt
-    told c delivered (Some t) = (no_exchange c delivered m.holds.handed t, refl)
+    told c delivered (Some t) = (no_exchange c delivered m.holds.handed t, refl, no_call)
 
 -- ---- a post
 
@@ -70,11 +71,12 @@ pub way-posted : (c : Configuration) (delivered frames : List (List ℕ)) (hande
     → next ≡ now + 1 → slice_get (map post_spelling (posts_of c (delivered ++ frames))) now ≡ Some bytes
     → OnWay c delivered frames handed now t u → OnWay c delivered frames handed next t (with_call u (Posted bytes))
 way-posted c delivered frames handed now next t u bytes e is way = (
-  with_post c delivered handed frames t u bytes way.0,
+  with_post c delivered handed frames t u bytes way.0 way.2,
   ap (λ (l : List (List ℕ)). l ++ due next) (posts_in-append way.0.calls (Posted bytes ∷ []))
       ∙ append_assoc (posts_in way.0.calls) (bytes ∷ []) (due next)
       ∙ ap (λ (l : List (List ℕ)). posts_in way.0.calls ++ l) (ap (λ (n : ℕ). bytes ∷ due n) e ∙ sym (drop-next (map post_spelling (posts_of c (delivered ++ frames))) now bytes is))
       ∙ way.1,
+  takes-push way.0.calls (Posted bytes) way.2 (post-takes bytes),
 )
   where
     due : ℕ → List (List ℕ)
@@ -183,9 +185,10 @@ taken replies_of b frames frame m m' s s' g all takes counts ends_same faults ar
         let now : posts_due c (delivered ++ (frames ++ frame ∷ [])) m'.holds.handed ≡ more.0 =
         ap (λ (n : ℕ). posts_due c (delivered ++ (frames ++ frame ∷ [])) n) handed ∙ more.1 m.holds.handed (omega arith)
         ∙ ap (λ (l : List (List ℕ)). l ++ more.0) none in (
-          with_frame c delivered b.member.holds.handed frames t u frame rest way.0 made first,
+          with_frame c delivered b.member.holds.handed frames t u frame rest way.0 made way.2 first,
           ap (λ (l : List (List ℕ)). l ++ posts_due c (delivered ++ (frames ++ frame ∷ [])) m'.holds.handed)
               (posts_in-append way.0.calls (Received (Some frame) ∷ []) ∙ append-nil (posts_in way.0.calls) ∙ made)
               ∙ ap (λ (l : List (List ℕ)). posts_due c (delivered ++ frames) b.member.holds.handed ++ l) now
               ∙ sym (more.1 b.member.holds.handed (let before = g.handed in omega arith)),
+          takes-push way.0.calls (Received (Some frame)) way.2 (frame-takes frame),
         )

@@ -1,5 +1,5 @@
 -- The posts of a plain member grow with what is delivered.
-use Rattle.std.proofs.Common.{◌≡◌, ℕ, ◌≤◌, List, [], ◌∷◌, ◌++◌, length, map, drop, refl, sym, ap, ◌∙◌, subst, arith}
+use Rattle.std.proofs.Common.{◌≡◌, ℕ, ◌≤◌, List, [], ◌∷◌, ◌++◌, length, map, drop, sym, ap, ◌∙◌, arith}
 use Rattle.std.specs.Prelude.{All}
 use Rattle.std.proofs.lemmas.List.{drop-append-le, length-map, map-append}
 use Rattle.std.proofs.lemmas.List.Elements.{All-push}
@@ -8,7 +8,6 @@ use Rattle.phase_message.specs.declared.post.Post.{Post}
 use Rattle.phase_message.specs.Post.{post_spelling}
 use Rattle.round_spec.specs.Result.{posts_of}
 use Rattle.round_spec.specs.Say.{Configuration}
-use Rattle.member_spec.specs.Actor.{actor_after}
 use Rattle.member_spec.specs.Growing.{GoesOnTo}
 use Rattle.member_spec.specs.Replies.{Replies}
 use Rattle.member_spec.proofs.Growing.{posts_grow}

@@ -1,9 +1,9 @@
 //! Making the posts that are due.
 ghost use Rattle.std.specs.Prelude.{◌≡◌, ◌≤◌, ◌<◌, ◌-◌, ℕ, true, false, List, IfErr, IfOk, Ok, OnOk, length};
 ghost use Rattle.round_link.specs.Traffic.{shown_by};
-ghost use Rattle.member_core.specs.Membership.{IsRunning};
 ghost use Rattle.member_run.specs.Begun.{Begun, Going, IsHandedOut, posts_left};
 ghost use Rattle.member_run.specs.Ran.{Ran};
+ghost use Rattle.member_parts.specs.Endings.{IsRunning};
 
 use crate::run_end::{FRAME_LIMIT, RunEnd};
 use member_core::{Conduct, Honest, Member};

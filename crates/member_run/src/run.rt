@@ -3,7 +3,7 @@ ghost use Rattle.std.specs.Prelude.{◌≡◌, ◌<◌, ◌↔◌, false, ℕ, L
 ghost use Rattle.wire_core.specs.Bytes.{IsBytes};
 ghost use Rattle.round_link.specs.Traffic.{shown_by};
 ghost use Rattle.round_spec.specs.Say.{Configuration};
-ghost use Rattle.member_core.specs.Membership.{HasEnded, IsOpen, IsOutOfMemory, IsRunning};
+ghost use Rattle.member_parts.specs.Endings.{HasEnded, IsOpen, IsOutOfMemory, IsRunning};
 ghost use Rattle.member_core.specs.Promises.{IsPlainMember};
 ghost use Rattle.member_run.specs.Begun.{Begun, Going};
 ghost use Rattle.member_run.specs.Ran.{Ran};

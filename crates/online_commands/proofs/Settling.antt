@@ -2,9 +2,10 @@
 use Rattle.std.proofs.Common.{◌≡◌, refl}
 use Rattle.round_spec.specs.Result.{Blamed as BlamedBy, DoneWith, Outcome, Waiting}
 use Rattle.member_spec.specs.Outcomes.{state_of}
-use Rattle.member_core.specs.declared.ending.Ending.{Ending}
-use Rattle.member_core.specs.declared.ending.Ending.TheVariants.{Blamed, Done, Open, Stopped}
-use Rattle.member_core.specs.Membership.{HasEnded, Holdings, IsOpen, state_by}
+use Rattle.member_parts.specs.declared.ending.Ending.{Ending}
+use Rattle.member_parts.specs.declared.ending.Ending.TheVariants.{Blamed, Done, Open, Stopped}
+use Rattle.member_parts.specs.Endings.{HasEnded, IsOpen}
+use Rattle.member_core.specs.Membership.{Holdings, state_by}
 use Rattle.online_commands.specs.TakingPart.{IsWaiting, WaitsOnlyIf}
 
 -- a round that has ended for the member does not wait

@@ -6,6 +6,7 @@ use Rattle.outside.specs.Changes.{Change, Failed}
 use Rattle.outside.specs.Faults.{Rose}
 use Rattle.crash_disk.specs.Names.{IsOfChosen, StaysBeside}
 use Rattle.lms_tree.specs.States.{RunState}
+use Rattle.key_store.specs.Crashes.{LeavesHalfRaised}
 use Rattle.key_store.specs.Store.{KeyState}
 use Rattle.key_store.specs.declared.layout.KeyContent.{KeyContent}
 use Rattle.round_link.specs.Traffic.{Shown}
@@ -14,11 +15,11 @@ use Rattle.offline_commands.specs.declared.status.Status.{Status}
 use Rattle.offline_commands.specs.declared.status.Status.TheVariants.{DiskFault, LinkFault, OutOfMemory, ReadFault}
 use Rattle.offline_commands.specs.Outside.{DiskTold, Held, OthersStay}
 use Rattle.member_entry.specs.declared.entering.Entrant.{Entrant as EntrantRead}
-use Rattle.member_entry.specs.Entering.{Entrant, Found, MemberWords, before_key, configuration_by, entrance_by, entrant_by, key_file_told, or_not_begun}
+use Rattle.member_entry.specs.Entering.{Entrant, Found, MemberWords, ROUND_LEAVES, before_key, configuration_by, entrance_by, entrant_by, key_file_told, or_not_begun}
 use Rattle.member_entry.specs.Steps.{Begins, Enters, IsOpen, IsReadFault, IsUntouched, KeepsHeld, KeepsKeyFile}
 use Rattle.online_commands.specs.TakingPart.{IsIdle, Outside}
 use Rattle.online_commands.specs.Promise.{BreaksOff, ComesOf, IsMemberAnswered, IsSilent, WasFound}
-use Rattle.online_commands.proofs.Raised.{is-raised, names-beside}
+use Rattle.online_commands.proofs.Raised.{is-half-raised, is-raised, names-beside}
 
 -- ---- small facts
 
@@ -219,8 +220,9 @@ begun-named disk opened key run a b same begins content is =
 pub not-begun : (files : Change (Option Held)) (disk : Change DiskTold) (mid : DiskTold) (faults : ℕ) (words : MemberWords) (fresh : List ℕ)
     (link now : Shown) (e : EntrantRead) (key : KeyState) (status : Status)
     → HasAsked files disk mid faults words link now e key (Err status)
+    → IsOfChosen mid.names mid.file → IsOfChosen disk.now.names disk.now.file
     → IsMemberAnswered (outside_of files disk link now) fresh (Some words) (Err status)
-not-begun files disk mid faults words fresh link now e key status h =
+not-begun files disk mid faults words fresh link now e key status h of now_of =
     let entrant = h.enters.answers in
     let quiet = quiet-asked files disk mid faults words link now e key (Err status) h in
     quiet-answers (outside_of files disk link now) fresh words h.enters.found (Err status) quiet
@@ -230,7 +232,8 @@ not-begun files disk mid faults words fresh link now e key status h =
         → KeepsKeyFile (first_part disk mid faults) words.key
         → ((or_not_begun words.round entrant.key ≡ Err status) × IsUntouched (second_part disk mid faults))
         ⊎ ((status ≡ OutOfMemory) × IsUntouched (second_part disk mid faults))
-        ⊎ ((status ≡ DiskFault) × Failed (second_part disk mid faults))
+        ⊎ ((status ≡ DiskFault) × Failed (second_part disk mid faults) × (or_not_begun words.round entrant.key ≡ Ok tt)
+        × LeavesHalfRaised mid.file disk.now.file entrant.key ROUND_LEAVES)
         → ComesOf (outside_of files disk link now) words found (entrance_by words fresh found) (Err status)
     comes found entrant silent is keeps (inl (refuses, untouched)) = refused (outside_of files disk link now) words
         found (entrance_by words fresh found) status silent (refused-round words fresh found entrant status is refuses)
@@ -238,13 +241,13 @@ not-begun files disk mid faults words fresh link now e key status h =
     comes found entrant silent is keeps (inr (inl (memory, untouched))) = broken (outside_of files disk link now) words
         found (entrance_by words fresh found) (Err status) silent
         (inl (told-same status OutOfMemory memory, ap (λ (d : DiskTold). key_file_told d words.key) untouched.told ∙ keeps))
-    comes found entrant silent is keeps (inr (inr (fault, failed))) = broken (outside_of files disk link now) words
+    comes found entrant silent is keeps (inr (inr (fault, failed, could, torn))) = broken (outside_of files disk link now) words
         found (entrance_by words fresh found) (Err status) silent
         (inr (inr (inl (
           told-same status DiskFault fault,
           rose-from disk.faults_before faults disk.faults_now h.enters.disk_count failed,
           entered-first words found entrant is,
-          inr (is-ok (entrant_by words found) entrant is),
+          inr (entrant, is, could, is-half-raised disk mid words.key keeps h.enters.answers.3 h.beside of now_of entrant.key torn),
         ))))
 
 -- memory is wanting once it has begun
@@ -257,7 +260,7 @@ no-memory files disk mid faults words fresh link now e key run h of now_of =
     let quiet = quiet-asked files disk mid faults words link now e key (Ok run) h in
     let entered = h.enters.answers in
     let begun = h.begins entered.0.key entered.2.key in
-    let raised = is-raised disk mid words.key words.round entered.0 entered.4 entered.3 h.beside of now_of begun.answers.2 in
+    let raised = is-raised disk mid words.key entered.4 entered.3 h.beside of now_of words.round entered.0 begun.answers.2 in
     quiet-answers (outside_of files disk link now) fresh words h.enters.found (Err OutOfMemory) quiet
     (subst (λ (r : Result (Entrant × Configuration) Status).
     ComesOf (outside_of files disk link now) words h.enters.found r (Err OutOfMemory))

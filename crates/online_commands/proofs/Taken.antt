@@ -17,7 +17,7 @@ use Rattle.round_spec.specs.Say.{Configuration}
 use Rattle.round_spec.proofs.Honesty.{run_after_is_honest}
 use Rattle.member_spec.specs.Outcomes.{slots_shown, state_of}
 use Rattle.member_spec.specs.Replies.{Replies}
-use Rattle.member_core.specs.declared.config.Config.{Config}
+use Rattle.member_parts.specs.declared.config.Config.{Config}
 use Rattle.member_core.specs.Membership.{Holdings, Membership, state_by}
 use Rattle.member_core.specs.Promises.{IsPlainMember}
 use Rattle.member_core.specs.Stands.{configuration_of}
@@ -229,7 +229,7 @@ takes-part {A} replies_of files mid_files files_faults disk mid faults words fre
       bytes = heard;
       honest = λ apart. run_after_is_honest c r.ran.frames config_is (heard apart);
       stood = key-stood disk mid words.key h.enters.names entered.4 entered.3 of;
-      raised = is-raised disk mid words.key words.round entrant entered.4 entered.3 h.beside of now_of begun.answers.2;
+      raised = is-raised disk mid words.key entered.4 entered.3 h.beside of now_of words.round entrant begun.answers.2;
       counted = r.ran.counted ∙ ap (count_after (length r.ran.frames)) h.idle.1;
       at_most = r.ran.at_most;
       converses = converses (record files { before = mid_files; faults_before = files_faults }) words.transcript end c r.ran.frames

@@ -18,10 +18,10 @@ use Rattle.dissent_words.specs.Request.{Request, Text, for_member}
 use Rattle.offline_commands.specs.declared.status.Status.{Status}
 use Rattle.offline_commands.specs.declared.status.Status.TheVariants.{BadKeyFile, Blamed, Done, DiskFault, Exhausted, LinkFault, NotMember, OldRound, OutOfMemory, ReadFault, Usage, WriteFault}
 use Rattle.offline_commands.specs.Delivery.{Delivers}
-use Rattle.offline_commands.specs.Outside.{Gains, Held, HoldsNow, IsMissing, OthersStay, Shows}
+use Rattle.offline_commands.specs.Outside.{DiskTold, Gains, Held, HoldsNow, IsMissing, OthersStay, Shows}
 use Rattle.offline_commands.specs.Promise.{Asked, IsRun}
-use Rattle.member_entry.specs.Entering.{Entrant, Found, IsKeyFile, MemberWords, before_key, entrance_by, entrant_by, key_file_told}
-use Rattle.member_entry.specs.Steps.{IsUntouched, KeepsKeyFile, KeepsStanding}
+use Rattle.member_entry.specs.Entering.{Entrant, Found, IsKeyFile, MemberWords, before_key, entrance_by, entrant_by, key_file_told, or_not_begun}
+use Rattle.member_entry.specs.Steps.{IsLeftHalfRaised, IsUntouched, KeepsKeyFile, KeepsStanding}
 use Rattle.online_commands.specs.TakingPart.{IsIdle, IsRaised, Outside, TookPart}
 
 -- ---- a member
@@ -45,15 +45,20 @@ pub record WasFound (outside : Outside) (words : MemberWords) (found : Found) : 
   pub message : Shows outside.files.before words.message found.message_file
   pub key : IsKeyFile outside.disk.before words.key found.key_file
 
+-- the round could begin, and the raise of the key file broke off
+abbrev pub BreaksRaise : Change DiskTold → MemberWords → Found → Type 0
+BreaksRaise disk words found = (entrant : Entrant) × (entrant_by words found ≡ Ok entrant) × (or_not_begun words.round entrant.key ≡ Ok tt)
+    × IsLeftHalfRaised disk words.key entrant.key
+
 -- Memory was wanting, and the key file is as it was; or there was a fault that a count tells: of the files in a read, before
 -- the disk was touched; of the disk, where the steps before the key file refuse nothing, and what stood under its name stands
--- there, unless the steps before the link refuse nothing either; or of the link, where these refuse nothing, and the key file
--- is as it was.
+-- there, or it was half raised, where the round could begin; or of the link, where the steps before it refuse nothing, and the
+-- key file is as it was.
 abbrev pub BreaksOff : Outside → MemberWords → Found → Result (List ℕ) Status → Type 0
 BreaksOff outside words found answer = ((answer ≡ Err OutOfMemory) × KeepsKeyFile outside.disk words.key)
     ⊎ ((answer ≡ Err ReadFault) × Failed outside.files × IsUntouched outside.disk)
     ⊎ ((answer ≡ Err DiskFault) × Failed outside.disk × IsOk (before_key words found)
-    × (KeepsStanding outside.disk words.key ⊎ IsOk (entrant_by words found)))
+    × (KeepsStanding outside.disk words.key ⊎ BreaksRaise outside.disk words found))
     ⊎ ((answer ≡ Err LinkFault) × Rose outside.link_before.faults outside.link_now.faults × IsOk (entrant_by words found)
     × KeepsKeyFile outside.disk words.key)
 

@@ -14,7 +14,8 @@ use Rattle.phase_message.specs.declared.offence.Offence.{Offence}
 use Rattle.phase_message.specs.Offence.{field_at, flag_at, key_at, item_at, items_at, held_in, body_at}
 use Rattle.ring_poly.specs.PublicKey.{IsPublicKey}
 use Rattle.phase_message.specs.Grammar.{prefixed, AreItems, body_text, Fits}
-use Rattle.phase_message.proofs.Spelled.{given, field-takes, field-again, flag-takes, flag-again, key-takes, key-again, item-takes, item-again, items-takes, items-again}
+use Rattle.phase_message.proofs.Parts.{given}
+use Rattle.phase_message.proofs.Spelled.{field-takes, field-again, flag-takes, flag-again, key-takes, key-again, item-takes, item-again, items-takes, items-again}
 
 -- what a reading gave is spelled by a body that holds it, and the body fits
 held-takes : {A : Type 0} (body : A → Body) (form : BodyForm) (read : Result (A × Reading) Offence) (r : Reading) (x : Body × Reading)

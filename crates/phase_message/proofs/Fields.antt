@@ -5,16 +5,11 @@ use Rattle.std.specs.Int.{Width, w8, w64, byte_len, from_be_bytes}
 use Rattle.std.proofs.lemmas.Bool.{ltb-false}
 use Rattle.std.proofs.lemmas.List.{length-take, length-drop}
 use Rattle.wire_core.specs.declared.cursor.Short.{Short}
-use Rattle.wire_core.specs.Reading.{Reading, Reads, reading_of, advanced, ◌>>=◌, bytes_at, number_at}
+use Rattle.wire_core.specs.Reading.{Reading, Reads, reading_of, advanced, bytes_at, number_at}
 use Rattle.wire_core.proofs.Readings.{bind_ok, guard_ok, bytes_at-enough}
 use Rattle.phase_message.specs.declared.header.Header.{Header}
 use Rattle.phase_message.specs.Header.{header_at, header_of}
-
-abbrev done : {A : Type 0} → A → Result A Short
-done x = Ok x
-
-ok_is : {A : Type 0} (x y : A) → done x ≡ done y → x ≡ y
-ok_is x y e = cc
+use Rattle.phase_message.proofs.Parts.{given, value_ok, header-parts}
 
 -- n bytes that were read were there
 pub bytes_at-parts : (n : ℕ) (r : Reading) (x : List ℕ × Reading) → bytes_at n r ≡ Ok x → (n ≤ length r.rest) × (take n r.rest ≡ x.0)
@@ -35,7 +30,7 @@ number_at-length w r x e =
     let b = bind_ok (bytes_at (byte_len w) r) (λ front. Ok (from_be_bytes w front.0, front.1)) x e in
     let p = bytes_at-parts (byte_len w) r b.0 b.1 in
     let made : ℕ × Reading = (from_be_bytes w b.0.0, b.0.1) in
-    let same : b.0.1 ≡ x.1 = ap (λ (p : ℕ × Reading). p.1) (ok_is made x b.2) in
+    let same : b.0.1 ≡ x.1 = ap (λ (p : ℕ × Reading). p.1) (given made x b.2) in
     let left : length (drop (byte_len w) r.rest) ≡ length x.1.rest = ap (λ (q : Reading). length q.rest) (p.2 ∙ same) in
     omega (arith, length-drop (byte_len w) r.rest, left, p.0)
 
@@ -47,60 +42,17 @@ bytes_at-rest n r x e =
 
 -- a header that was read took 75 bytes
 header_takes : (r : Reading) (x : Header × Reading) → header_at r ≡ Ok x → 75 + length x.1.rest ≡ length r.rest
-unfolding header_at
 header_takes r x e =
-    let a = bind_ok (number_at w8 r) (λ version. bytes_at 32 version.1 >>= λ group. number_at w64 group.1 >>= λ round. number_at w8 round.1
-    >>= λ stage. number_at w8 stage.1 >>= λ sender. bytes_at 32 sender.1 >>= λ view. Ok
-    (record { version = version.0; group = group.0; round = round.0; stage = stage.0; sender = sender.0; view = view.0 }, view.1)) x e
-    in
-    let b = bind_ok (bytes_at 32 a.0.1) (λ group. number_at w64 group.1 >>= λ round. number_at w8 round.1 >>= λ stage. number_at w8 stage.1
-    >>= λ sender. bytes_at 32 sender.1 >>= λ view. Ok (
-      record
-          { version = a.0.0; group = group.0; round = round.0; stage = stage.0; sender = sender.0; view = view.0 },
-      view.1,
-    )) x a.2 in
-    let c = bind_ok (number_at w64 b.0.1) (λ round. number_at w8 round.1 >>= λ stage. number_at w8 stage.1 >>= λ sender. bytes_at 32
-    sender.1 >>= λ view. Ok (
-      record {
-        version = a.0.0;
-        group = b.0.0;
-        round = round.0;
-        stage = stage.0;
-        sender = sender.0;
-        view = view.0;
-      },
-      view.1,
-    )) x b.2 in
-    let d = bind_ok (number_at w8 c.0.1) (λ stage. number_at w8 stage.1 >>= λ sender. bytes_at 32 sender.1 >>= λ view. Ok
-    (record { version = a.0.0; group = b.0.0; round = c.0.0; stage = stage.0; sender = sender.0; view = view.0 }, view.1)) x c.2 in
-    let f = bind_ok (number_at w8 d.0.1) (λ sender. bytes_at 32 sender.1 >>= λ view. Ok
-    (record { version = a.0.0; group = b.0.0; round = c.0.0; stage = d.0.0; sender = sender.0; view = view.0 }, view.1)) x d.2 in
-    let g = bind_ok (bytes_at 32 f.0.1) (λ view. Ok (
-      record {
-        version = a.0.0;
-        group = b.0.0;
-        round = c.0.0;
-        stage = d.0.0;
-        sender = f.0.0;
-        view = view.0;
-      },
-      view.1,
-    )) x f.2 in
-    let made : Header × Reading = (
-      record { version = a.0.0; group = b.0.0; round = c.0.0; stage = d.0.0; sender = f.0.0; view = g.0.0 },
-      g.0.1,
-    ) in
-    let same : g.0.1 ≡ x.1 = ap (λ (p : Header × Reading). p.1) (ok_is made x g.2) in
-    let left : length g.0.1.rest ≡ length x.1.rest = ap (λ (q : Reading). length q.rest) same in
+    let p = header-parts r x e in
+    let left : length p.view.1.rest ≡ length x.1.rest = ap (λ (q : Header × Reading). length q.1.rest) p.whole in
     omega (
       arith,
-      number_at-length w8 r a.0 a.1,
-      bytes_at-rest 32 a.0.1 b.0 b.1,
-      number_at-length w64 b.0.1 c.0 c.1,
-      number_at-length w8
-          c.0.1 d.0 d.1,
-      number_at-length w8 d.0.1 f.0 f.1,
-      bytes_at-rest 32 f.0.1 g.0 g.1,
+      number_at-length w8 r p.version p.version_read,
+      bytes_at-rest 32 p.version.1 p.group p.group_read,
+      number_at-length w64 p.group.1 p.round p.round_read,
+      number_at-length w8 p.round.1 p.stage p.stage_read,
+      number_at-length w8 p.stage.1 p.sender p.sender_read,
+      bytes_at-rest 32 p.sender.1 p.view p.view_read,
       left,
     )
 
@@ -142,11 +94,6 @@ header_long r le =
       ),
       rw (e0, e1, e2, e3, e4, e5) refl,
     )
-
--- what a reading gives, without where it stands then
-value_ok : {A E : Type 0} (read : Result (A × Reading) E) (x : A) → (read >>= λ y. Ok y.0) ≡ Ok x → (y : A × Reading) × (read ≡ Ok y)
-value_ok (Ok y) x e = (y, refl)
-value_ok (Err d) x e = absurd cc
 
 pub header_ok-length : (content : List ℕ) → IsOk (header_of content) → 75 ≤ length content
 header_ok-length content ok = ok_length content (header_of content) refl ok

@@ -1,4 +1,5 @@
 pub mod Table
+pub mod Parts
 pub mod Fields
 pub mod Passing
 pub mod Counts

@@ -1,12 +1,10 @@
 -- What is read as a content, whatever its bytes are: a body of a kind that the stage has, with as many posts in it.
-use Rattle.std.proofs.Common.{◌≡◌, ℕ, zero, suc, Bool, true, false, List, [], ◌∷◌, length, Option, Some, None, Result, Ok, ap, sym, ◌∙◌, refl, subst, arith, inl, inr}
-use Rattle.std.specs.Prelude.{◌⊎◌, ◌==◌, not, nat_lt, if◌then◌else◌}
-use Rattle.std.specs.Option.{ok_or}
-use Rattle.std.specs.Int.{w8}
+use Rattle.std.proofs.Common.{◌≡◌, ℕ, zero, suc, Bool, true, false, List, [], ◌∷◌, length, Option, Some, None, Result, Ok, ap, sym, ◌∙◌, subst, arith, inl, inr}
+use Rattle.std.specs.Prelude.{◌⊎◌, ◌==◌, if◌then◌else◌}
 use Rattle.std.proofs.lemmas.Bool.{cases_Bool, cond-true, cond-false}
-use Rattle.wire_core.specs.Answers.{◌>>=◌, fault_as, unless}
-use Rattle.wire_core.specs.Reading.{Reading, reading_of, repeated, number_at}
-use Rattle.wire_core.proofs.Readings.{bind_ok, guard_ok}
+use Rattle.wire_core.specs.Answers.{◌>>=◌}
+use Rattle.wire_core.specs.Reading.{Reading, reading_of, repeated}
+use Rattle.wire_core.proofs.Readings.{bind_ok}
 use Rattle.phase_message.specs.declared.header.Header.{Header}
 use Rattle.phase_message.specs.declared.form.ItemForm.TheVariants.{Entry, Post, Pad}
 use Rattle.phase_message.specs.declared.form.BodyForm.{BodyForm}
@@ -17,18 +15,15 @@ use Rattle.phase_message.specs.declared.content.Content.{Content}
 use Rattle.phase_message.specs.declared.stage.StageKind.{StageKind}
 use Rattle.phase_message.specs.declared.stage.StageKind.TheVariants.{Keys as AtKeys, Submit as AtSubmit, Shuffle as AtShuffle, Go as AtGo, Final as AtFinal, Pad as AtPad, Check as AtCheck, Confirm as AtConfirm}
 use Rattle.phase_message.specs.Body.{body_form, form_of, only, either}
-use Rattle.phase_message.specs.Header.{header_at}
 use Rattle.phase_message.specs.declared.offence.Offence.{Offence}
-use Rattle.phase_message.specs.Offence.{body_at, content_read, cut, field_at, flag_at, head_at, held_in, item_at, items_at, key_at, offence}
+use Rattle.phase_message.specs.Offence.{body_at, content_read, field_at, flag_at, held_in, item_at, items_at, key_at}
 use Rattle.phase_message.specs.Shape.{Shape}
 use Rattle.phase_message.specs.Slots.{slots_before}
 use Rattle.phase_message.specs.Stages.{is_slot, kind_of_stage, vote_of}
 use Rattle.phase_message.specs.Closing.{ClosingsAreRead, IsClosingBody}
+use Rattle.phase_message.proofs.Parts.{given, content-parts, head-parts}
 
 -- ---- counts
-
-given : {A : Type 0} (x y : A × Reading) → (let told : A × Reading → Result (A × Reading) Offence = λ z. Ok z in told x ≡ told y) → x ≡ y
-given x y e = cc
 
 -- so many values are read
 repeated-count : {A : Type 0} (count : ℕ) (read : Reading → Result (A × Reading) Offence) (r : Reading) (x : List A × Reading)
@@ -107,57 +102,20 @@ pub record IsReadAs (shape : Shape) (c : Content) : Type 0 where
   pub form_is : body_form shape c.header.stage kind ≡ Some form
   pub counts : HasCount form c.body
 
-not-false : (b : Bool) → not b ≡ false → b ≡ true
-not-false true e = refl
-not-false false e = absurd cc
-
-refused-some : {A : Type 0} (o : Option A) (d : Offence) (x : A) → ok_or o d ≡ Ok x → o ≡ Some x
-refused-some None d x e = absurd cc
-refused-some (Some y) d x e = cc
-
-abbrev HasForm : Shape → Header × BodyForm → Type 0
-HasForm shape h = (kind : ℕ) × (is_slot shape h.0.stage h.0.sender ≡ true) × (body_form shape h.0.stage kind ≡ Some h.1)
-
-head-form : (shape : Shape) (r : Reading) (x : (Header × BodyForm) × Reading) → head_at shape r ≡ Ok x → HasForm shape x.0
-unfolding head_at
-head-form shape r x e =
-    let h = bind_ok (fault_as cut (header_at r)) (λ header. unless (not (header.0.version == shape.version)) (offence 8 0) header.1 >>= λ
-    version. unless (not (is_slot shape header.0.stage header.0.sender)) (offence 9 41) header.1 >>= λ slot. fault_as cut
-    (number_at w8 header.1) >>= λ kind. ok_or (body_form shape header.0.stage kind.0) (offence 1 75) >>= λ form. Ok
-    ((header.0, form), kind.1)) x e in
-    let v = bind_ok (unless (not (h.0.0.version == shape.version)) (offence 8 0) h.0.1)
-    (λ version. unless (not (is_slot shape h.0.0.stage h.0.0.sender)) (offence 9 41) h.0.1 >>= λ slot. fault_as cut (number_at w8 h.0.1)
-    >>= λ kind. ok_or (body_form shape h.0.0.stage kind.0) (offence 1 75) >>= λ form. Ok ((h.0.0, form), kind.1)) x h.2 in
-    let s = bind_ok (unless (not (is_slot shape h.0.0.stage h.0.0.sender)) (offence 9 41) h.0.1)
-    (λ slot. fault_as cut (number_at w8 h.0.1) >>= λ kind. ok_or (body_form shape h.0.0.stage kind.0) (offence 1 75) >>= λ form. Ok
-    ((h.0.0, form), kind.1)) x v.2 in
-    let k = bind_ok (fault_as cut (number_at w8 h.0.1)) (λ kind. ok_or (body_form shape h.0.0.stage kind.0) (offence 1 75) >>= λ form. Ok
-    ((h.0.0, form), kind.1)) x s.2 in
-    let f = bind_ok (ok_or (body_form shape h.0.0.stage k.0.0) (offence 1 75)) (λ form. Ok ((h.0.0, form), k.0.1)) x k.2 in
-    let slot = not-false _ (guard_ok (not (is_slot shape h.0.0.stage h.0.0.sender)) (offence 9 41) h.0.1 s.0 s.1).0 in
-    subst (λ (x : (Header × BodyForm) × Reading). HasForm shape x.0) (given ((h.0.0, f.0), k.0.1) x f.2)
-    (k.0.0, slot, refused-some _ _ f.0 f.1)
-
 pub content-form : (shape : Shape) (bytes : List ℕ) (c : Content) → content_read shape bytes ≡ Ok c → IsReadAs shape c
-unfolding content_read
 content-form shape bytes c e =
-    let w = bind_ok (unless (nat_lt (length bytes) 76) (offence 7 (length bytes)) (reading_of bytes))
-    (λ whole. head_at shape (reading_of bytes) >>= λ head. body_at head.0.1 head.1 >>= λ body. unless (nat_lt 0 (length body.1.rest))
-    (offence 3 body.1.place) (record { header = head.0.0; body = body.0 })) c e in
-    let h = bind_ok (head_at shape (reading_of bytes)) (λ head. body_at head.0.1 head.1 >>= λ body. unless (nat_lt 0 (length body.1.rest))
-    (offence 3 body.1.place) (record { header = head.0.0; body = body.0 })) c w.2 in
-    let b = bind_ok (body_at h.0.0.1 h.0.1) (λ body. unless (nat_lt 0 (length body.1.rest)) (offence 3 body.1.place)
-    (record { header = h.0.0.0; body = body.0 })) c h.2 in
-    let ended = guard_ok (nat_lt 0 (length b.0.1.rest)) (offence 3 b.0.1.place) (record { header = h.0.0.0; body = b.0.0 }) c b.2 in
-    let has = head-form shape (reading_of bytes) h.0 h.1 in
-    subst (IsReadAs shape) ended.1 (record {
-      form = h.0.0.1;
-      kind = has.0;
-      slot = has.1;
-      form_is = has.2;
-      counts = body-count h.0.0.1 h.0.1
-          b.0 b.1;
-    })
+    let p = content-parts shape bytes c e in
+    let h = head-parts shape (reading_of bytes) p.head p.head_read in
+    let counts = body-count p.head.0.1 p.head.1 p.body p.body_read in
+    subst (IsReadAs shape) p.whole
+    (subst (λ (x : (Header × BodyForm) × Reading). HasCount x.0.1 p.body.0 → IsReadAs shape (record { header = x.0.0; body = p.body.0 }))
+    h.whole (λ counts. record {
+      form = h.form;
+      kind = h.kind.0;
+      slot = h.slot_is;
+      form_is = h.form_is;
+      counts = counts;
+    }) counts)
 
 -- ---- closing stages
 

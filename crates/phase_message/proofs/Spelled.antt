@@ -19,11 +19,6 @@ use Rattle.phase_message.specs.Offence.{offence, cut, field_at, flag_at, bad_gro
 use Rattle.ring_poly.specs.PublicKey.{IsPublicKey}
 use Rattle.phase_message.specs.Grammar.{prefixed, flag_text, IsItem, AreItems}
 
--- two values that a reading gave are one
-pub given : {A : Type 0} (x y : A × Reading) → (let told : A × Reading → Result (A × Reading) Offence = λ z. Ok z in told x ≡ told y)
-    → x ≡ y
-given x y e = cc
-
 -- ---- n bytes
 
 pub field-takes : (n : ℕ) (r : Reading) (x : List ℕ × Reading) → field_at n r ≡ Ok x → Takes x.0 r x.1 × (length x.0 ≡ n)

@@ -1,12 +1,12 @@
 -- The same pair of laws for a header and for a whole content.
-use Rattle.std.proofs.Common.{◌≡◌, ℕ, ◌+◌, ◌≤◌, Bool, true, false, not, List, [], ◌∷◌, ◌++◌, length, refl, ap, sym, ◌∙◌, subst, arith, inl, inr, append_assoc, append-nil, length-append, eq-eqb, eqb-true}
-use Rattle.std.specs.Prelude.{Option, Some, None, Result, Ok, Err, IfOk, nat_lt, ◌==◌, ok_or}
+use Rattle.std.proofs.Common.{◌≡◌, ℕ, ◌+◌, ◌≤◌, true, false, List, [], ◌∷◌, ◌++◌, length, refl, ap, sym, ◌∙◌, subst, arith, inl, inr, append_assoc, append-nil, length-append, eq-eqb, eqb-true}
+use Rattle.std.specs.Prelude.{Option, Some, None, Result, Ok, Err, IfOk, nat_lt, ◌==◌}
 use Rattle.std.specs.Int.{w8, w64, to_be_bytes}
 use Rattle.std.proofs.lemmas.Bool.{ltb-false, le-ltb}
 use Rattle.wire_core.specs.declared.cursor.Short.{Short}
 use Rattle.wire_core.specs.Bytes.{IsBytes}
-use Rattle.wire_core.specs.Reading.{Reading, reading_at, reading_of, ◌>>=◌, fault_as, unless, bytes_at, number_at, Takes, Gives}
-use Rattle.wire_core.proofs.Readings.{bind_ok, fault_as_ok, guard_ok, chosen, Takes-append, Takes-bytes, bytes_at-takes, bytes_at-again, number_at-takes_1, number_at-takes_8, number_at-again_1, number_at-again_8}
+use Rattle.wire_core.specs.Reading.{Reading, reading_at, reading_of, bytes_at, number_at, Takes, Gives}
+use Rattle.wire_core.proofs.Readings.{chosen, Takes-append, Takes-bytes, bytes_at-takes, bytes_at-again, number_at-takes_1, number_at-takes_8, number_at-again_1, number_at-again_8}
 use Rattle.phase_message.specs.declared.header.Header.{Header}
 use Rattle.phase_message.specs.declared.stage.StageKind.{StageKind}
 use Rattle.phase_message.specs.declared.stage.StageKind.TheVariants.{Keys as AtKeys, Submit as AtSubmit, Shuffle as AtShuffle, Go as AtGo, Final as AtFinal, Pad as AtPad, Check as AtCheck, Confirm as AtConfirm}
@@ -21,59 +21,19 @@ use Rattle.phase_message.specs.Slots.{slots_before}
 use Rattle.phase_message.specs.Header.{header_at, header_of}
 use Rattle.phase_message.specs.Body.{only, either, form_in, form_of, body_form, level}
 use Rattle.phase_message.specs.declared.content.DecodeRefusal.{DecodeRefusal}
-use Rattle.phase_message.specs.declared.offence.Offence.{Offence}
-use Rattle.phase_message.specs.Offence.{fault, offence, cut, head_at, body_at, content_read}
+use Rattle.phase_message.specs.Offence.{fault, head_at, body_at, content_read}
 use Rattle.phase_message.specs.Grammar.{header_text, kind_number, body_text, content_text, Fits, HasWidths, BeginsWith, IsHeader, OfGrammar}
+use Rattle.phase_message.proofs.Parts.{value_ok, header-parts, head-parts, content-parts}
 use Rattle.phase_message.proofs.Bodies.{body-takes, body-again}
 
 -- ---- headers
 
-made : {A : Type 0} (x y : A × Reading) → (let told : A × Reading → Result (A × Reading) Short = λ z. Ok z in told x ≡ told y) → x ≡ y
-made x y e = cc
-
 header-takes : (r : Reading) (x : Header × Reading) → IsBytes r.rest → header_at r ≡ Ok x → Takes (header_text x.0) r x.1 × HasWidths x.0
-unfolding header_at
 header-takes r x bytes e =
-    let a = bind_ok (number_at w8 r) (λ version. bytes_at 32 version.1 >>= λ group. number_at w64 group.1 >>= λ round. number_at w8 round.1
-    >>= λ stage. number_at w8 stage.1 >>= λ sender. bytes_at 32 sender.1 >>= λ view. Ok
-    (record { version = version.0; group = group.0; round = round.0; stage = stage.0; sender = sender.0; view = view.0 }, view.1)) x e
-    in
-    let b = bind_ok (bytes_at 32 a.0.1) (λ group. number_at w64 group.1 >>= λ round. number_at w8 round.1 >>= λ stage. number_at w8 stage.1
-    >>= λ sender. bytes_at 32 sender.1 >>= λ view. Ok (
-      record
-          { version = a.0.0; group = group.0; round = round.0; stage = stage.0; sender = sender.0; view = view.0 },
-      view.1,
-    )) x a.2 in
-    let c = bind_ok (number_at w64 b.0.1) (λ round. number_at w8 round.1 >>= λ stage. number_at w8 stage.1 >>= λ sender. bytes_at 32
-    sender.1 >>= λ view. Ok (
-      record {
-        version = a.0.0;
-        group = b.0.0;
-        round = round.0;
-        stage = stage.0;
-        sender = sender.0;
-        view = view.0;
-      },
-      view.1,
-    )) x b.2 in
-    let d = bind_ok (number_at w8 c.0.1) (λ stage. number_at w8 stage.1 >>= λ sender. bytes_at 32 sender.1 >>= λ view. Ok
-    (record { version = a.0.0; group = b.0.0; round = c.0.0; stage = stage.0; sender = sender.0; view = view.0 }, view.1)) x c.2 in
-    let f = bind_ok (number_at w8 d.0.1) (λ sender. bytes_at 32 sender.1 >>= λ view. Ok
-    (record { version = a.0.0; group = b.0.0; round = c.0.0; stage = d.0.0; sender = sender.0; view = view.0 }, view.1)) x d.2 in
-    let g = bind_ok (bytes_at 32 f.0.1) (λ view. Ok (
-      record {
-        version = a.0.0;
-        group = b.0.0;
-        round = c.0.0;
-        stage = d.0.0;
-        sender = f.0.0;
-        view = view.0;
-      },
-      view.1,
-    )) x f.2 in
-    let same = made (record { version = a.0.0; group = b.0.0; round = c.0.0; stage = d.0.0; sender = f.0.0; view = g.0.0 }, g.0.1) x g.2 in
-    let read = fields-take r a.0 b.0 c.0 d.0 f.0 g.0 bytes a.1 b.1 c.1 d.1 f.1 g.1 in
-    subst (λ (x : Header × Reading). Takes (header_text x.0) r x.1 × HasWidths x.0) same read
+    let p = header-parts r x e in
+    subst (λ (x : Header × Reading). Takes (header_text x.0) r x.1 × HasWidths x.0) p.whole
+    (fields-take r p.version p.group p.round p.stage p.sender p.view bytes p.version_read p.group_read p.round_read p.stage_read
+    p.sender_read p.view_read)
   where
     fields-take : (r : Reading) (a : ℕ × Reading) (b : List ℕ × Reading) (c d f : ℕ × Reading) (g : List ℕ × Reading) → IsBytes r.rest
         → number_at w8 r ≡ Ok a → bytes_at 32 a.1 ≡ Ok b → number_at w64 b.1 ≡ Ok c → number_at w8 c.1 ≡ Ok d → number_at w8 d.1 ≡ Ok f
@@ -197,42 +157,15 @@ fits-number _ _ fits = absurd fits
 
 -- ---- the first 76 bytes
 
-refused-some : {A : Type 0} (o : Option A) (d : Offence) (x : A) → ok_or o d ≡ Ok x → o ≡ Some x
-refused-some None d x e = absurd cc
-refused-some (Some y) d x e = cc
-
-not-false : (b : Bool) → not b ≡ false → b ≡ true
-not-false true e = refl
-not-false false e = absurd cc
-
-given : {A : Type 0} (x y : A × Reading) → (let told : A × Reading → Result (A × Reading) Offence = λ z. Ok z in told x ≡ told y) → x ≡ y
-given x y e = cc
-
 abbrev IsHead : Shape → Reading → (Header × BodyForm) × Reading → Type 0
 IsHead shape r x = Takes (header_text x.0.0 ++ (form_number x.0.1 ∷ [])) r x.1 × IsHeader shape x.0.0
     × (body_form shape x.0.0.stage (form_number x.0.1) ≡ Some x.0.1)
 
 head-takes : (shape : Shape) (r : Reading) (x : (Header × BodyForm) × Reading) → IsBytes r.rest → head_at shape r ≡ Ok x → IsHead shape r x
-unfolding head_at
 head-takes shape r x bytes e =
-    let h = bind_ok (fault_as cut (header_at r)) (λ header. unless (not (header.0.version == shape.version)) (offence 8 0) header.1 >>= λ
-    version. unless (not (is_slot shape header.0.stage header.0.sender)) (offence 9 41) header.1 >>= λ slot. fault_as cut
-    (number_at w8 header.1) >>= λ kind. ok_or (body_form shape header.0.stage kind.0) (offence 1 75) >>= λ form. Ok
-    ((header.0, form), kind.1)) x e in
-    let v = bind_ok (unless (not (h.0.0.version == shape.version)) (offence 8 0) h.0.1)
-    (λ version. unless (not (is_slot shape h.0.0.stage h.0.0.sender)) (offence 9 41) h.0.1 >>= λ slot. fault_as cut (number_at w8 h.0.1)
-    >>= λ kind. ok_or (body_form shape h.0.0.stage kind.0) (offence 1 75) >>= λ form. Ok ((h.0.0, form), kind.1)) x h.2 in
-    let s = bind_ok (unless (not (is_slot shape h.0.0.stage h.0.0.sender)) (offence 9 41) h.0.1)
-    (λ slot. fault_as cut (number_at w8 h.0.1) >>= λ kind. ok_or (body_form shape h.0.0.stage kind.0) (offence 1 75) >>= λ form. Ok
-    ((h.0.0, form), kind.1)) x v.2 in
-    let k = bind_ok (fault_as cut (number_at w8 h.0.1)) (λ kind. ok_or (body_form shape h.0.0.stage kind.0) (offence 1 75) >>= λ form. Ok
-    ((h.0.0, form), kind.1)) x s.2 in
-    let f = bind_ok (ok_or (body_form shape h.0.0.stage k.0.0) (offence 1 75)) (λ form. Ok ((h.0.0, form), k.0.1)) x k.2 in
-    let version = not-false _ (guard_ok (not (h.0.0.version == shape.version)) (offence 8 0) h.0.1 v.0 v.1).0 in
-    let slot = not-false _ (guard_ok (not (is_slot shape h.0.0.stage h.0.0.sender)) (offence 9 41) h.0.1 s.0 s.1).0 in
-    subst (IsHead shape r) (given ((h.0.0, f.0), k.0.1) x f.2)
-    (parts shape r h.0 k.0 f.0 bytes (fault_as_ok cut (header_at r) h.0 h.1) (fault_as_ok cut (number_at w8 h.0.1) k.0 k.1) version slot
-    (refused-some _ _ f.0 f.1))
+    let p = head-parts shape r x e in
+    subst (IsHead shape r) p.whole
+    (parts shape r p.header p.kind p.form bytes p.header_read p.kind_read p.version_is p.slot_is p.form_is)
   where
     parts : (shape : Shape) (r : Reading) (h : Header × Reading) (k : ℕ × Reading) (form : BodyForm) → IsBytes r.rest → header_at r ≡ Ok h
         → number_at w8 h.1 ≡ Ok k → (h.0.version == shape.version) ≡ true → is_slot shape h.0.stage h.0.sender ≡ true
@@ -278,18 +211,10 @@ nothing_left (b ∷ rest) e = let le = ltb-false 0 (length (b ∷ rest)) e in ab
 
 pub content-is_spelled : (shape : Shape) (bytes : List ℕ) (c : Content) → IsBytes bytes → content_read shape bytes ≡ Ok c
     → (bytes ≡ content_text c) × OfGrammar shape c
-unfolding content_read
 content-is_spelled shape bytes c are e =
-    let w = bind_ok (unless (nat_lt (length bytes) 76) (offence 7 (length bytes)) (reading_of bytes))
-    (λ whole. head_at shape (reading_of bytes) >>= λ head. body_at head.0.1 head.1 >>= λ body. unless (nat_lt 0 (length body.1.rest))
-    (offence 3 body.1.place) (record { header = head.0.0; body = body.0 })) c e in
-    let h = bind_ok (head_at shape (reading_of bytes)) (λ head. body_at head.0.1 head.1 >>= λ body. unless (nat_lt 0 (length body.1.rest))
-    (offence 3 body.1.place) (record { header = head.0.0; body = body.0 })) c w.2 in
-    let b = bind_ok (body_at h.0.0.1 h.0.1) (λ body. unless (nat_lt 0 (length body.1.rest)) (offence 3 body.1.place)
-    (record { header = h.0.0.0; body = body.0 })) c h.2 in
-    let ended = guard_ok (nat_lt 0 (length b.0.1.rest)) (offence 3 b.0.1.place) (record { header = h.0.0.0; body = b.0.0 }) c b.2 in
-    subst (λ (c : Content). (bytes ≡ content_text c) × OfGrammar shape c) ended.1
-    (parts shape bytes h.0 b.0 are h.1 b.1 (nothing_left b.0.1.rest ended.0))
+    let p = content-parts shape bytes c e in
+    subst (λ (c : Content). (bytes ≡ content_text c) × OfGrammar shape c) p.whole
+    (parts shape bytes p.head p.body are p.head_read p.body_read (nothing_left p.body.1.rest p.ended))
   where
     parts : (shape : Shape) (bytes : List ℕ) (h : (Header × BodyForm) × Reading) (b : Body × Reading) → IsBytes bytes
         → head_at shape (reading_of bytes) ≡ Ok h → body_at h.0.1 h.1 ≡ Ok b → b.1.rest ≡ []
@@ -336,35 +261,10 @@ content-is_read shape c is =
 
 -- ---- the header alone
 
-head-header : (shape : Shape) (r : Reading) (x : (Header × BodyForm) × Reading) → head_at shape r ≡ Ok x → (y : Header × Reading)
-    × (header_at r ≡ Ok y) × (y.0 ≡ x.0.0)
-unfolding head_at
-head-header shape r x e =
-    let h = bind_ok (fault_as cut (header_at r)) (λ header. unless (not (header.0.version == shape.version)) (offence 8 0) header.1 >>= λ
-    version. unless (not (is_slot shape header.0.stage header.0.sender)) (offence 9 41) header.1 >>= λ slot. fault_as cut
-    (number_at w8 header.1) >>= λ kind. ok_or (body_form shape header.0.stage kind.0) (offence 1 75) >>= λ form. Ok
-    ((header.0, form), kind.1)) x e in
-    let v = bind_ok (unless (not (h.0.0.version == shape.version)) (offence 8 0) h.0.1)
-    (λ version. unless (not (is_slot shape h.0.0.stage h.0.0.sender)) (offence 9 41) h.0.1 >>= λ slot. fault_as cut (number_at w8 h.0.1)
-    >>= λ kind. ok_or (body_form shape h.0.0.stage kind.0) (offence 1 75) >>= λ form. Ok ((h.0.0, form), kind.1)) x h.2 in
-    let s = bind_ok (unless (not (is_slot shape h.0.0.stage h.0.0.sender)) (offence 9 41) h.0.1)
-    (λ slot. fault_as cut (number_at w8 h.0.1) >>= λ kind. ok_or (body_form shape h.0.0.stage kind.0) (offence 1 75) >>= λ form. Ok
-    ((h.0.0, form), kind.1)) x v.2 in
-    let k = bind_ok (fault_as cut (number_at w8 h.0.1)) (λ kind. ok_or (body_form shape h.0.0.stage kind.0) (offence 1 75) >>= λ form. Ok
-    ((h.0.0, form), kind.1)) x s.2 in
-    let f = bind_ok (ok_or (body_form shape h.0.0.stage k.0.0) (offence 1 75)) (λ form. Ok ((h.0.0, form), k.0.1)) x k.2 in
-    let same = given ((h.0.0, f.0), k.0.1) x f.2 in
-    (h.0, fault_as_ok cut (header_at r) h.0 h.1, ap (λ (x : (Header × BodyForm) × Reading). x.0.0) same)
-
 header_ok : (bytes : List ℕ) (y : Header × Reading) (h : Header) → header_at (reading_of bytes) ≡ Ok y → y.0 ≡ h → header_of bytes ≡ Ok h
 header_ok bytes y h e same =
     let told : Header → Result Header Short = λ h. Ok h in
     rw e (ap told same)
-
-value_ok : {A E : Type 0} (read : Result (A × Reading) E) (x : A) → (read >>= λ y. Ok y.0) ≡ Ok x → (y : A × Reading) × (read ≡ Ok y)
-    × (y.0 ≡ x)
-value_ok (Ok y) x e = (y, refl, cc)
-value_ok (Err d) x e = absurd cc
 
 -- bytes have a header exactly where they begin with its spelling
 pub header_of-begins : (bytes : List ℕ) (h : Header) → IsBytes bytes → header_of bytes ≡ Ok h → BeginsWith h bytes
@@ -379,18 +279,11 @@ begins-header_of bytes h begins =
     (header-again h 0 begins.rest begins.widths) refl
 
 pub content-header : (shape : Shape) (bytes : List ℕ) (c : Content) → content_read shape bytes ≡ Ok c → header_of bytes ≡ Ok c.header
-unfolding content_read
 content-header shape bytes c e =
-    let w = bind_ok (unless (nat_lt (length bytes) 76) (offence 7 (length bytes)) (reading_of bytes))
-    (λ whole. head_at shape (reading_of bytes) >>= λ head. body_at head.0.1 head.1 >>= λ body. unless (nat_lt 0 (length body.1.rest))
-    (offence 3 body.1.place) (record { header = head.0.0; body = body.0 })) c e in
-    let h = bind_ok (head_at shape (reading_of bytes)) (λ head. body_at head.0.1 head.1 >>= λ body. unless (nat_lt 0 (length body.1.rest))
-    (offence 3 body.1.place) (record { header = head.0.0; body = body.0 })) c w.2 in
-    let b = bind_ok (body_at h.0.0.1 h.0.1) (λ body. unless (nat_lt 0 (length body.1.rest)) (offence 3 body.1.place)
-    (record { header = h.0.0.0; body = body.0 })) c h.2 in
-    let ended = guard_ok (nat_lt 0 (length b.0.1.rest)) (offence 3 b.0.1.place) (record { header = h.0.0.0; body = b.0.0 }) c b.2 in
-    let y = head-header shape (reading_of bytes) h.0 h.1 in
-    header_ok bytes y.0 c.header y.1 (y.2 ∙ ap (λ (c : Content). c.header) ended.1)
+    let p = content-parts shape bytes c e in
+    let h = head-parts shape (reading_of bytes) p.head p.head_read in
+    let same : h.header.0 ≡ p.head.0.0 = ap (λ (x : (Header × BodyForm) × Reading). x.0.0) h.whole in
+    header_ok bytes h.header c.header h.header_read (same ∙ ap (λ (c : Content). c.header) p.whole)
 
 -- what a decoder answers is of the grammar, and spelled so
 pub is_found : (shape : Shape) (bytes : List ℕ) (r : Result Content DecodeRefusal) → IsBytes bytes

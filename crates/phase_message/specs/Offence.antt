@@ -9,7 +9,7 @@
 --   rule 5  a flag is neither 0 nor 1                  at the flag
 --   rule 6  a pad has more than 65,536 bytes           at its length
 --   rule 3  bytes follow the body                      at the first of them
-use Rattle.std.specs.Prelude.{ℕ, ◌+◌, ◌*◌, ◌/◌, List, length, drop, Bool, not, ◌==◌, nat_lt, Option, Some, None, Result, Ok, Err, option_map, ok_or}
+use Rattle.std.specs.Prelude.{ℕ, ◌+◌, ◌*◌, ◌/◌, List, length, drop, Bool, not, ◌==◌, nat_lt, Option, Some, None, Result, Ok, option_map, ok_or}
 use Rattle.std.specs.Result.{result_err}
 use Rattle.std.specs.Int.{w8, w32}
 use Rattle.ring_poly.specs.Packing.{unpacked, first_too_large}

@@ -242,7 +242,7 @@ closing-body v member =
     ap (λ (bytes : List ℕ). body_of (content_read (shape_at v) bytes))
     (get_or-map (λ (post : Post). post.content) v.posts (slot_number (shape_at v) v.stage member) no_post)
 
-faithful-body : (v : ClosedStage) (member : ℕ) (is : IsFaithful v member) → closing_body v member ≡ is.content.body
+pub faithful-body : (v : ClosedStage) (member : ℕ) (is : IsFaithful v member) → closing_body v member ≡ is.content.body
 faithful-body v member is = closing-body v member ∙ ap body_of is.reads
 
 range-all : (p : ℕ → Bool) (a n : ℕ) → ((k : ℕ) → a ≤ k → k < a + n → p k ≡ true) → list_all p (range_with_len a n) ≡ true
@@ -254,14 +254,14 @@ range-not : (p : ℕ → Bool) (a n : ℕ) → 1 ≤ n → p a ≡ false → lis
 range-not p a zero le e = absurd (omega arith)
 range-not p a (suc n) le e = and_left (p a) (list_all p (range_with_len (a + 1) n)) e
 
-all-say : (v : ClosedStage) (is_one : Body → Bool) → ((member : ℕ) → IsMemberOf v member → is_one (closing_body v member) ≡ true)
+pub all-say : (v : ClosedStage) (is_one : Body → Bool) → ((member : ℕ) → IsMemberOf v member → is_one (closing_body v member) ≡ true)
     → all_say v is_one ≡ true
 all-say v is_one each =
     list_all-map (λ body. is_one body) (closing_body v) (range_with_len 1 (shape_at v).members)
     ∙ range-all (λ member. is_one (closing_body v member)) 1 (shape_at v).members
     (λ k le lt. each k (record { least = le; most = omega arith }))
 
-not-all-say : (v : ClosedStage) (is_one : Body → Bool) → 1 ≤ (shape_at v).members → is_one (closing_body v 1) ≡ false
+pub not-all-say : (v : ClosedStage) (is_one : Body → Bool) → 1 ≤ (shape_at v).members → is_one (closing_body v 1) ≡ false
     → all_say v is_one ≡ false
 not-all-say v is_one le e =
     list_all-map (λ body. is_one body) (closing_body v) (range_with_len 1 (shape_at v).members)

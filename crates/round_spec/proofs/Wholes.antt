@@ -79,12 +79,12 @@ sound-part c delivered count consistent = by_last (last_of (take count delivered
 
 -- ---- verdicts that end
 
-ending-open : (verdict : Verdict) → ending_verdict verdict ≡ None → is_open verdict ≡ true
+pub ending-open : (verdict : Verdict) → ending_verdict verdict ≡ None → is_open verdict ≡ true
 ending-open Goes e = refl
 ending-open Done e = absurd cc
 ending-open (Convicts t) e = absurd cc
 
-ending-closed : (verdict ending : Verdict) → ending_verdict verdict ≡ Some ending → (is_open verdict ≡ false) × (verdict ≡ ending)
+pub ending-closed : (verdict ending : Verdict) → ending_verdict verdict ≡ Some ending → (is_open verdict ≡ false) × (verdict ≡ ending)
 ending-closed Goes ending e = absurd (none-some ending e)
 ending-closed Done ending e = (refl, told_same Done ending e)
   where
@@ -96,7 +96,7 @@ ending-closed (Convicts t) ending e = (refl, told_same (Convicts t) ending e)
     told_same x y e = cc
 
 -- what ends is a first part, by its course
-least-ends : (c : Configuration) (delivered : List (List ℕ)) (ending : ℕ × Verdict) → least_ending c delivered ≡ Some ending
+pub least-ends : (c : Configuration) (delivered : List (List ℕ)) (ending : ℕ × Verdict) → least_ending c delivered ≡ Some ending
     → ending_of c (take ending.0 delivered) ≡ Some ending.1
 unfolding least_ending
 least-ends c delivered ending e =
@@ -104,7 +104,7 @@ least-ends c delivered ending e =
     let parts = option_map-some (λ (verdict : Verdict). (found.0, verdict)) (ending_of c (take found.0 delivered)) ending found.2 in
     subst (λ (x : ℕ × Verdict). ending_of c (take x.0 delivered) ≡ Some x.1) parts.2 parts.1
 
-none-ends : (c : Configuration) (delivered : List (List ℕ)) → least_ending c delivered ≡ None → ending_of c delivered ≡ None
+pub none-ends : (c : Configuration) (delivered : List (List ℕ)) → least_ending c delivered ≡ None → ending_of c delivered ≡ None
 unfolding least_ending
 none-ends c delivered e =
     nothing_mapped (λ (verdict : Verdict). (length delivered, verdict)) (ending_of c delivered)

@@ -12,9 +12,9 @@ use crate::order::is_permutation;
 use crate::parts::Part;
 use crate::said::list;
 use crate::submissions::submit_stage;
-use layer_cipher::{Peeled, peel_with};
 use phase_message::Slot;
 use ring_encrypt::KeySeed;
+use shuffle_core::strip;
 use stage_log::StageLog;
 use std::alloc::Global;
 use wire_core::{List, Mem};
@@ -76,19 +76,4 @@ fn list_in_order(
     } else {
         Ok(None)
     }
-}
-
-// The bodies of all entries, if each is a layer.
-fn strip(alloc: Global, seed: &KeySeed, list: &[List<u8>]) -> Mem<Option<Vec<List<u8>>>>
-    requires { All (λ entry. length entry < 2 ^ 32) list.now }
-    ensures { IfOk result (λ bodies. option_map (λ v. v.items) bodies ≡ stripped seed.now list.now) }
-{
-    let mut bodies = Vec::with_capacity(alloc, list.len())?;
-    for entry in list {
-        match peel_with(alloc, seed, entry.items())? {
-            Peeled::Layer { m: _, body } => bodies.push(body)?,
-            Peeled::NoLayer => return Ok(None),
-        }
-    }
-    Ok(Some(bodies))
 }

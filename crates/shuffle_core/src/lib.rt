@@ -20,5 +20,5 @@ pub use phase_message::{Body, POST_LIMIT};
 pub use ring_encrypt::{KeySeed, PublicKey};
 pub use seeds::layer_seeds;
 pub use submitting::{MOST_KEYS, submission};
-pub use turn::anonymize;
+pub use turn::{anonymize, strip};
 pub use wire_core::List;

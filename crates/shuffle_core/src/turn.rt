@@ -64,8 +64,9 @@ fn is_among(list: &[List<u8>], entry: &[u8]) -> bool
     list.iter().any(|other| entry == other.items().as_slice())
 }
 
-// The bodies of all entries, if each is a layer.
-fn strip(alloc: Global, seed: &KeySeed, list: &[List<u8>]) -> Mem<Option<Vec<List<u8>>>>
+/// The bodies of all entries in their order, or `None` where one is no layer under the seed's key.
+/// Each entry has fewer than 2^32 bytes.
+pub fn strip(alloc: Global, seed: &KeySeed, list: &[List<u8>]) -> Mem<Option<Vec<List<u8>>>>
     requires { All (λ entry. length entry < 2 ^ 32) list.now }
     ensures { IfOk result (λ bodies. option_map (λ v. v.items) bodies ≡ stripped seed.now list.now) }
 {

@@ -1,11 +1,9 @@
-use Rattle.std.proofs.Common.{◌≡◌, ◌-◌, ◌<◌, ◌≤◌, [], length, map, get_or, None, Some, ap, ◌∙◌, arith, List, ℕ}
+use Rattle.std.proofs.Common.{◌≡◌, ◌-◌, ◌<◌, ◌≤◌, [], length, map, get_or, ap, ◌∙◌, arith}
 use Rattle.std.specs.Option.{option_map}
 use Rattle.std.proofs.lemmas.Bool.{both_ways}
 use Rattle.std.proofs.lemmas.List.{length-map, get_or_read}
 use Rattle.std.proofs.lemmas.List.Elements.{All-get_or}
-use Rattle.bulk_descriptor.specs.Descriptor.{Description}
 use Rattle.bulk_descriptor.specs.Fields.{description_of}
-use Rattle.accusation.specs.Accusation.{descriptor_at, key_for, pad_sent}
 use Rattle.accusation.proofs.TestLemmas.{no_descriptor_at, entry_at, refused_without, refused_member, answered_by_seed, sent_read, members_of}
 use Rattle.accusation.proofs.holding.holds.Goals as goal
 

@@ -1,4 +1,4 @@
-use Rattle.std.proofs.Common.{◌≡◌, ◌<◌, ◌≤◌, ◌-◌, [], length, ap, arith, List}
+use Rattle.std.proofs.Common.{◌<◌, ◌-◌, [], length, ap, arith, List}
 use Rattle.std.proofs.lemmas.List.{get_or_read}
 use Rattle.bulk_descriptor.specs.declared.slot_state.SlotState.{SlotState}
 use Rattle.accusation.proofs.ItemLemmas.{found_in, item_found, item_none, named}

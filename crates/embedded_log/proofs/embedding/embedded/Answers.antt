@@ -11,6 +11,7 @@ use Rattle.round_spec.specs.Embedded.{BadPost}
 use Rattle.embedded_log.specs.Embedding.{first_embedded}
 use Rattle.embedded_log.proofs.EmbeddedLogs.{Next, embeds-all, embeds-bad, embeds-next, embeds-none, next_of, spans}
 use Rattle.embedded_log.proofs.embedding.embedded.Goals as goal
+use Rattle.embedded_log.proofs.embedding.embedded.Goals.{After-post_for}
 
 -- what stands at a place
 bytes_at : (posts given : List (List ℕ)) (place : ℕ) (x bytes : List ℕ) → given ≡ posts → bytes ≡ x → x ≡ get_or given place x
@@ -23,6 +24,27 @@ asked_at : (roster : Roster) (content : Content) (shape : Shape) (first place : 
     → slot_at (shape_of_roster roster) (first + place) ≡ Some next.slot
 asked_at roster content shape first place bytes next same is =
     ap (λ (k : ℕ). slot_at (shape_of_roster roster) (k + place)) (is ∙ ap (λ (s : Shape). first_embedded s content) same) ∙ next.at
+
+-- the place is one of the posts
+inside : (c : After-post_for) → c.loop-place.place < length (posts_embedded c.args.content.now.body)
+inside c = omega (arith, ap (λ (p : List (List ℕ)). length p) c.posts_embedded-posts.ensures, c.loop-place-test.true)
+
+-- what is asked for is the post there, and its slot
+next : (c : After-post_for) → Next (roster_of c.args.roster.now) c.args.content.now c.loop-place.place c.as_slice-bytes.result.now
+next c =
+    let roster : Roster = roster_of c.args.roster.now in
+    let content : Content = c.args.content.now in
+    let same : c.as_slice-bytes.result.now ≡ c.index-posts-place.result = c.as_slice-bytes.ensures.value ∙ c.items.ensures in
+    let is = bytes_at (posts_embedded content.body) c.posts_embedded-posts.result.now c.loop-place.place c.index-posts-place.result
+    c.as_slice-bytes.result.now c.posts_embedded-posts.ensures same c.index-posts-place.is in
+    next_of roster content c.loop-place.place c.as_slice-bytes.result.now
+    (spans (shape_of_roster roster) content c.requires.grammar c.requires.closing) (inside c) is
+
+asked : (c : After-post_for)
+    → slot_at (shape_of_roster (roster_of c.args.roster.now)) (c.first_embedded-first.result + c.loop-place.place) ≡ Some (next c).slot
+asked c =
+    asked_at (roster_of c.args.roster.now) c.args.content.now _ c.first_embedded-first.result c.loop-place.place
+    c.as_slice-bytes.result.now (next c) c.shape.ensures c.first_embedded-first.ensures
 
 pub loop-place-init : goal.loop-place-init
 loop-place-init c =
@@ -63,37 +85,23 @@ pub returns-in-None-clause-exact : goal.returns-in-None-clause-exact
 returns-in-None-clause-exact c =
     let roster : Roster = roster_of c.args.roster.now in
     let content : Content = c.args.content.now in
-    let span = spans (shape_of_roster roster) content c.requires.grammar c.requires.closing in
-    let same : c.as_slice-bytes.result.now ≡ c.index-posts-place.result = c.as_slice-bytes.ensures.value ∙ c.items.ensures in
-    let is = bytes_at (posts_embedded content.body) c.posts_embedded-posts.result.now c.loop-place.place c.index-posts-place.result
-    c.as_slice-bytes.result.now c.posts_embedded-posts.ensures same c.index-posts-place.is in
-    let within : c.loop-place.place < length (posts_embedded content.body) = omega
-    (arith, ap (λ (p : List (List ℕ)). length p) c.posts_embedded-posts.ensures, c.loop-place-test.true) in
-    let next = next_of roster content c.loop-place.place c.as_slice-bytes.result.now span within is in
-    let value = rw c.in-None.is at (c.in_ok-post_for.ensures.value next.slot
-    (asked_at roster content _ c.first_embedded-first.result c.loop-place.place c.as_slice-bytes.result.now next c.shape.ensures
-    c.first_embedded-first.ensures)) in
-    embeds-bad roster c.args.round content c.loop-place.log c.loop-place.place c.as_slice-bytes.result.now next c.loop-place.invariant value
+    let here = (goal.at.returns-in-None-clause-exact c).After-post_for in
+    let value = rw c.in-None.is at (c.in_ok-post_for.ensures.value (next here).slot (asked here)) in
+    embeds-bad roster c.args.round content c.loop-place.log c.loop-place.place c.as_slice-bytes.result.now (next here)
+    c.loop-place.invariant value
 
 pub loop-place-preserved : goal.loop-place-preserved
 loop-place-preserved c =
     let roster : Roster = roster_of c.args.roster.now in
     let content : Content = c.args.content.now in
     let span = spans (shape_of_roster roster) content c.requires.grammar c.requires.closing in
-    let same : c.as_slice-bytes.result.now ≡ c.index-posts-place.result = c.as_slice-bytes.ensures.value ∙ c.items.ensures in
-    let is = bytes_at (posts_embedded content.body) c.posts_embedded-posts.result.now c.loop-place.place c.index-posts-place.result
-    c.as_slice-bytes.result.now c.posts_embedded-posts.ensures same c.index-posts-place.is in
-    let within : c.loop-place.place < length (posts_embedded content.body) = omega
-    (arith, ap (λ (p : List (List ℕ)). length p) c.posts_embedded-posts.ensures, c.loop-place-test.true) in
-    let next = next_of roster content c.loop-place.place c.as_slice-bytes.result.now span within is in
-    let value = rw c.in-Some.is at (c.in_ok-post_for.ensures.value next.slot
-    (asked_at roster content _ c.first_embedded-first.result c.loop-place.place c.as_slice-bytes.result.now next c.shape.ensures
-    c.first_embedded-first.ensures)) in
+    let here = (goal.at.loop-place-preserved c).After-post_for in
+    let value = rw c.in-Some.is at (c.in_ok-post_for.ensures.value (next here).slot (asked here)) in
     let number = rw c.in-Some.is at c.in_ok-post_for.ensures.numbered in
     let stands = rw c.in-Some.is at c.in_ok-post_for.ensures.stands in
     let first = c.first_embedded-first.ensures ∙ ap (λ (s : Shape). first_embedded s content) c.shape.ensures in
     embeds-next roster c.args.round content c.loop-place.log c.put-stored.new.self c.loop-place.place c.as_slice-bytes.result.now
-    c.in-Some.field-0.slot c.in-Some.field-0.post next span within c.loop-place.invariant value
+    c.in-Some.field-0.slot c.in-Some.field-0.post (next here) span (inside here) c.loop-place.invariant value
     (number ∙ ap (λ (k : ℕ). k + c.loop-place.place) first) stands c.put-stored.ensures.log
 
 pub returns-clause-exact : goal.returns-clause-exact

@@ -1,13 +1,13 @@
 use Rattle.std.proofs.Common.{◌≡◌, ◌≤◌, ◌+◌, ◌*◌, length, ap, sym, ◌∙◌, subst, arith}
 use Rattle.std.specs.Fn.{iterate}
 use Rattle.group_roster.specs.Given.{roster_of}
-use Rattle.member_core.specs.declared.config.Config.{Config}
 use Rattle.group_spec.specs.World.{Carriage, World, first_world, last_world, world_behind_step}
 use Rattle.group_threads.specs.Given.{seats_of}
 use Rattle.group_threads.specs.Playing.{ArePlayed, IsWorld, posts_of}
 use Rattle.group_threads.proofs.Groups.{carried, few, shows-group, steps-most}
 use Rattle.group_threads.proofs.Members.{ok-so}
 use Rattle.group_threads.proofs.Worlds.{first-world, one-more}
+use Rattle.member_parts.specs.declared.config.Config.{Config}
 use Rattle.group_threads.proofs.driving.drive.Goals as goal
 
 pub loop-place-init : goal.loop-place-init

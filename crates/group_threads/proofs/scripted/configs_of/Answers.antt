@@ -2,9 +2,9 @@ use Rattle.std.proofs.Common.{◌≡◌, ℕ, ◌+◌, List, map, ◌++◌, [], 
 use Rattle.std.specs.List.{range_with_len}
 use Rattle.std.proofs.lemmas.List.FromFn.{map-range_with_len_more}
 use Rattle.group_roster.specs.Given.{roster_of}
-use Rattle.member_core.specs.declared.config.Config.{Config}
 use Rattle.group_threads.specs.Scripted.{Entrance, entrance_of, script_entrance}
 use Rattle.group_threads.proofs.Groups.{mapped-last}
+use Rattle.member_parts.specs.declared.config.Config.{Config}
 use Rattle.group_threads.proofs.scripted.configs_of.Goals as goal
 
 pub loop-place-preserved : goal.loop-place-preserved

@@ -1,7 +1,7 @@
 use Rattle.std.specs.Prelude.{ℕ, List}
 use Rattle.member_spec.specs.declared.conduct.Honest.{Honest}
 use Rattle.member_spec.specs.contracts.conduct.HonestConduct.TheImpl.{replies-value}
-use Rattle.round_link.specs.Traffic.{Shown, shown_by}
+use Rattle.round_link.specs.Traffic.{shown_by}
 use Rattle.member_run.specs.Begun.{Begun, Going, posts_left}
 use Rattle.member_run.proofs.posting.hand_out.Given as goal
 

@@ -1,8 +1,7 @@
-use Rattle.std.proofs.Common.{◌≡◌, refl, inl, inr, sym, ap, ◌∙◌, ℕ, ◌≤◌, arith, List, Option, Some, Vec, Global}
+use Rattle.std.proofs.Common.{refl, inl, inr, sym, ap, ◌∙◌, ℕ, arith, List, Vec, Global}
 use Rattle.std.specs.Prelude.{option_map}
 use Rattle.member_run.specs.declared.run_end.RunEnd.TheVariants.{LinkFault, OutOfMemory}
 use Rattle.round_spec.specs.Result.{posts_of}
-use Rattle.round_link.specs.Traffic.{Shown, shown_by}
 use Rattle.member_run.proofs.Ending.{failed-unmade, hindered, memory-unmade, rose-since}
 use Rattle.member_run.proofs.Going.{posted}
 use Rattle.member_run.proofs.Handing.{fewer-left, next-due, none-left, one-handed}

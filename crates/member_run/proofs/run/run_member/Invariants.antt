@@ -1,8 +1,7 @@
 use Rattle.std.specs.Prelude.{◌≡◌, ℕ, List, length}
-use Rattle.member_spec.specs.declared.conduct.Honest.{Honest}
 use Rattle.member_spec.specs.contracts.conduct.HonestConduct.TheImpl.{replies-value}
-use Rattle.round_link.specs.Traffic.{Shown, shown_by}
-use Rattle.member_run.specs.Begun.{Begun, Going}
+use Rattle.round_link.specs.Traffic.{shown_by}
+use Rattle.member_run.specs.Begun.{Going}
 use Rattle.member_run.proofs.run.run_member.Given as goal
 
 abbrev pub invariant-loop-taken : goal.invariant-loop-taken

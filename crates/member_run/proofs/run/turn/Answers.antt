@@ -1,4 +1,4 @@
-use Rattle.std.proofs.Common.{◌≡◌, ◌<◌, ◌≤◌, refl, inl, inr, sym, subst, ◌∙◌, ℕ, List, [], ◌∷◌, ◌++◌, length, arith}
+use Rattle.std.proofs.Common.{◌<◌, ◌≤◌, refl, inl, sym, subst, ◌∙◌, ℕ, List, [], ◌∷◌, ◌++◌, arith}
 use Rattle.wire_core.specs.Bytes.{IsBytes}
 use Rattle.member_spec.specs.contracts.conduct.HonestConduct.TheImpl.{replies-value}
 use Rattle.member_core.specs.Promises.{IsPlainMember}
@@ -7,7 +7,7 @@ use Rattle.member_run.specs.declared.run_end.RunEnd.{RunEnd}
 use Rattle.member_run.specs.declared.run_end.RunEnd.TheVariants.{Ended, LinkFault, OutOfMemory, Waiting}
 use Rattle.member_run.specs.Ran.{Ran}
 use Rattle.member_run.proofs.Answers.{err-by, ok-by}
-use Rattle.member_run.proofs.Ending.{end-rose, hindered, no-rise, none-left-now, not-delivered, received-none, rose-since, stops}
+use Rattle.member_run.proofs.Ending.{end-rose, hindered, no-rise, none-left-now, not-delivered, one-end, received-none, rose-since, stops}
 use Rattle.member_run.proofs.Going.{taken}
 use Rattle.member_run.proofs.run.turn.Goals as goal
 
@@ -49,14 +49,14 @@ returns-in-End-clause-err g c = λ b frames less going.
       less,
       end-rose b.link.ends _ _ on.ends c.in-End.ensures.ends,
       none-left-now _ _ c.in-End.ensures.received.0 c.in-End.ensures.received.1,
-    ) (λ lt. refl)
+    ) (λ lt. refl) (one-end b.link.ends _ _ on.ends c.in-End.ensures.ends)
 
 pub returns-in-Failed-clause-err : goal.returns-in-Failed-clause-err
 returns-in-Failed-clause-err g c = λ b frames less going.
     let on = c.in_ok-hand_out.ensures.goes_on b frames going in
     received-none _ b frames c.hand_out.new.member _ _ LinkFault on (fewer _ _ less) c.in_ok-hand_out.ensures.all
     c.in-Failed.ensures.frames c.in-Failed.ensures.no_fall (inl c.in-Failed.ensures.received) (rose-since b.link.faults _ _ on.faults (c.in-Failed.ensures.failed refl))
-    (no-rise b.link.ends _ LinkFault (c.in-Failed.ensures.ends ∙ on.ends))
+    (no-rise b.link.ends _ LinkFault (c.in-Failed.ensures.ends ∙ on.ends)) (inl (c.in-Failed.ensures.ends ∙ on.ends))
 
 pub returns-in-OutOfMemory-clause-err : goal.returns-in-OutOfMemory-clause-err
 returns-in-OutOfMemory-clause-err g c = λ b frames less going.

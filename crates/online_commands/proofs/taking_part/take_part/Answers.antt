@@ -44,7 +44,8 @@ returns-in_err-leaves g c =
       beside = c.in_err-leaves.ensures.beside;
       idle = c.in_ok-begin_link.ensures.idle;
       link_count = c.in_ok-begin_link.ensures.no_fall;
-    }))
+    })
+    (g.met.D.Disk.names_show_file c.enter.new.disk) (g.met.D.Disk.names_show_file c.begin_round.new.disk))
 
 pub returns-in_err-member : goal.returns-in_err-member
 returns-in_err-member g c =

@@ -3,7 +3,8 @@ use Rattle.std.specs.Fn.{iterate}
 use Rattle.round_spec.specs.Say.{Configuration}
 use Rattle.member_spec.specs.Actor.{Actor, actor_behind_step}
 use Rattle.member_spec.specs.Replies.{Replies}
-use Rattle.member_core.specs.Membership.{IsRunning, holdings_of}
+use Rattle.member_parts.specs.Endings.{IsRunning}
+use Rattle.member_core.specs.Membership.{holdings_of}
 use Rattle.member_core.specs.Sound.{IsSound}
 use Rattle.member_core.specs.Stands.{StandsFor}
 use Rattle.member_core.proofs.machine.Machine.advance.Given as goal

@@ -13,60 +13,42 @@ unreachable-requires g c = has-kind c.args.self.now c.requires.asked
 pub unreachable-unreachable : goal.unreachable-unreachable
 unreachable-unreachable g c = c.unreachable.result
 
-pub first_submission_due-requires-clause-formed : goal.first_submission_due-requires-clause-formed
-first_submission_due-requires-clause-formed g c = c.requires.formed
+pub first_submission_due-requires : goal.first_submission_due-requires
+first_submission_due-requires g c = record {
+  formed = c.requires.formed;
+  ready = c.requires.ready;
+  needed = c.requires.needed;
+  asked = c.requires.asked;
+  kind = (let at = kind-told c.args.self.now (Some c.in-Some.kind) c.requires.formed c.in-Some.ensures.kind in
+      at ∙ ap (λ (kind : StageKind). Some kind) c.in-Submit-eq1.is
+      ∙ ap (λ (shuffle : ℕ). Some (Submit shuffle)) (sym c.in-Submit-eq1.shuffle-is ∙ c.in-Submit-eq1.shuffle-test)
+      );
+}
 
-pub first_submission_due-requires-clause-ready : goal.first_submission_due-requires-clause-ready
-first_submission_due-requires-clause-ready g c = c.requires.ready
+pub second_submission_due-requires : goal.second_submission_due-requires
+second_submission_due-requires g c = record {
+  formed = c.requires.formed;
+  ready = c.requires.ready;
+  needed = c.requires.needed;
+  asked = c.requires.asked;
+  kind = (let m = c.args.self.now in
+      let at = kind-told m (Some c.in-Some.kind) c.requires.formed c.in-Some.ensures.kind
+      ∙ ap (λ (kind : StageKind). Some kind) c.in-Submit.is in
+      at ∙ ap (λ (shuffle : ℕ). Some (Submit shuffle)) (second-shuffle m.log.shape m.stage c.in-Submit.shuffle at
+      (λ e. c.in-Submit.shuffle-test.1 (c.in-Submit.shuffle-is ∙ e)))
+      );
+}
 
-pub first_submission_due-requires-clause-needed : goal.first_submission_due-requires-clause-needed
-first_submission_due-requires-clause-needed g c = c.requires.needed
-
-pub first_submission_due-requires-clause-asked : goal.first_submission_due-requires-clause-asked
-first_submission_due-requires-clause-asked g c = c.requires.asked
-
-pub first_submission_due-requires-clause-kind : goal.first_submission_due-requires-clause-kind
-first_submission_due-requires-clause-kind g c =
-    let at = kind-told c.args.self.now (Some c.in-Some.kind) c.requires.formed c.in-Some.ensures.kind in
-    at ∙ ap (λ (kind : StageKind). Some kind) c.in-Submit-eq1.is
-    ∙ ap (λ (shuffle : ℕ). Some (Submit shuffle)) (sym c.in-Submit-eq1.shuffle-is ∙ c.in-Submit-eq1.shuffle-test)
-
-pub second_submission_due-requires-clause-formed : goal.second_submission_due-requires-clause-formed
-second_submission_due-requires-clause-formed g c = c.requires.formed
-
-pub second_submission_due-requires-clause-ready : goal.second_submission_due-requires-clause-ready
-second_submission_due-requires-clause-ready g c = c.requires.ready
-
-pub second_submission_due-requires-clause-needed : goal.second_submission_due-requires-clause-needed
-second_submission_due-requires-clause-needed g c = c.requires.needed
-
-pub second_submission_due-requires-clause-asked : goal.second_submission_due-requires-clause-asked
-second_submission_due-requires-clause-asked g c = c.requires.asked
-
-pub second_submission_due-requires-clause-kind : goal.second_submission_due-requires-clause-kind
-second_submission_due-requires-clause-kind g c =
-    let m = c.args.self.now in
-    let at = kind-told m (Some c.in-Some.kind) c.requires.formed c.in-Some.ensures.kind
-    ∙ ap (λ (kind : StageKind). Some kind) c.in-Submit.is in
-    at ∙ ap (λ (shuffle : ℕ). Some (Submit shuffle)) (second-shuffle m.log.shape m.stage c.in-Submit.shuffle at
-    (λ e. c.in-Submit.shuffle-test.1 (c.in-Submit.shuffle-is ∙ e)))
-
-pub end_due-requires-clause-formed : goal.end_due-requires-clause-formed
-end_due-requires-clause-formed g c = c.requires.formed
-
-pub end_due-requires-clause-ready : goal.end_due-requires-clause-ready
-end_due-requires-clause-ready g c = c.requires.ready
-
-pub end_due-requires-clause-needed : goal.end_due-requires-clause-needed
-end_due-requires-clause-needed g c = c.requires.needed
-
-pub end_due-requires-clause-asked : goal.end_due-requires-clause-asked
-end_due-requires-clause-asked g c = c.requires.asked
-
-pub end_due-requires-clause-kind : goal.end_due-requires-clause-kind
-end_due-requires-clause-kind g c =
-    let at = kind-told c.args.self.now (Some c.in-Some.kind) c.requires.formed c.in-Some.ensures.kind in
-    at ∙ ap (λ (kind : StageKind). Some kind) c.in-Final.is
+pub end_due-requires : goal.end_due-requires
+end_due-requires g c = record {
+  formed = c.requires.formed;
+  ready = c.requires.ready;
+  needed = c.requires.needed;
+  asked = c.requires.asked;
+  kind = (let at = kind-told c.args.self.now (Some c.in-Some.kind) c.requires.formed c.in-Some.ensures.kind in
+      at ∙ ap (λ (kind : StageKind). Some kind) c.in-Final.is
+      );
+}
 
 pub row_due-requires : goal.row_due-requires
 row_due-requires g c = record {
@@ -80,73 +62,55 @@ row_due-requires g c = record {
 
 -- ----
 
-pub returns-in-Submit-eq1-clause-formed : goal.returns-in-Submit-eq1-clause-formed
-returns-in-Submit-eq1-clause-formed g c = c.first_submission_due.ensures.formed
-
-pub returns-in-Submit-eq1-clause-same : goal.returns-in-Submit-eq1-clause-same
-returns-in-Submit-eq1-clause-same g c = ok-all c.first_submission_due.result _
-    (λ _. same-own c.args.self.now c.first_submission_due.new.self c.first_submission_due.ensures.same)
-
-pub returns-in-Submit-eq1-clause-needed : goal.returns-in-Submit-eq1-clause-needed
-returns-in-Submit-eq1-clause-needed g c = c.first_submission_due.ensures.needed
-
-pub returns-in-Submit-eq1-clause-due : goal.returns-in-Submit-eq1-clause-due
-returns-in-Submit-eq1-clause-due g c =
-    let at = kind-told c.args.self.now (Some c.in-Some.kind) c.requires.formed c.in-Some.ensures.kind in
-    let here = at ∙ ap (λ (kind : StageKind). Some kind) c.in-Submit-eq1.is
-    ∙ ap (λ (shuffle : ℕ). Some (Submit shuffle)) (sym c.in-Submit-eq1.shuffle-is ∙ c.in-Submit-eq1.shuffle-test) in
-    ok-so c.first_submission_due.result _ _ (λ body due kind also. due-of (g.C.Conduct.replies c.args.conduct.now) c.args.self.now
-    (Submit 1) kind body here also due) c.first_submission_due.ensures.due
-
-pub returns-in-Submit-eq1-clause-stands : goal.returns-in-Submit-eq1-clause-stands
-returns-in-Submit-eq1-clause-stands g c = c.first_submission_due.ensures.stands
+pub returns-in-Submit-eq1 : goal.returns-in-Submit-eq1
+returns-in-Submit-eq1 g c = record {
+  formed = c.first_submission_due.ensures.formed;
+  same = ok-all c.first_submission_due.result _
+      (λ _. same-own c.args.self.now c.first_submission_due.new.self c.first_submission_due.ensures.same);
+  needed = c.first_submission_due.ensures.needed;
+  due = (let at = kind-told c.args.self.now (Some c.in-Some.kind) c.requires.formed c.in-Some.ensures.kind in
+      let here = at ∙ ap (λ (kind : StageKind). Some kind) c.in-Submit-eq1.is
+      ∙ ap (λ (shuffle : ℕ). Some (Submit shuffle)) (sym c.in-Submit-eq1.shuffle-is ∙ c.in-Submit-eq1.shuffle-test) in
+      ok-so c.first_submission_due.result _ _ (λ body due kind also. due-of (g.C.Conduct.replies c.args.conduct.now) c.args.self.now
+      (Submit 1) kind body here also due) c.first_submission_due.ensures.due
+      );
+  stands = c.first_submission_due.ensures.stands;
+}
 
 -- ----
 
-pub returns-in-Submit-clause-formed : goal.returns-in-Submit-clause-formed
-returns-in-Submit-clause-formed g c = c.second_submission_due.ensures.formed
-
-pub returns-in-Submit-clause-same : goal.returns-in-Submit-clause-same
-returns-in-Submit-clause-same g c = ok-all c.second_submission_due.result _ (λ _. c.second_submission_due.ensures.same)
-
-pub returns-in-Submit-clause-needed : goal.returns-in-Submit-clause-needed
-returns-in-Submit-clause-needed g c = c.second_submission_due.ensures.needed
-
-pub returns-in-Submit-clause-due : goal.returns-in-Submit-clause-due
-returns-in-Submit-clause-due g c =
-    let m = c.args.self.now in
-    let at = kind-told m (Some c.in-Some.kind) c.requires.formed c.in-Some.ensures.kind
-    ∙ ap (λ (kind : StageKind). Some kind) c.in-Submit.is in
-    let here = at ∙ ap (λ (shuffle : ℕ). Some (Submit shuffle))
-    (second-shuffle m.log.shape m.stage c.in-Submit.shuffle at (λ e. c.in-Submit.shuffle-test.1 (c.in-Submit.shuffle-is ∙ e))) in
-    ok-so c.second_submission_due.result _ _ (λ body due kind also. due-of (g.C.Conduct.replies c.args.conduct.now) c.args.self.now
-    (Submit 2) kind body here also (due (g.C.Conduct.replies c.args.conduct.now))) c.second_submission_due.ensures.due
-
-pub returns-in-Submit-clause-stands : goal.returns-in-Submit-clause-stands
-returns-in-Submit-clause-stands g c = ok-so c.second_submission_due.result _ _
-    (λ _ so start conf a s. so (g.C.Conduct.replies c.args.conduct.now) start conf a s) c.second_submission_due.ensures.stands
+pub returns-in-Submit : goal.returns-in-Submit
+returns-in-Submit g c = record {
+  formed = c.second_submission_due.ensures.formed;
+  same = ok-all c.second_submission_due.result _ (λ _. c.second_submission_due.ensures.same);
+  needed = c.second_submission_due.ensures.needed;
+  due = (let m = c.args.self.now in
+      let at = kind-told m (Some c.in-Some.kind) c.requires.formed c.in-Some.ensures.kind
+      ∙ ap (λ (kind : StageKind). Some kind) c.in-Submit.is in
+      let here = at ∙ ap (λ (shuffle : ℕ). Some (Submit shuffle))
+      (second-shuffle m.log.shape m.stage c.in-Submit.shuffle at (λ e. c.in-Submit.shuffle-test.1 (c.in-Submit.shuffle-is ∙ e))) in
+      ok-so c.second_submission_due.result _ _ (λ body due kind also. due-of (g.C.Conduct.replies c.args.conduct.now) c.args.self.now
+      (Submit 2) kind body here also (due (g.C.Conduct.replies c.args.conduct.now))) c.second_submission_due.ensures.due
+      );
+  stands = ok-so c.second_submission_due.result _ _
+      (λ _ so start conf a s. so (g.C.Conduct.replies c.args.conduct.now) start conf a s) c.second_submission_due.ensures.stands;
+}
 
 -- ----
 
-pub returns-in-Final-clause-formed : goal.returns-in-Final-clause-formed
-returns-in-Final-clause-formed g c = c.end_due.ensures.formed
-
-pub returns-in-Final-clause-same : goal.returns-in-Final-clause-same
-returns-in-Final-clause-same g c = ok-all c.end_due.result _ (λ _. same-secrets c.args.self.now c.end_due.new.self c.end_due.ensures.same)
-
-pub returns-in-Final-clause-needed : goal.returns-in-Final-clause-needed
-returns-in-Final-clause-needed g c = c.end_due.ensures.needed
-
-pub returns-in-Final-clause-due : goal.returns-in-Final-clause-due
-returns-in-Final-clause-due g c =
-    let at = kind-told c.args.self.now (Some c.in-Some.kind) c.requires.formed c.in-Some.ensures.kind in
-    let here = at ∙ ap (λ (kind : StageKind). Some kind) c.in-Final.is in
-    ok-so c.end_due.result _ _ (λ body due kind also. due-of (g.C.Conduct.replies c.args.conduct.now) c.args.self.now
-    (Final c.in-Final.shuffle) kind body here also (due (g.C.Conduct.replies c.args.conduct.now))) c.end_due.ensures.due
-
-pub returns-in-Final-clause-stands : goal.returns-in-Final-clause-stands
-returns-in-Final-clause-stands g c = ok-so c.end_due.result _ _
-    (λ _ so start conf a s. so (g.C.Conduct.replies c.args.conduct.now) start conf a s) c.end_due.ensures.stands
+pub returns-in-Final : goal.returns-in-Final
+returns-in-Final g c = record {
+  formed = c.end_due.ensures.formed;
+  same = ok-all c.end_due.result _ (λ _. same-secrets c.args.self.now c.end_due.new.self c.end_due.ensures.same);
+  needed = c.end_due.ensures.needed;
+  due = (let at = kind-told c.args.self.now (Some c.in-Some.kind) c.requires.formed c.in-Some.ensures.kind in
+      let here = at ∙ ap (λ (kind : StageKind). Some kind) c.in-Final.is in
+      ok-so c.end_due.result _ _ (λ body due kind also. due-of (g.C.Conduct.replies c.args.conduct.now) c.args.self.now
+      (Final c.in-Final.shuffle) kind body here also (due (g.C.Conduct.replies c.args.conduct.now))) c.end_due.ensures.due
+      );
+  stands = ok-so c.end_due.result _ _
+      (λ _ so start conf a s. so (g.C.Conduct.replies c.args.conduct.now) start conf a s) c.end_due.ensures.stands;
+}
 
 -- ----
 

@@ -5,9 +5,12 @@ use Rattle.bulk_descriptor.specs.Descriptor.{descriptor_text}
 use Rattle.bulk_descriptor.specs.Fields.{description_of}
 use Rattle.shuffle_blame.specs.Asked.{past_of}
 use Rattle.round_spec.specs.Slots.{bulk_place, keys_said}
-use Rattle.round_spec.specs.Say.{own_description}
+use Rattle.round_spec.specs.Say.{Configuration, own_description}
 use Rattle.honest_say.specs.Own.{AreBulkSecrets}
+use Rattle.honest_say.specs.Seats.{IsSeatOf}
 use Rattle.closing_verdict.specs.Carried.{AreKeysOf}
+use Rattle.member_spec.specs.Replies.{Replies}
+use Rattle.member_parts.specs.Secrets.{AreSecretsOf}
 use Rattle.member_core.proofs.Belonging.{carried-keys, carries-first, held-is, keys-here, not-missing, seeds-count, shape-is}
 use Rattle.member_core.proofs.Describing.{own-hashes, text-long}
 use Rattle.member_core.proofs.machine.Machine.descriptor_due.Goals as goal
@@ -49,97 +52,61 @@ make_descriptor-requires-clause-short g c =
 pub same-own_pad : goal.same-own_pad
 same-own_pad g c = refl
 
-pub returns-clause-long : goal.returns-clause-long
-returns-clause-long g c =
+pub returns : goal.returns
+returns g c =
     let m = c.args.self.now in
+    let replies : Replies = g.C.Conduct.replies c.args.conduct.now in
     let past : List (List ℕ) = past_of m.log m.stage in
     let keys = keys-here m.log m.stage c.in-Some.keys (carried-keys m.log m.stage m.keys c.in-Some.keys c.in-Some.is c.requires.ready.keys)
     c.requires.behind c.requires.ready.past in
-    let own : length c.in_ok-made.made.descriptor.pad_hashes ≡ m.log.shape.members = own-hashes m
-    (description_of c.in_ok-made.made.descriptor) c.requires.formed (λ config is.
-    c.in_ok-made.ensures.descriptor config past is.seat (held-is m.secrets.bulk c.in-Some-bulk.bulk (AreBulkSecrets config)
-    c.in-Some-bulk.is is.secrets.bulk)
-    (c.deref.ensures.value ∙ c.items-message.ensures ∙ is.message)
-    (c.items.ensures ∙ keys.bulk ∙ ap (λ (s : Shape). keys_said s past bulk_place) (shape-is config m c.requires.formed is.seat))) in
-    let many : length c.in_ok-descriptor.descriptor.pad_hashes ≡ m.log.shape.members = c.in_ok-descriptor.ensures.members ∙ own in
-    ap (λ (t : List ℕ). length t) (c.of.ensures ∙ c.in_ok-bytes.ensures.value)
-    ∙ text-long (length c.in_ok-descriptor.descriptor.pad_hashes) (description_of c.in_ok-descriptor.descriptor)
-    c.in_ok-bytes.ensures.grammar
-    ∙ ap (λ (n : ℕ). 36 + 2272 * n) many
-
-pub returns-clause-told : goal.returns-clause-told
-returns-clause-told g c = λ config seat secrets message.
-    let m = c.args.self.now in
-    let past : List (List ℕ) = past_of m.log m.stage in
-    let keys = keys-here m.log m.stage c.in-Some.keys (carried-keys m.log m.stage m.keys c.in-Some.keys c.in-Some.is c.requires.ready.keys)
-    c.requires.behind c.requires.ready.past in
-    let own : description_of c.in_ok-made.made.descriptor ≡ own_description config past
-    = c.in_ok-made.ensures.descriptor config past seat (held-is m.secrets.bulk c.in-Some-bulk.bulk (AreBulkSecrets config) c.in-Some-bulk.is
-    secrets.bulk)
+    let bulk : (config : Configuration) → AreSecretsOf config m.secrets → AreBulkSecrets config c.in-Some-bulk.bulk = λ config secrets.
+    held-is m.secrets.bulk c.in-Some-bulk.bulk (AreBulkSecrets config) c.in-Some-bulk.is secrets.bulk in
+    let own : (config : Configuration) → IsSeatOf config m.seat → AreSecretsOf config m.secrets → m.message ≡ config.message
+    → description_of c.in_ok-made.made.descriptor ≡ own_description config past = λ config seat secrets message.
+    c.in_ok-made.ensures.descriptor config past seat (bulk config secrets)
     (c.deref.ensures.value ∙ c.items-message.ensures ∙ message)
     (c.items.ensures ∙ keys.bulk ∙ ap (λ (s : Shape). keys_said s past bulk_place) (shape-is config m c.requires.formed seat)) in
-    c.of.ensures ∙ c.in_ok-bytes.ensures.value
-    ∙ ap descriptor_text (c.in_ok-descriptor.ensures.told ∙ ap (g.C.Conduct.replies c.args.conduct.now).descriptor own)
+    let many : length c.in_ok-descriptor.descriptor.pad_hashes ≡ m.log.shape.members = c.in_ok-descriptor.ensures.members
+    ∙ own-hashes m (description_of c.in_ok-made.made.descriptor) c.requires.formed
+    (λ config is. own config is.seat is.secrets is.message) in
+    record {
+      long = ap (λ (t : List ℕ). length t) (c.of.ensures ∙ c.in_ok-bytes.ensures.value)
+          ∙ text-long (length c.in_ok-descriptor.descriptor.pad_hashes) (description_of c.in_ok-descriptor.descriptor)
+          c.in_ok-bytes.ensures.grammar
+          ∙ ap (λ (n : ℕ). 36 + 2272 * n) many;
+      told = λ config seat secrets message. c.of.ensures ∙ c.in_ok-bytes.ensures.value
+          ∙ ap descriptor_text (c.in_ok-descriptor.ensures.told ∙ ap replies.descriptor (own config seat secrets message));
+      pad = λ config seat secrets message. c.in_ok-made.ensures.pad config seat (bulk config secrets)
+          (c.deref.ensures.value ∙ c.items-message.ensures ∙ message);
+      then = λ config seat secrets message. c.in_ok-descriptor.ensures.then ∙ ap replies.speech_after (own config seat secrets message);
+    }
 
-pub returns-clause-pad : goal.returns-clause-pad
-returns-clause-pad g c = λ config seat secrets message.
-    let m = c.args.self.now in
-    c.in_ok-made.ensures.pad config seat (held-is m.secrets.bulk c.in-Some-bulk.bulk (AreBulkSecrets config) c.in-Some-bulk.is secrets.bulk)
-    (c.deref.ensures.value ∙ c.items-message.ensures ∙ message)
+pub returns-in_err-made : goal.returns-in_err-made
+returns-in_err-made g c =
+    let p = err_from_is_err_and c.from_residual.result c.from_residual.ensures.1 in
+    record {
+      long = rw p.1 tt;
+      told = rw p.1 tt;
+      pad = rw p.1 tt;
+      then = rw p.1 tt;
+    }
 
-pub returns-clause-then : goal.returns-clause-then
-returns-clause-then g c = λ config seat secrets message.
-    let m = c.args.self.now in
-    let past : List (List ℕ) = past_of m.log m.stage in
-    let keys = keys-here m.log m.stage c.in-Some.keys (carried-keys m.log m.stage m.keys c.in-Some.keys c.in-Some.is c.requires.ready.keys)
-    c.requires.behind c.requires.ready.past in
-    let own : description_of c.in_ok-made.made.descriptor ≡ own_description config past
-    = c.in_ok-made.ensures.descriptor config past seat (held-is m.secrets.bulk c.in-Some-bulk.bulk (AreBulkSecrets config) c.in-Some-bulk.is
-    secrets.bulk)
-    (c.deref.ensures.value ∙ c.items-message.ensures ∙ message)
-    (c.items.ensures ∙ keys.bulk ∙ ap (λ (s : Shape). keys_said s past bulk_place) (shape-is config m c.requires.formed seat)) in
-    c.in_ok-descriptor.ensures.then ∙ ap (g.C.Conduct.replies c.args.conduct.now).speech_after own
+pub returns-in_err-descriptor : goal.returns-in_err-descriptor
+returns-in_err-descriptor g c =
+    let p = err_from_is_err_and c.from_residual-in_err-descriptor.result c.from_residual-in_err-descriptor.ensures.1 in
+    record {
+      long = rw p.1 tt;
+      told = rw p.1 tt;
+      pad = rw p.1 tt;
+      then = rw p.1 tt;
+    }
 
-pub returns-in_err-made-clause-long : goal.returns-in_err-made-clause-long
-returns-in_err-made-clause-long g c = (let p = err_from_is_err_and c.from_residual.result c.from_residual.ensures.1 in rw p.1 tt)
-
-pub returns-in_err-made-clause-told : goal.returns-in_err-made-clause-told
-returns-in_err-made-clause-told g c = (let p = err_from_is_err_and c.from_residual.result c.from_residual.ensures.1 in rw p.1 tt)
-
-pub returns-in_err-made-clause-pad : goal.returns-in_err-made-clause-pad
-returns-in_err-made-clause-pad g c = (let p = err_from_is_err_and c.from_residual.result c.from_residual.ensures.1 in rw p.1 tt)
-
-pub returns-in_err-made-clause-then : goal.returns-in_err-made-clause-then
-returns-in_err-made-clause-then g c = (let p = err_from_is_err_and c.from_residual.result c.from_residual.ensures.1 in rw p.1 tt)
-
-pub returns-in_err-descriptor-clause-long : goal.returns-in_err-descriptor-clause-long
-returns-in_err-descriptor-clause-long g c = (let p = err_from_is_err_and c.from_residual-in_err-descriptor.result
-    c.from_residual-in_err-descriptor.ensures.1 in rw p.1 tt)
-
-pub returns-in_err-descriptor-clause-told : goal.returns-in_err-descriptor-clause-told
-returns-in_err-descriptor-clause-told g c = (let p = err_from_is_err_and c.from_residual-in_err-descriptor.result
-    c.from_residual-in_err-descriptor.ensures.1 in rw p.1 tt)
-
-pub returns-in_err-descriptor-clause-pad : goal.returns-in_err-descriptor-clause-pad
-returns-in_err-descriptor-clause-pad g c = (let p = err_from_is_err_and c.from_residual-in_err-descriptor.result
-    c.from_residual-in_err-descriptor.ensures.1 in rw p.1 tt)
-
-pub returns-in_err-descriptor-clause-then : goal.returns-in_err-descriptor-clause-then
-returns-in_err-descriptor-clause-then g c = (let p = err_from_is_err_and c.from_residual-in_err-descriptor.result
-    c.from_residual-in_err-descriptor.ensures.1 in rw p.1 tt)
-
-pub returns-in_err-bytes-clause-long : goal.returns-in_err-bytes-clause-long
-returns-in_err-bytes-clause-long g c = (let p = err_from_is_err_and c.from_residual-in_err-bytes.result
-    c.from_residual-in_err-bytes.ensures.1 in rw p.1 tt)
-
-pub returns-in_err-bytes-clause-told : goal.returns-in_err-bytes-clause-told
-returns-in_err-bytes-clause-told g c = (let p = err_from_is_err_and c.from_residual-in_err-bytes.result
-    c.from_residual-in_err-bytes.ensures.1 in rw p.1 tt)
-
-pub returns-in_err-bytes-clause-pad : goal.returns-in_err-bytes-clause-pad
-returns-in_err-bytes-clause-pad g c = (let p = err_from_is_err_and c.from_residual-in_err-bytes.result
-    c.from_residual-in_err-bytes.ensures.1 in rw p.1 tt)
-
-pub returns-in_err-bytes-clause-then : goal.returns-in_err-bytes-clause-then
-returns-in_err-bytes-clause-then g c = (let p = err_from_is_err_and c.from_residual-in_err-bytes.result
-    c.from_residual-in_err-bytes.ensures.1 in rw p.1 tt)
+pub returns-in_err-bytes : goal.returns-in_err-bytes
+returns-in_err-bytes g c =
+    let p = err_from_is_err_and c.from_residual-in_err-bytes.result c.from_residual-in_err-bytes.ensures.1 in
+    record {
+      long = rw p.1 tt;
+      told = rw p.1 tt;
+      pad = rw p.1 tt;
+      then = rw p.1 tt;
+    }

@@ -6,13 +6,15 @@ use Rattle.stage_log.specs.Log.{before}
 use Rattle.go_nogo.specs.Rows.{final_row}
 use Rattle.round_spec.specs.Slots.{final_stage}
 use Rattle.honest_say.specs.Pasts.{posts_before}
-use Rattle.member_core.specs.declared.secrets.Secrets.{Secrets}
+use Rattle.member_parts.specs.declared.secrets.Secrets.{Secrets}
+use Rattle.member_parts.specs.Secrets.{shuffle_secrets, without_shuffle}
 use Rattle.member_core.specs.Asking.{StandsAsked, asked_at}
 use Rattle.member_core.specs.Membership.{holdings_of}
-use Rattle.member_core.specs.Needs.{HoldsNeeded, shuffle_secrets, without_shuffle}
+use Rattle.member_core.specs.Needs.{HoldsNeeded}
 use Rattle.member_core.specs.Sound.{IsFormed, IsMachineOf}
 use Rattle.member_spec.specs.declared.mood.Mood.TheVariants.{Spoken}
-use Rattle.member_core.proofs.Belonging.{formed-with, holds-shuffle, not-missing, secrets-for}
+use Rattle.member_core.proofs.Changes.{formed-with, held-with}
+use Rattle.member_core.proofs.Belonging.{holds-shuffle, not-missing, secrets-for}
 use Rattle.member_core.proofs.BeingAsked.{asked-with, goes-on_as, needed-shuffle, own-asked, secrets-shuffle}
 use Rattle.member_core.proofs.Due.{final-due}
 use Rattle.member_core.proofs.StageKinds.{final-apart, kind-place}
@@ -52,19 +54,11 @@ pub returns-clause-formed : goal.returns-clause-formed
 returns-clause-formed c =
     let m = c.args.self.now in
     let entered = c.requires.formed.entered in
-    let own : IsMachineOf entered.0 m = entered.1 in
     subst (λ (s : Secrets). IsFormed (record m { secrets = s })) (sym c.take_shuffle.ensures.left)
     (formed-with m (without_shuffle m.secrets c.args.shuffle) m.own c.requires.formed (
       entered.0,
-      record {
-        roster = own.roster;
-        seat = own.seat;
-        message = own.message;
-        secrets = secrets-shuffle entered.0 m.secrets c.args.shuffle own.secrets;
-        hidden = own.hidden;
-        hidden_short = own.hidden_short;
-        pad = own.pad;
-      },
+      held-with entered.0 m (without_shuffle m.secrets c.args.shuffle) entered.1
+          (secrets-shuffle entered.0 m.secrets c.args.shuffle entered.1.secrets),
     ))
 
 pub returns-clause-same : goal.returns-clause-same

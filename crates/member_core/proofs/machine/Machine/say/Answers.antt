@@ -11,8 +11,9 @@ use Rattle.stage_log.specs.Table.{filled}
 use Rattle.member_spec.specs.declared.conduct.Speech.TheVariants.{Say as Says}
 use Rattle.member_spec.specs.declared.mood.Mood.TheVariants.{Spoken}
 use Rattle.member_spec.specs.Actor.{actor_behind_answer}
+use Rattle.member_parts.specs.Endings.{IsOpen}
 use Rattle.member_core.specs.declared.machine.Machine.{Machine}
-use Rattle.member_core.specs.Membership.{IsOpen, holdings_of}
+use Rattle.member_core.specs.Membership.{holdings_of}
 use Rattle.member_core.specs.Sound.{IsFormed, IsSound, slot_here}
 use Rattle.member_core.specs.Stands.{StandsFor}
 use Rattle.member_core.proofs.Posting.{IsOwnContent, IsSigned, leaf-left, limit-small, own-content, posted-so, posted-sound, posted-stands, put-here, signed-post, strayed-formed, strayed, strayed-so, strayed-sound, strayed-stands, told-reads}

@@ -15,8 +15,8 @@ unreachable-requires c =
 pub unreachable-unreachable : goal.unreachable-unreachable
 unreachable-unreachable c = c.unreachable.type_inv
 
-pub secrets_of-secrets-requires : goal.secrets_of-secrets-requires
-secrets_of-secrets-requires c = c.requires.held
+pub of_shuffle-secrets-requires : goal.of_shuffle-secrets-requires
+of_shuffle-secrets-requires c = c.requires.held
 
 pub submit-requires-clause-inner : goal.submit-requires-clause-inner
 submit-requires-clause-inner c =
@@ -55,8 +55,8 @@ returns-then-shuffle-eq1 c = IfOk-weaker c.submit.result _ _ (λ submission said
     let keys = keys-here m.log m.stage c.in-Some.keys (carried-keys m.log m.stage m.keys c.in-Some.keys c.in-Some.is c.requires.ready.keys)
     c.requires.behind c.requires.ready.past in
     said config own past seat
-    (secrets-for config m.secrets c.args.shuffle c.secrets_of-secrets.result.now secrets c.requires.first c.requires.last
-    c.secrets_of-secrets.ensures)
+    (secrets-for config m.secrets c.args.shuffle c.of_shuffle-secrets.result.now secrets c.requires.first c.requires.last
+    c.of_shuffle-secrets.ensures)
     (shuffle-keys config m past c.args.shuffle 1 c.in-Some.keys.first c.requires.formed seat (sym c.if-shuffle-eq1.true) keys.first) item)
     c.submit.ensures
 
@@ -68,7 +68,7 @@ returns-else-shuffle-eq1 c = IfOk-weaker c.submit-else-shuffle-eq1.result _ _ (�
     c.requires.behind c.requires.ready.past in
     let second : 2 ≡ c.args.shuffle = omega arith in
     said config own past seat
-    (secrets-for config m.secrets c.args.shuffle c.secrets_of-secrets.result.now secrets c.requires.first c.requires.last
-    c.secrets_of-secrets.ensures)
+    (secrets-for config m.secrets c.args.shuffle c.of_shuffle-secrets.result.now secrets c.requires.first c.requires.last
+    c.of_shuffle-secrets.ensures)
     (shuffle-keys config m past c.args.shuffle 2 c.in-Some.keys.second c.requires.formed seat second keys.second) item)
     c.submit-else-shuffle-eq1.ensures

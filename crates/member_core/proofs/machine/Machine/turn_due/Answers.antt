@@ -10,8 +10,8 @@ use Rattle.member_core.proofs.Due.{turn-due}
 use Rattle.member_core.proofs.StageKinds.{kind-place}
 use Rattle.member_core.proofs.machine.Machine.turn_due.Goals as goal
 
-pub secrets_of-secrets-requires : goal.secrets_of-secrets-requires
-secrets_of-secrets-requires c =
+pub of_shuffle-secrets-requires : goal.of_shuffle-secrets-requires
+of_shuffle-secrets-requires c =
     let m = c.args.self.now in
     let placed = kind-place m.log.shape m.stage (Shuffle c.args.shuffle m.seat.number) c.requires.kind in
     let within = placed.kind_in in
@@ -43,6 +43,6 @@ returns c = IfOk-weaker c.turn_body.result _ _ (λ body said now.
     let placed = kind-place m.log.shape m.stage (Shuffle c.args.shuffle m.seat.number) c.requires.kind in
     let within = placed.kind_in in
     turn-due now m c.args.shuffle body c.requires.formed c.requires.ready c.requires.asked c.requires.kind (λ config seat secrets.
-    said config seat (secrets-for config m.secrets c.args.shuffle c.secrets_of-secrets.result.now secrets within.0 within.1
-    c.secrets_of-secrets.ensures)
+    said config seat (secrets-for config m.secrets c.args.shuffle c.of_shuffle-secrets.result.now secrets within.0 within.1
+    c.of_shuffle-secrets.ensures)
     ∙ ap (λ (s : ℕ). turn_row config (past_of m.log s) c.args.shuffle) (sym placed.at))) c.turn_body.ensures

@@ -1,6 +1,7 @@
 use Rattle.std.proofs.Common.{[], ◌++◌, ◌∷◌, Ok, ap, sym, ◌∙◌, refl, subst, arith}
+use Rattle.member_parts.specs.Endings.{HasBlamed, HasEnded, IsOpen, IsOutOfMemory}
 use Rattle.member_core.specs.declared.machine.Machine.{Machine}
-use Rattle.member_core.specs.Membership.{HasBlamed, HasEnded, IsOpen, IsOutOfMemory, Membership, holdings_of}
+use Rattle.member_core.specs.Membership.{Membership, holdings_of}
 use Rattle.member_core.specs.Needs.{HoldsNeeded}
 use Rattle.member_core.specs.Sound.{IsSound}
 use Rattle.member_core.specs.Stands.{Stands}

@@ -1,5 +1,6 @@
 use Rattle.std.proofs.Common.{ap, ◌∙◌}
-use Rattle.member_core.specs.Membership.{Membership, evidence_held}
+use Rattle.member_parts.specs.Endings.{evidence_held}
+use Rattle.member_core.specs.Membership.{Membership}
 use Rattle.member_core.proofs.Shown.{plain-evidence}
 use Rattle.round_spec.specs.Result.{result_of}
 use Rattle.member_spec.specs.Outcomes.{evidence_shown}

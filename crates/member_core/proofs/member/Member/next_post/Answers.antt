@@ -2,7 +2,8 @@ use Rattle.std.proofs.Common.{◌≡◌, ℕ, ◌+◌, ◌≤◌, List, length, 
 use Rattle.std.specs.Prelude.{option_map}
 use Rattle.std.specs.Option.{option_copied}
 use Rattle.phase_message.specs.Post.{post_spelling}
-use Rattle.member_core.specs.Membership.{IsRunning, Membership, handed_next, posts_made}
+use Rattle.member_parts.specs.Endings.{IsRunning}
+use Rattle.member_core.specs.Membership.{Membership, handed_next, posts_made}
 use Rattle.member_core.specs.Needs.{HoldsNeeded}
 use Rattle.member_core.specs.Promises.{IsPlainMember}
 use Rattle.member_core.specs.Sound.{IsSound}

@@ -1,5 +1,6 @@
 use Rattle.std.proofs.Common.{ap, ◌∙◌}
-use Rattle.member_core.specs.Membership.{Membership, slots_held}
+use Rattle.member_parts.specs.Endings.{slots_held}
+use Rattle.member_core.specs.Membership.{Membership}
 use Rattle.member_core.proofs.Shown.{plain-slots}
 use Rattle.round_spec.specs.Result.{result_of}
 use Rattle.member_spec.specs.Outcomes.{slots_shown}

@@ -1,23 +1,24 @@
 //! The secrets that a member still needs.
 
-ghost use Rattle.std.specs.Prelude.{◌≡◌, ◌≤◌, IfOk, IfSome, IsSome, length, None};
+ghost use Rattle.std.specs.Prelude.{◌≡◌, IfOk, IsSome, Some};
 ghost use Rattle.round_spec.specs.Say.{Configuration, shape_in};
-ghost use Rattle.member_core.specs.Needs.{AreAll, AreSecretsOf, no_secrets, shuffle_secrets, without_bulk, without_shuffle};
+ghost use Rattle.member_parts.specs.Secrets.{AreAll, AreSecretsOf, no_secrets, shuffle_secrets, without_bulk, without_shuffle};
 
 use honest_say::{BulkSecrets, ShuffleSecrets};
 use std::alloc::Global;
 use wire_core::Mem;
 
-// The secrets that a member still needs: of shuffle A, of the messages, and of shuffle B.
-pub(crate) struct Secrets {
-    pub(crate) first: Option<ShuffleSecrets>,
-    pub(crate) bulk: Option<BulkSecrets>,
-    pub(crate) second: Option<ShuffleSecrets>,
+/// The secrets that a member still needs: of shuffle A, of the messages, and of shuffle B. They can be neither dropped nor
+/// copied.
+pub struct Secrets {
+    pub first: Option<ShuffleSecrets>,
+    pub bulk: Option<BulkSecrets>,
+    pub second: Option<ShuffleSecrets>,
 }
 
 impl Secrets {
-    // All secrets of a round of so many members, from the member's 32 fresh bytes.
-    pub(crate) fn derive(alloc: Global, fresh: &[u8; 32], round: u64, members: u8) -> Mem<Secrets>
+    /// All secrets of a round of so many members, from the member's 32 fresh bytes.
+    pub fn derive(alloc: Global, fresh: &[u8; 32], round: u64, members: u8) -> Mem<Secrets>
         ensures own { IfOk result (λ secrets. (c : Configuration) → c.fresh ≡ fresh.now → c.round ≡ round →
             (shape_in c).members ≡ members → AreSecretsOf c secrets) }
         ensures all { IfOk result AreAll }
@@ -32,8 +33,20 @@ impl Secrets {
         })
     }
 
-    // The secrets of a shuffle, which are no longer held.
-    pub(crate) fn take_shuffle(&mut self, shuffle: u8) -> Option<ShuffleSecrets>
+    /// The secrets of a shuffle.
+    pub fn of_shuffle(&self, shuffle: u8) -> &ShuffleSecrets
+        requires { IsSome (shuffle_secrets self.now shuffle) }
+        ensures { shuffle_secrets self.now shuffle ≡ Some result.now }
+    {
+        if shuffle == 1 {
+            held(&self.first)
+        } else {
+            held(&self.second)
+        }
+    }
+
+    /// The secrets of a shuffle, which are no longer held.
+    pub fn take_shuffle(&mut self, shuffle: u8) -> Option<ShuffleSecrets>
         ensures taken { result ≡ shuffle_secrets self.old shuffle }
         ensures left { self.new ≡ without_shuffle self.old shuffle }
     {
@@ -44,8 +57,8 @@ impl Secrets {
         }
     }
 
-    // Ends the secrets of the messages.
-    pub(crate) fn end_bulk(&mut self)
+    /// Ends the secrets of the messages.
+    pub fn end_bulk(&mut self)
         ensures { self.new ≡ without_bulk self.old }
     {
         if let Some(bulk) = self.bulk.take() {
@@ -53,8 +66,8 @@ impl Secrets {
         }
     }
 
-    // Ends all secrets.
-    pub(crate) fn end(&mut self)
+    /// Ends all secrets.
+    pub fn end(&mut self)
         ensures { self.new ≡ no_secrets }
     {
         self.end_bulk();
@@ -66,8 +79,8 @@ impl Secrets {
         }
     }
 
-    // Gives up what is left.
-    pub(crate) fn destroy(self) {
+    /// Gives up what is left.
+    pub fn destroy(self) {
         let Secrets {
             first,
             bulk,
@@ -83,4 +96,15 @@ impl Secrets {
             second.destroy();
         }
     }
+}
+
+// Secrets that are held.
+fn held(secrets: &Option<ShuffleSecrets>) -> &ShuffleSecrets
+    requires { IsSome secrets.now }
+    ensures { secrets.now ≡ Some result.now }
+{
+    let Some(secrets) = secrets else {
+        unreachable!()
+    };
+    secrets
 }

@@ -1,5 +1,5 @@
 use Rattle.std.proofs.Common.{arith}
-use Rattle.member_core.proofs.config.are_bytes.Goals as goal
+use Rattle.member_parts.proofs.config.are_bytes.Goals as goal
 
 pub returns : goal.returns
 returns c = λ i. omega (arith, c.type_inv.bytes i)

@@ -1,0 +1,3 @@
+pub mod Secrets
+pub mod Endings
+pub mod Finding
