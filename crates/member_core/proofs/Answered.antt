@@ -25,10 +25,10 @@ use Rattle.member_core.specs.Asking.{IsSpeakable, IsToBeAsked, StandsAsked, aske
 use Rattle.member_core.specs.Membership.{holdings_of}
 use Rattle.member_core.specs.Needs.{HoldsNeeded, was_asked}
 use Rattle.member_core.specs.Shorts.{own_limit}
-use Rattle.member_core.specs.Sound.{IsFormed, IsMachineOf, IsReady, IsSound, slot_here}
+use Rattle.member_core.specs.Sound.{IsFormed, IsReady, IsSound, slot_here}
 use Rattle.member_core.specs.Stands.{AnswersBy, IsOwnOf, StandsFor}
-use Rattle.member_core.proofs.Changes.{entry-with, formed-bare, formed-mood, no-secrets-of, ready-mood}
-use Rattle.member_core.proofs.Posting.{mute-needed, mute-ready, muted, round-shape, shows-open, silent-here}
+use Rattle.member_core.proofs.Changes.{at-mood, entry-with, formed-bare, formed-mood, no-secrets-of, ready-mood}
+use Rattle.member_core.proofs.Posting.{mute-needed, mute-ready, muted, round-shape, silent-here}
 
 -- ---- the question
 
@@ -119,14 +119,7 @@ put_off-stands now start c a m bytes asked s =
     record {
       can_enter = s.can_enter;
       entered = s.entered;
-      at = record {
-        log = s.at.log;
-        stage = s.at.stage;
-        past = s.at.past;
-        mood = refl;
-        made = s.at.made;
-        ending = shows-open c a (record a { mood = PutOff bytes }) m.ending asked.going refl s.at.ending;
-      };
+      at = at-mood c (record a { mood = Spoken }) (asked_at (holdings_of m) Spoken) (PutOff bytes) m.secrets m.own s.at;
       conduct = s.conduct;
       own = record { descriptor = made_own.descriptor; pad = made_own.pad; first = made_own.first; second = made_own.second };
     }
@@ -147,14 +140,7 @@ muted-stands now start c a m asked s =
     record {
       can_enter = s.can_enter;
       entered = entry-with c (holdings_of m) no_secrets s.entered (no-secrets-of c);
-      at = record {
-        log = s.at.log;
-        stage = s.at.stage;
-        past = s.at.past;
-        mood = refl;
-        made = s.at.made;
-        ending = shows-open c a (record a { mood = Mute }) m.ending asked.going refl s.at.ending;
-      };
+      at = at-mood c (record a { mood = Spoken }) (asked_at (holdings_of m) Spoken) Mute no_secrets m.own s.at;
       conduct = tt;
       own = tt;
     }

@@ -13,7 +13,7 @@ use Rattle.member_spec.specs.Outcomes.{members_missing, outcome_of}
 use Rattle.member_spec.specs.Taking.{LeavesAll, answer_by_end}
 use Rattle.member_parts.specs.declared.ending.Ending.{Ending}
 use Rattle.member_parts.specs.declared.ending.Ending.TheVariants.{Blamed, Done, Open, Stopped}
-use Rattle.member_parts.specs.Endings.{HasBlamed, IsOpen, IsRunning}
+use Rattle.member_parts.specs.Endings.{HasBlamed, IsOpen, IsOutOfMemory, IsRunning}
 use Rattle.member_core.specs.Found.{TellsEnding, answer_behind}
 use Rattle.member_core.specs.Stands.{ShowsOutcome}
 
@@ -23,6 +23,13 @@ open-runs Open still = tt
 open-runs (Done slots) still = absurd still
 open-runs (Blamed conviction) still = absurd still
 open-runs Stopped still = absurd still
+
+-- and a member that runs is not stopped
+pub runs-still : (ending : Ending) → IsRunning ending → IsOutOfMemory ending → ⊥
+runs-still Open runs stopped = stopped
+runs-still (Done slots) runs stopped = stopped
+runs-still (Blamed conviction) runs stopped = stopped
+runs-still Stopped runs stopped = runs
 
 pub open-blamed : (ending : Ending) → IsOpen ending → HasBlamed ending → ⊥
 open-blamed Open still blamed = blamed

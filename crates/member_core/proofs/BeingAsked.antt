@@ -18,7 +18,7 @@ use Rattle.member_core.specs.Asking.{IsToBeAsked, StandsAsked, asked_at}
 use Rattle.member_core.specs.Membership.{holdings_of}
 use Rattle.member_core.specs.Needs.{HoldsNeeded, is_mute, needs, was_asked}
 use Rattle.member_core.specs.Stands.{AnswersBy, GoesOn, IsOwnOf, KeepsOwn, StandsFor}
-use Rattle.member_core.proofs.Changes.{entry-with}
+use Rattle.member_core.proofs.Changes.{at-mood, entry-with}
 
 -- ---- what it was asked about
 
@@ -122,14 +122,7 @@ pub asked-with : (now after start : Replies) (c : Configuration) (a : Actor) (m 
 asked-with now after start c a m secrets own stands are answers keeps = record {
   can_enter = stands.can_enter;
   entered = entry-with c (holdings_of m) secrets stands.entered are;
-  at = record {
-    log = stands.at.log;
-    stage = stands.at.stage;
-    past = stands.at.past;
-    mood = refl;
-    made = stands.at.made;
-    ending = stands.at.ending;
-  };
+  at = at-mood c a (holdings_of m) Spoken secrets own stands.at;
   conduct = answers;
   own = keeps;
 }

@@ -29,7 +29,6 @@ use Rattle.honest_say.proofs.Staying.{keys_stay}
 use Rattle.closing_verdict.specs.Carried.{AreItemsOf, AreKeysOf, AreSlotsOf, CarriesOpened, CarriesSlots, stage_found, stage_opened}
 use Rattle.member_parts.specs.declared.ending.Ending.{Ending}
 use Rattle.member_parts.specs.declared.ending.Ending.TheVariants.{Open, Done, Blamed, Stopped}
-use Rattle.member_parts.specs.declared.own.Own.{Own}
 use Rattle.member_parts.specs.declared.secrets.Secrets.{Secrets}
 use Rattle.member_parts.specs.Endings.{IsOpen, is_going}
 use Rattle.member_parts.specs.Secrets.{AreSecretsOf, shuffle_secrets}

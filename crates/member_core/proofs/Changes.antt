@@ -1,11 +1,12 @@
 -- What stays true of a member where something of it changes.
-use Rattle.std.proofs.Common.{◌≡◌, ℕ, ◌+◌, ◌-◌, List, [], ◌++◌, ◌∷◌, length, Option, Vec, Global, ap, arith, length-append}
+use Rattle.std.proofs.Common.{◌≡◌, ℕ, ◌+◌, ◌-◌, List, [], ◌++◌, ◌∷◌, length, Option, Vec, Global, ap, arith, refl, length-append}
 use Rattle.lms_tree.specs.States.{RunState}
 use Rattle.phase_message.specs.declared.post.Post.{Post}
 use Rattle.stage_log.specs.declared.seen.Seen.{Seen}
 use Rattle.round_spec.specs.Say.{Configuration}
 use Rattle.honest_say.specs.declared.group_keys.GroupKeys.{GroupKeys}
 use Rattle.honest_say.specs.declared.opening.Slots.{Slots}
+use Rattle.member_spec.specs.Actor.{Actor}
 use Rattle.member_spec.specs.declared.mood.Mood.{Mood}
 use Rattle.member_spec.specs.declared.mood.Mood.TheVariants.{Unasked, PutOff, Spoken, Mute}
 use Rattle.member_parts.specs.declared.ending.Ending.{Ending}
@@ -15,7 +16,7 @@ use Rattle.member_parts.specs.Secrets.{AreSecretsOf, no_secrets}
 use Rattle.member_core.specs.declared.machine.Machine.{Machine}
 use Rattle.member_core.specs.Membership.{Holdings, posts_made}
 use Rattle.member_core.specs.Sound.{IsFormed, IsMachineOf, IsMoodOf, IsReady}
-use Rattle.member_core.specs.Stands.{HasEntered, IsEntryOf}
+use Rattle.member_core.specs.Stands.{HasEntered, IsAt, IsEntryOf}
 
 -- ---- what it entered with
 
@@ -148,3 +149,17 @@ ready-else m leaves stray handed secrets own mood is ready = record {
 -- in another mood
 pub ready-mood : (m : Machine) (mood : Mood) → IsMoodOf m mood → IsReady m → IsReady (record m { mood = mood })
 ready-mood m mood is ready = ready-else m m.leaves m.stray m.handed m.secrets m.own mood is ready
+
+-- ---- where it stands
+
+-- in another mood, with other secrets and other that it made of its own, it stands where it did
+pub at-mood : (c : Configuration) (a : Actor) (h : Holdings) (mood : Mood) (secrets : Secrets) (own : Own) → IsAt c a h
+    → IsAt c (record a { mood = mood }) (record h { mood = mood; secrets = secrets; own = own })
+at-mood c a h mood secrets own is = record {
+  log = is.log;
+  stage = is.stage;
+  past = is.past;
+  mood = refl;
+  made = is.made;
+  ending = is.ending;
+}

@@ -25,6 +25,7 @@ use Rattle.member_parts.specs.Endings.{HasEnded, IsOpen, IsOutOfMemory, IsRunnin
 use Rattle.member_core.specs.Found.{TakesAs}
 use Rattle.member_core.specs.Membership.{Membership}
 use Rattle.member_core.specs.Stands.{ShowsOutcome, Stands, StandsFor}
+use Rattle.member_core.proofs.Answering.{open-runs, runs-still}
 
 -- ---- what has ended the round
 
@@ -41,10 +42,7 @@ ended-runs (Blamed conviction) is = tt
 ended-runs Stopped is = absurd is
 
 pub ended-stops : (ending : Ending) → HasEnded ending → IsOutOfMemory ending → ⊥
-ended-stops Open is stopped = is
-ended-stops (Done slots) is stopped = stopped
-ended-stops (Blamed conviction) is stopped = stopped
-ended-stops Stopped is stopped = is
+ended-stops ending is = runs-still ending (ended-runs ending is)
 
 pub ended-open : (ending : Ending) → HasEnded ending → IsOpen ending → ⊥
 ended-open Open is going = is
@@ -53,10 +51,7 @@ ended-open (Blamed conviction) is going = going
 ended-open Stopped is going = is
 
 pub open-stops : (ending : Ending) → IsOpen ending → IsOutOfMemory ending → ⊥
-open-stops Open going stopped = stopped
-open-stops (Done slots) going stopped = going
-open-stops (Blamed conviction) going stopped = going
-open-stops Stopped going stopped = going
+open-stops ending going = runs-still ending (open-runs ending going)
 
 pub stopped-ended : (ending : Ending) → IsOutOfMemory ending → HasEnded ending → ⊥
 stopped-ended ending stopped is = ended-stops ending is stopped

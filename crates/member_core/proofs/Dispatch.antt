@@ -1,7 +1,6 @@
 -- What a member has to say by the kind of its stage, and that being asked at a stage that takes no secret changes nothing.
-use Rattle.std.proofs.Common.{◌≡◌, ℕ, ◌+◌, ◌≤◌, Bool, true, false, List, Option, Some, None, ap, sym, ◌∙◌, refl, subst, arith, inl, inr}
-use Rattle.std.specs.Prelude.{◌&&◌, nat_lt, not}
-use Rattle.std.proofs.lemmas.Bool.{cases_lt, false_from_ne_true, lt-ltb, ltb-true}
+use Rattle.std.proofs.Common.{◌≡◌, ℕ, ◌≤◌, true, false, List, Option, Some, None, ap, sym, ◌∙◌, refl, subst, arith, inl, inr}
+use Rattle.std.proofs.lemmas.Bool.{cases_lt}
 use Rattle.phase_message.specs.declared.content.Body.{Body}
 use Rattle.phase_message.specs.declared.header.Header.{Header}
 use Rattle.phase_message.specs.declared.post.Post.{Post}
@@ -16,22 +15,20 @@ use Rattle.shuffle_blame.specs.Asked.{past_of}
 use Rattle.round_spec.specs.Say.{Configuration, content_with, own_body_at, own_body_if, own_header, shape_in}
 use Rattle.round_spec.specs.Slots.{final_stage, submit_stage}
 use Rattle.honest_say.specs.Seats.{IsSeatOf, header_at}
-use Rattle.member_spec.specs.declared.mood.Mood.{Mood}
-use Rattle.member_spec.specs.declared.mood.Mood.TheVariants.{Mute, PutOff, Spoken, Unasked}
+use Rattle.member_spec.specs.declared.mood.Mood.TheVariants.{Spoken}
 use Rattle.member_spec.specs.Actor.{Actor, content_to_say, descriptor_made}
 use Rattle.member_spec.specs.Replies.{Replies}
 use Rattle.member_parts.specs.declared.own.Own.{Own}
 use Rattle.member_parts.specs.declared.secrets.Secrets.{Secrets}
-use Rattle.member_parts.specs.Endings.{is_going}
 use Rattle.member_core.specs.declared.machine.Machine.{Machine}
 use Rattle.member_core.specs.Asking.{IsDue, IsPlainKind, IsToBeAsked, StandsAsked, asked_at, content_here}
 use Rattle.member_core.specs.Membership.{holdings_of}
-use Rattle.member_core.specs.Needs.{HoldsNeeded, is_mute, needs, was_asked}
-use Rattle.member_core.specs.Sound.{IsFormed, IsMoodOf, IsReady}
-use Rattle.member_core.specs.Stands.{AnswersBy, GoesOn, IsOwnOf, KeepsOwn, StandsFor}
+use Rattle.member_core.specs.Needs.{HoldsNeeded}
+use Rattle.member_core.specs.Sound.{IsFormed, IsReady}
+use Rattle.member_core.specs.Stands.{StandsFor}
 use Rattle.member_core.proofs.Changes.{ready-else}
+use Rattle.member_core.proofs.BeingAsked.{asked-with, goes-on_as, needed-asked, own-asked}
 use Rattle.member_core.proofs.Belonging.{past-is, seat-of, shape-is}
-use Rattle.member_core.proofs.Posting.{shows-open}
 use Rattle.member_core.proofs.StageKinds.{IsPlaced, kind-place}
 
 -- ---- stages that take no secret
@@ -111,70 +108,17 @@ due-of now m kind other body is also due =
 
 -- ---- where it was asked
 
--- at another stage it was asked as before
-asked-else : (m : Machine) (other : ℕ) → IsToBeAsked m → (other ≡ m.stage → ⊥)
-    → was_asked m.stage m.mood other ≡ was_asked m.stage Spoken other
-asked-else m other asked apart = ap (λ (mood : Mood). was_asked m.stage mood other) asked.unasked ∙ elim (cases_lt other m.stage) [
-  | inl lt ↦ lt-ltb other m.stage lt ∙ sym (lt-ltb other (m.stage + 1) (omega arith))
-  | inr le ↦ elim (cases_lt m.stage other) [
-    | inl lt ↦ above other m.stage (omega arith) ∙ sym (above other (m.stage + 1) (omega arith))
-    | inr back ↦ absurd (apart (omega arith))
-  ]
-]
-  where
-    above : (a b : ℕ) → b ≤ a → nat_lt a b ≡ false
-    above a b le = false_from_ne_true (nat_lt a b) (λ e. (let lt = ltb-true a b e in omega arith))
-
-needs-else : (m : Machine) (other : ℕ) → IsToBeAsked m → (other ≡ m.stage → ⊥)
-    → needs (holdings_of m) other ≡ needs (asked_at (holdings_of m) Spoken) other
-needs-else m other asked apart =
-    ap (λ (mute : Bool). is_going m.ending && (not mute && not (was_asked m.stage m.mood other))) (ap is_mute asked.unasked)
-    ∙ ap (λ (was : Bool). is_going m.ending && not was) (asked-else m other asked apart)
-
--- so it holds just what it needs once it was asked
+-- it holds just what it needs once it was asked
 pub needed-plain : (m : Machine) → HoldsNeeded (holdings_of m) → IsToBeAsked m → IsApart m.log.shape m.stage
     → HoldsNeeded (asked_at (holdings_of m) Spoken)
-needed-plain m n asked apart = record {
-  first = n.first ∙ needs-else m (final_stage m.log.shape 1) asked apart.final_a;
-  bulk = n.bulk ∙ needs-else m (submit_stage m.log.shape 2) asked apart.submit_b;
-  second = n.second ∙ needs-else m (final_stage m.log.shape 2) asked apart.final_b;
-}
+needed-plain m n asked apart = needed-asked m m.own asked n apart.final_a apart.submit_b apart.final_b
 
 -- and stands as one that was asked
 pub stands-plain : (now start : Replies) (c : Configuration) (a : Actor) (m : Machine) → IsToBeAsked m → IsApart m.log.shape m.stage
     → StandsFor now start c a (holdings_of m) → StandsAsked now start c a (holdings_of m)
 stands-plain now start c a m asked apart s =
-    record {
-      can_enter = s.can_enter;
-      entered = s.entered;
-      at = record {
-        log = s.at.log;
-        stage = s.at.stage;
-        past = s.at.past;
-        mood = refl;
-        made = s.at.made;
-        ending = shows-open c a (record a { mood = Spoken }) m.ending asked.going refl s.at.ending;
-      };
-      conduct = subst (AnswersBy now start c (past_of m.log 1)) first answers;
-      own = record {
-        descriptor = λ was. own.descriptor (first ∙ was);
-        pad = λ was. own.pad (first ∙ was);
-        first = λ was not_yet. own.first (first ∙ was) (second ∙ not_yet);
-        second = λ was. own.second (second ∙ was);
-      };
-    }
-  where
-    first : was_asked m.stage m.mood 1 ≡ was_asked m.stage Spoken 1
-    first = asked-else m 1 asked apart.submit_a
-
-    second : was_asked m.stage m.mood (submit_stage m.log.shape 2) ≡ was_asked m.stage Spoken (submit_stage m.log.shape 2)
-    second = asked-else m (submit_stage m.log.shape 2) asked apart.submit_b
-
-    answers : AnswersBy now start c (past_of m.log 1) (was_asked m.stage m.mood 1)
-    answers = subst (GoesOn now start c (holdings_of m)) asked.unasked s.conduct
-
-    own : IsOwnOf start c (holdings_of m)
-    own = subst (KeepsOwn start c (holdings_of m)) asked.unasked s.own
+    asked-with now now start c a m m.secrets m.own s s.entered.secrets (goes-on_as now start c a m asked s apart.submit_a)
+    (own-asked now start c a m m.secrets asked s apart.submit_a apart.submit_b)
 
 -- ---- what is left of the member
 

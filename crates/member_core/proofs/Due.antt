@@ -1,6 +1,6 @@
 -- What a call of a row gives is what the rules give the member to say.
 use Rattle.std.proofs.Common.{◌≡◌, ℕ, ◌+◌, ◌-◌, ◌≤◌, Bool, List, length, Option, Some, None, ap, sym, ◌∙◌, subst, arith, inl, inr}
-use Rattle.std.specs.Prelude.{IfSome, ◌&&◌}
+use Rattle.std.specs.Prelude.{IfSome}
 use Rattle.std.proofs.lemmas.Bool.{cases_eq}
 use Rattle.wire_core.proofs.ByteLists.{hash_bytes}
 use Rattle.phase_message.specs.declared.content.Body.{Body}
@@ -14,11 +14,13 @@ use Rattle.phase_message.specs.Stages.{kind_of_stage}
 use Rattle.stage_log.specs.Log.{contents_of}
 use Rattle.stage_log.specs.Seen.{HasSeen}
 use Rattle.bulk_descriptor.specs.Descriptor.{own_pad}
-use Rattle.go_nogo.specs.Rows.{all_right, check_row, confirm_row, final_row, go_row, lists_before, stands_last}
+use Rattle.go_nogo.specs.Rows.{all_right, check_row, confirm_row, final_row, go_row}
 use Rattle.shuffle_blame.specs.Asked.{past_of}
 use Rattle.shuffle_blame.specs.Replay.{outer_place}
 use Rattle.round_spec.specs.Slots.{final_stage, inner_place, items_opened}
 use Rattle.round_spec.specs.Say.{Configuration, keys_row, own_body_at, own_key_seed, own_pad_seeds, own_submission, pads_row, shape_in, turn_row}
+use Rattle.conviction.proofs.Closings.{confirm-body, final-body}
+use Rattle.conviction.proofs.OwnVotes.{check-body, go-body}
 use Rattle.honest_say.specs.Own.{AreBulkSecrets, AreShuffleSecrets}
 use Rattle.honest_say.specs.declared.secrets.BulkSecrets.{BulkSecrets}
 use Rattle.honest_say.specs.Pasts.{posts_before}
@@ -34,8 +36,8 @@ use Rattle.member_core.specs.Membership.{holdings_of}
 use Rattle.member_core.specs.Sound.{IsFormed, IsMachineOf, IsReady}
 use Rattle.member_core.specs.Stands.{StandsFor}
 use Rattle.member_core.proofs.Belonging.{IsOfGroup, of-group, past-is, seat-of, shape-is}
-use Rattle.member_core.proofs.RowForms.{check-fits, confirm-fits, final-fits, go-fits, keys-fit, pads-fit, turn-fits}
-use Rattle.member_core.proofs.RowLengths.{IsClosedBy, IsPlain, confirm-short, final-short, plain-short, posts-short}
+use Rattle.member_core.proofs.RowForms.{keys-fit, pads-fit, turn-fits}
+use Rattle.member_core.proofs.RowLengths.{AreShort, IsClosedBy, IsPlain, confirm-short, final-short, plain-short, posts-short}
 use Rattle.member_core.proofs.Submitting.{descriptor-kept, first-kept, pad-kept, second-kept}
 use Rattle.member_core.proofs.StageKinds.{IsPlaced, kind-place}
 
@@ -98,26 +100,15 @@ pub seen-right : (m : Machine) (right : Bool) → IsReady m → ((shape : Shape)
     → right ≡ all_right m.log.shape (past_of m.log m.stage) m.stage
 seen-right m right ready told = told m.log.shape (past_of m.log m.stage) m.stage ready.seen
 
-check-form : (shape : Shape) (past : List (List ℕ)) (stage at : ℕ) → kind_of_stage shape at ≡ Some Check
-    → IsBody shape at (check_row shape past stage)
-unfolding check_row
-check-form shape past stage at kind = check-fits shape at (all_right shape past stage) kind
-
 pub check-due : (now : Replies) (m : Machine) (body : Body) → IsFormed m → IsToBeAsked m → kind_of_stage m.log.shape m.stage ≡ Some Check
     → body ≡ check_row m.log.shape (past_of m.log m.stage) m.stage → IsDue now m Check body
 check-due now m body formed asked at said =
     let fits : IsBody m.log.shape m.stage body = subst (IsBody m.log.shape m.stage) (sym said)
-    (check-form m.log.shape (past_of m.log m.stage) m.stage m.stage at) in
+    (check-body m.log.shape (past_of m.log m.stage) m.stage at) in
     let told : (start : Replies) (c : Configuration) (a : Actor) → StandsFor now start c a (holdings_of m)
     → body ≡ check_row (shape_in c) (contents_of a.stand.past) a.stand.at
     = λ start c a stands. said ∙ row-moved check_row now start c a m formed stands in
     record { fits = fits; short = plain-due now m Check body formed asked at tt fits told; told = told }
-
-go-form : (shape : Shape) (past : List (List ℕ)) (stage at shuffle : ℕ) (inner : List ℕ) → kind_of_stage shape at ≡ Some (Go shuffle)
-    → IsBody shape at (go_row shape past stage inner)
-unfolding go_row
-go-form shape past stage at shuffle inner kind = go-fits shape at shuffle
-    (all_right shape past stage && stands_last shape inner (lists_before shape past stage)) kind
 
 pub go-due : (now : Replies) (m : Machine) (shuffle : ℕ) (body : Body) → IsFormed m → IsToBeAsked m
     → kind_of_stage m.log.shape m.stage ≡ Some (Go shuffle)
@@ -127,7 +118,7 @@ go-due now m shuffle body formed asked at said =
     let group : IsOfGroup m = of-group m formed in
     let least = group.least in
     let fits : IsBody m.log.shape m.stage body = subst (IsBody m.log.shape m.stage) (sym said)
-    (go-form m.log.shape (past_of m.log m.stage) m.stage m.stage shuffle m.own.inner_ciphertext at) in
+    (go-body m.log.shape (past_of m.log m.stage) m.stage shuffle m.own.inner_ciphertext at) in
     let told : (start : Replies) (c : Configuration) (a : Actor) → StandsFor now start c a (holdings_of m)
     → body ≡ go_row (shape_in c) (contents_of a.stand.past) a.stand.at
     (own_submission c (descriptor_made start c a.stand.past) (contents_of a.stand.past) shuffle).inner_ciphertext
@@ -255,9 +246,11 @@ confirm-due now m body formed ready asked at said =
     let placed : IsPlaced m.log.shape m.stage Confirm = kind-place m.log.shape m.stage Confirm at in
     let stage_is = placed.at in
     let short = confirm-short m.log m.stage m.seat.number (closed-by m formed ready) placed.at in
+    let past : AreShort m.log.shape m.stage (posts_before m.log m.stage) = posts-short m.log m.stage m.seat.number formed.log ready.past
+    (omega (arith, stage_is)) formed.short in
     record {
-      fits = subst (IsBody m.log.shape m.stage) (sym said) (confirm-fits m.log.shape m.stage (posts_before m.log m.stage)
-          (posts-short m.log m.stage m.seat.number formed.log ready.past (omega (arith, stage_is)) formed.short) at);
+      fits = subst (IsBody m.log.shape m.stage) (sym said) (confirm-body m.log.shape (posts_before m.log m.stage) m.stage at past.whole
+          past.short);
       short = omega (arith, short, ap (λ (b : Body). length (body_text b)) said);
       told = λ start c a stands. said ∙ posts-moved confirm_row now start c a m formed stands;
     }
@@ -281,10 +274,11 @@ final-due now m shuffle body secrets formed ready asked at are said =
       | inr other ↦ (let two : shuffle ≡ 2 = omega (arith, within.0, within.1) in omega
           (arith, placed.at, ap (final_stage m.log.shape) two))
     ] in
+    let past : AreShort m.log.shape m.stage (posts_before m.log m.stage) = posts-short m.log m.stage m.seat.number formed.log ready.past
+    most formed.short in
     record {
-      fits = subst (IsBody m.log.shape m.stage) (sym said) (final-fits m.log.shape m.stage shuffle (posts_before m.log m.stage)
-          secrets.inner secrets.outer secrets.outer_opening
-          (posts-short m.log m.stage m.seat.number formed.log ready.past most formed.short) at inner outer opening);
+      fits = subst (IsBody m.log.shape m.stage) (sym said) (final-body m.log.shape (posts_before m.log m.stage) m.stage shuffle
+          secrets.inner secrets.outer secrets.outer_opening at past.whole past.short inner outer opening);
       short = omega (arith, short, ap (λ (b : Body). length (body_text b)) said);
       told = λ start c a stands. (
           let its = are c stands.entered.secrets in

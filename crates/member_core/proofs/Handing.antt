@@ -18,13 +18,13 @@ use Rattle.member_spec.specs.Actor.{Actor}
 use Rattle.member_spec.specs.Replies.{IsPlain, Replies}
 use Rattle.member_parts.specs.declared.ending.Ending.{Ending}
 use Rattle.member_parts.specs.declared.ending.Ending.TheVariants.{Open, Done, Blamed, Stopped}
-use Rattle.member_parts.specs.Endings.{IsOutOfMemory, IsRunning}
+use Rattle.member_parts.specs.Endings.{IsRunning}
 use Rattle.member_core.specs.declared.machine.Machine.{Machine}
 use Rattle.member_core.specs.Concluding.{machine_ended}
 use Rattle.member_core.specs.Membership.{Holdings, Membership, handed_next, holdings_of, own_posts_kept, posts_made}
 use Rattle.member_core.specs.Needs.{HoldsNeeded}
 use Rattle.member_core.specs.Promises.{IsPlainMember}
-use Rattle.member_core.specs.Sound.{IsFormed, IsMachineOf, IsMoodOf, IsReady, IsSound}
+use Rattle.member_core.specs.Sound.{IsFormed, IsSound}
 use Rattle.member_core.specs.Stands.{GoesOn, KeepsOwn, Stands, StandsFor}
 use Rattle.member_core.proofs.Changes.{formed-bare, ready-else}
 use Rattle.member_core.proofs.Promised.{posts-said}
@@ -172,9 +172,3 @@ runs-unless Open never = tt
 runs-unless (Done slots) never = tt
 runs-unless (Blamed conviction) never = tt
 runs-unless Stopped never = never refl
-
-pub runs-still : (ending : Ending) → IsRunning ending → IsOutOfMemory ending → ⊥
-runs-still Open runs stopped = stopped
-runs-still (Done slots) runs stopped = stopped
-runs-still (Blamed conviction) runs stopped = stopped
-runs-still Stopped runs stopped = runs

@@ -1,22 +1,21 @@
 -- The posts that a member made, in what its log keeps of it by stage.
-use Rattle.std.proofs.Common.{◌≡◌, ◌⊎◌, ℕ, zero, suc, ◌+◌, ◌-◌, ◌*◌, ◌<◌, ◌≤◌, Bool, true, false, List, [], ◌∷◌, ◌++◌, cond, length, Option, Some, None, ap, sym, ◌∙◌, refl, arith, inl, inr, append-nil, eq-eqb}
-use Rattle.std.specs.Prelude.{◌==◌, IsSome, count_by, filter_map, is_some, if◌then◌else◌}
+use Rattle.std.proofs.Common.{◌≡◌, ◌⊎◌, ℕ, zero, suc, ◌+◌, ◌-◌, ◌*◌, ◌<◌, ◌≤◌, Bool, true, false, List, [], ◌∷◌, ◌++◌, cond, length, Option, Some, None, ap, sym, ◌∙◌, refl, arith, inl, inr, append-nil}
+use Rattle.std.specs.Prelude.{IsSome, count_by, filter_map, is_some, if◌then◌else◌}
 use Rattle.std.specs.List.{cons_option, range_with_len, slice_get, slice_set}
 use Rattle.std.specs.Option.{option_flatten}
-use Rattle.std.proofs.lemmas.Bool.{cases_Bool, cases_lt, cond-false, cond-true, eqb-true}
+use Rattle.std.proofs.lemmas.Bool.{cases_Bool, cond-false, cond-true}
 use Rattle.std.proofs.lemmas.List.Elements.{filter_map-append}
-use Rattle.std.proofs.lemmas.Option.{none-some}
 use Rattle.std.proofs.lemmas.List.Sums.{sum_by-cons}
 use Rattle.phase_message.specs.declared.post.Post.{Post}
 use Rattle.phase_message.specs.declared.stage.Slot.{Slot}
 use Rattle.phase_message.specs.Shape.{Shape}
-use Rattle.phase_message.specs.Slots.{slot_at, slot_number, stage_count}
+use Rattle.phase_message.specs.Slots.{slot_number, stage_count}
 use Rattle.phase_message.specs.Stages.{is_slot}
 use Rattle.phase_message.proofs.SlotBounds.{slot-bounds}
-use Rattle.phase_message.proofs.SlotLists.{slot_at-number, slot_number-later}
 use Rattle.stage_log.specs.Log.{before}
 use Rattle.stage_log.specs.Table.{IsLog, Log, filled, kept_in}
 use Rattle.stage_log.proofs.Entries.{number-within}
+use Rattle.stage_log.proofs.KeptPosts.{kept-filled, one-slot}
 use Rattle.round_spec.proofs.OwnChecks.{spoken-before, spoken_of, twelve}
 use Rattle.honest_say.proofs.PastLemmas.{kept-post}
 use Rattle.member_spec.proofs.Moves.{filter-in, filter-none}
@@ -41,27 +40,23 @@ get-same [] k y lt = absurd (omega arith)
 get-same (z ∷ xs) zero y lt = refl
 get-same (z ∷ xs) (suc k) y lt = get-same xs k y (omega arith)
 
-numbers-apart : (log : Log) (number at stage : ℕ) → is_slot log.shape at number ≡ true → is_slot log.shape stage number ≡ true
-    → (stage ≡ at → ⊥)
-    → slot_number log.shape stage number ≡ slot_number log.shape at number → ⊥
-numbers-apart log number at stage speaks there apart same = elim (cases_lt stage at) [
-  | inl lt ↦ (let less = slot_number-later log.shape stage at number number there speaks lt in omega arith)
-  | inr le ↦ elim (cases_lt at stage) [
-    | inl lt ↦ (let less = slot_number-later log.shape at stage number number speaks there lt in omega arith)
-    | inr back ↦ apart (omega arith)
-  ]
+-- in the other slots a log keeps what it kept
+pub kept-elsewhere : (log : Log) (slot other : Slot) (post : Post) → is_slot log.shape slot.stage slot.sender ≡ true → (other ≡ slot → ⊥)
+    → kept_in (filled log slot post) other ≡ kept_in log other
+kept-elsewhere log slot other post speaks apart = elim (cases_Bool (is_slot log.shape other.stage other.sender)) [
+  | inl there ↦ ap (λ (o : Option (Option Post)). if is_slot log.shape other.stage other.sender then option_flatten o else None)
+      (get-other log.posts (slot_number log.shape slot.stage slot.sender) (slot_number log.shape other.stage other.sender) (Some post)
+      (λ same. apart (one-slot log.shape slot other speaks there same)))
+  | inr silent ↦ cond-false (is_slot log.shape other.stage other.sender) _ None silent
+      ∙ sym (cond-false (is_slot log.shape other.stage other.sender) _ None silent)
 ]
 
--- at other stages the log keeps what it kept
+-- so it does of a member at other stages
 pub own-elsewhere : (log : Log) (number at stage : ℕ) (post : Post) → is_slot log.shape at number ≡ true → (stage ≡ at → ⊥)
     → own_kept (filled log (record { stage = at; sender = number }) post) number stage ≡ own_kept log number stage
-own-elsewhere log number at stage post speaks apart = elim (cases_Bool (is_slot log.shape stage number)) [
-  | inl there ↦ ap (λ (o : Option (Option Post)). if is_slot log.shape stage number then option_flatten o else None)
-      (get-other log.posts (slot_number log.shape at number) (slot_number log.shape stage number) (Some post)
-      (numbers-apart log number at stage speaks there apart))
-  | inr silent ↦
-      cond-false (is_slot log.shape stage number) _ None silent ∙ sym (cond-false (is_slot log.shape stage number) _ None silent)
-]
+own-elsewhere log number at stage post speaks apart =
+    kept-elsewhere log (record { stage = at; sender = number }) (record { stage = stage; sender = number }) post speaks
+    (λ same. apart (ap (λ (slot : Slot). slot.stage) same))
 
 -- and there the post
 pub own-here : (log : Log) (number at : ℕ) (post : Post) → IsLog log → is_slot log.shape at number ≡ true
@@ -71,41 +66,10 @@ own-here log number at post is speaks =
     cond-true (is_slot log.shape at number) (option_flatten (slice_get (slice_set log.posts k (Some post)) k)) None speaks
     ∙ ap option_flatten (get-same log.posts k (Some post) (number-within log (record { stage = at; sender = number }) is speaks))
 
--- slots of one number are one
-one-slot : (shape : Shape) (slot other : Slot) → is_slot shape slot.stage slot.sender ≡ true → is_slot shape other.stage other.sender ≡ true
-    → slot_number shape other.stage other.sender ≡ slot_number shape slot.stage slot.sender → other ≡ slot
-one-slot shape slot other speaks other_speaks e =
-    let at : Some other ≡ Some slot = sym (slot_at-number shape other.stage other.sender other_speaks) ∙ ap (slot_at shape) e
-    ∙ slot_at-number shape slot.stage slot.sender speaks in
-    cc
-
 -- what a log keeps once a slot is filled was kept before, or is the post that filled it
 pub kept-cases : (log : Log) (slot other : Slot) (post kept : Post) → IsLog log → is_slot log.shape slot.stage slot.sender ≡ true
     → kept_in (filled log slot post) other ≡ Some kept → (kept_in log other ≡ Some kept) ⊎ ((other ≡ slot) × (kept ≡ post))
-kept-cases log slot other post kept is speaks e = by_slot (cases_Bool (is_slot log.shape other.stage other.sender))
-  where
-    k : ℕ
-    k = slot_number log.shape slot.stage slot.sender
-
-    number : ℕ
-    number = slot_number log.shape other.stage other.sender
-
-    by_number : is_slot log.shape other.stage other.sender ≡ true → ((number == k) ≡ true) ⊎ ((number == k) ≡ false)
-        → (kept_in log other ≡ Some kept) ⊎ ((other ≡ slot) × (kept ≡ post))
-    by_number there (inl same) =
-        let one = one-slot log.shape slot other speaks there (eqb-true number k same) in
-        let both : Some kept ≡ Some post = sym e ∙ ap (kept_in (filled log slot post)) one
-        ∙ own-here log slot.sender slot.stage post is speaks in
-        inr (one, cc)
-    by_number there (inr apart) =
-        let other_number : number ≡ k → ⊥ = λ same. (let yes = eq-eqb number k same in let both = sym yes ∙ apart in cc) in
-        inl (ap (λ (o : Option (Option Post)). if is_slot log.shape other.stage other.sender then option_flatten o else None)
-        (sym (get-other log.posts k number (Some post) other_number)) ∙ e)
-
-    by_slot : (is_slot log.shape other.stage other.sender ≡ true) ⊎ (is_slot log.shape other.stage other.sender ≡ false)
-        → (kept_in log other ≡ Some kept) ⊎ ((other ≡ slot) × (kept ≡ post))
-    by_slot (inl there) = by_number there (cases_Bool (number == k))
-    by_slot (inr silent) = absurd (none-some kept (sym (cond-false (is_slot log.shape other.stage other.sender) _ None silent) ∙ e))
+kept-cases log slot other post kept is speaks e = kept-filled log slot other post kept speaks e
 
 -- ---- by stage
 

@@ -1,10 +1,9 @@
 -- A post that a member makes: what is true of the member stays true, and it stands for the pure machine behind that post.
-use Rattle.std.proofs.Common.{◌≡◌, ℕ, ◌+◌, ◌-◌, ◌*◌, ◌<◌, ◌≤◌, ◌^◌, Bool, true, false, List, [], ◌∷◌, ◌++◌, length, Option, Some, None, ap, sym, ◌∙◌, refl, subst, arith, inl, inr, append-nil, length-append, eq-eqb}
+use Rattle.std.proofs.Common.{◌≡◌, ℕ, ◌+◌, ◌<◌, ◌≤◌, Bool, true, false, List, [], ◌∷◌, ◌++◌, length, Option, Some, None, ap, sym, ◌∙◌, refl, subst, arith, inl, inr, append-nil, length-append, eq-eqb}
 use Rattle.std.specs.Prelude.{◌==◌, ◌&&◌, count_by, is_ok}
-use Rattle.std.specs.Int.{w32, to_be_bytes}
 use Rattle.std.specs.List.{range_with_len}
 use Rattle.std.specs.Option.{option_map, option_to_list}
-use Rattle.std.proofs.lemmas.Bool.{cases_Bool, cond-false, cond-true}
+use Rattle.std.proofs.lemmas.Bool.{cond-false, cond-true}
 use Rattle.wire_core.specs.Bytes.{IsBytes}
 use Rattle.lms_tree.specs.Secret.{SecretParts, lms_signature, own_public}
 use Rattle.lms_tree.specs.States.{RunState}
@@ -12,8 +11,6 @@ use Rattle.lms_tree.specs.Tree.{LmsValid}
 use Rattle.phase_message.specs.declared.post.Post.{Post}
 use Rattle.phase_message.specs.declared.post.TheConstants.{POST_LIMIT}
 use Rattle.phase_message.specs.declared.stage.Slot.{Slot}
-use Rattle.phase_message.specs.declared.stage.StageKind.{StageKind}
-use Rattle.phase_message.specs.declared.stage.StageKind.TheVariants.{Keys, Submit, Shuffle, Go, Final, Pad, Check, Confirm}
 use Rattle.phase_message.specs.Offence.{content_read}
 use Rattle.phase_message.specs.Post.{post_spelling}
 use Rattle.phase_message.specs.Shape.{Shape}
@@ -31,6 +28,7 @@ use Rattle.stage_log.proofs.Fronts.{some_is}
 use Rattle.stage_log.proofs.Pasts.{some_of}
 use Rattle.go_nogo.specs.Stands.{StandsIn}
 use Rattle.shuffle_blame.specs.Asked.{past_of}
+use Rattle.round_spec.proofs.PastForms.{spelled-long}
 use Rattle.round_spec.specs.Say.{Configuration, number_said_before, own_submission, shape_in, signed_at}
 use Rattle.round_spec.specs.Slots.{submit_stage}
 use Rattle.round_spec.specs.Course.{is_open}
@@ -56,7 +54,7 @@ use Rattle.member_core.specs.Stands.{HasEntered, IsOwnOf, ShowsOutcome, StandsFo
 use Rattle.member_core.proofs.Changes.{entry-said, held-with, leaf_spent, no-secrets-of, ready-else}
 use Rattle.member_core.proofs.OwnPosts.{fewer-said, kept-cases, one-more, own-elsewhere, own-here, said-before}
 use Rattle.member_core.proofs.Saying.{filled-stands, ok-read, put-fills, read-kept, read-stands}
-use Rattle.member_core.proofs.Storing.{answers-stay, asked-within, before-stays, keys-stay, open-shown, opened-stay, past-stays, posts-stay, shown-open, slots-stay, some-mapped}
+use Rattle.member_core.proofs.Storing.{answers-stay, asked-within, before-stays, keys-stay, limit-small, open-shown, opened-stay, past-stays, posts-stay, shown-open, slots-stay, some-mapped}
 
 -- ---- where it speaks
 
@@ -124,21 +122,6 @@ told-reads m bytes told b f same value =
     ap (λ (shape : Shape). is_ok (content_read shape bytes)) f.shape
     ∙ ap (λ (t : List ℕ). is_ok (content_read (shape_of m.seat.shape) t)) (sym same) ∙ sym value
 
--- the length of what it says stands in four bytes
-pub limit-small : (kind : Option StageKind) → own_limit kind < 2 ^ 32
-limit-small None = omega arith
-limit-small (Some Keys) = omega arith
-limit-small (Some (Submit shuffle)) = omega arith
-limit-small (Some (Shuffle shuffle k)) = omega arith
-limit-small (Some (Go shuffle)) = omega arith
-limit-small (Some (Final shuffle)) = elim (cases_Bool (shuffle == 1)) [
-  | inl first ↦ (let told = cond-true (shuffle == 1) (33 * POST_LIMIT) (209 * POST_LIMIT) first in omega (arith, told))
-  | inr second ↦ (let told = cond-false (shuffle == 1) (33 * POST_LIMIT) (209 * POST_LIMIT) second in omega (arith, told))
-]
-limit-small (Some Pad) = omega arith
-limit-small (Some Check) = omega arith
-limit-small (Some Confirm) = omega arith
-
 -- a content of the grammar for its slot can be kept there
 pub own-content : (m : Machine) (post : Post) → IsBytes post.content → is_ok (content_read m.log.shape post.content) ≡ true
     → KeepsSlot m.log.shape (slot_here m) post.content → length post.content ≤ own_limit (kind_of_stage m.log.shape m.stage)
@@ -158,11 +141,6 @@ posted m post = record m { leaves = leaf_spent m.leaves; log = filled m.log (slo
 -- and behind one that it does not keep
 abbrev pub strayed : Machine → Post → Machine
 strayed m post = record m { leaves = leaf_spent m.leaves; stray = Some post; secrets = no_secrets; mood = Mute }
-
-spelled-long : (post : Post) → length (post_spelling post) ≡ 4 + length post.content + length post.signature
-spelled-long post =
-    let head : List ℕ = to_be_bytes w32 (length post.content) in
-    omega (arith, length-append (head ++ post.content) post.signature, length-append head post.content)
 
 -- the log goes on to have no post that is too long
 short-posted : (m : Machine) (post : Post) → IsFormed m → IsToBeAsked m → IsSigned m post

@@ -13,9 +13,9 @@ use Rattle.member_core.specs.declared.machine.Machine.{Machine}
 use Rattle.member_core.specs.Asking.{IsSpeakable, StandsAsked, asked_at}
 use Rattle.member_core.specs.Membership.{Holdings, holdings_of}
 use Rattle.member_core.specs.Needs.{HoldsNeeded, is_mute, needs, was_asked}
-use Rattle.member_core.specs.Sound.{IsFormed, IsMachineOf, IsMoodOf, IsPutOff, IsReady}
+use Rattle.member_core.specs.Sound.{IsMoodOf, IsPutOff, IsReady}
 use Rattle.member_core.specs.Stands.{AnswersBy, GoesOn, IsOwnOf, KeepsOwn, StandsFor}
-use Rattle.member_core.proofs.Changes.{ready-mood}
+use Rattle.member_core.proofs.Changes.{at-mood, ready-mood}
 
 -- a member in another mood
 abbrev pub with_mood : Machine → Mood → Machine
@@ -60,7 +60,7 @@ pub stands-again : (now start : Replies) (c : Configuration) (a : Actor) (h : Ho
 stands-again now start c a h bytes e s = record {
   can_enter = s.can_enter;
   entered = s.entered;
-  at = record { log = s.at.log; stage = s.at.stage; past = s.at.past; mood = refl; made = s.at.made; ending = s.at.ending };
+  at = at-mood c a h Spoken h.secrets h.own s.at;
   conduct = subst (λ (mood : Mood). AnswersBy now start c (past_of h.log 1) (was_asked h.stage mood 1)) e
       (subst (λ (mood : Mood). GoesOn now start c h mood) e s.conduct);
   own = record {

@@ -1,9 +1,9 @@
 -- What a member says is of the grammar where it stands, whatever its conduct made of its descriptor.
-use Rattle.std.proofs.Common.{◌≡◌, ℕ, zero, suc, ◌+◌, ◌-◌, ◌*◌, ◌<◌, ◌≤◌, ◌^◌, List, [], length, map, drop, Option, Some, None, ap, sym, ◌∙◌, refl, subst, arith, inl, inr}
-use Rattle.std.specs.Prelude.{◌⊎◌, Bool, ◌==◌, IsSome, bytes_eq, option_and_then, option_map, unwrap_or, if◌then◌else◌}
+use Rattle.std.proofs.Common.{◌≡◌, ℕ, zero, suc, ◌+◌, ◌-◌, ◌*◌, ◌<◌, ◌≤◌, List, [], length, map, Option, Some, None, ap, sym, ◌∙◌, refl, subst, arith, inl, inr}
+use Rattle.std.specs.Prelude.{◌⊎◌, ◌==◌, IsSome, bytes_eq, option_and_then, option_map, unwrap_or, if◌then◌else◌}
 use Rattle.std.specs.List.{AllByRecursion, range_with_len}
 use Rattle.std.proofs.lemmas.Bool.{cases_Bool, cond-false, cond-true}
-use Rattle.std.proofs.lemmas.List.{length-drop, length-map, length-take-le}
+use Rattle.std.proofs.lemmas.List.{length-map}
 use Rattle.std.proofs.lemmas.List.FromFn.{length-map-range_with_len}
 use Rattle.std.proofs.lemmas.List.Sorted.{All-permutation, length_permutation}
 use Rattle.std.proofs.lemmas.Option.{none-some}
@@ -12,21 +12,17 @@ use Rattle.ring_encrypt.proofs.KeyLemmas.{key_is_public_key}
 use Rattle.ring_encrypt.specs.PublicKey.{IsPublicKey}
 use Rattle.pad_stream.specs.Stream.{pad_of}
 use Rattle.phase_message.specs.declared.content.Body.{Body}
-use Rattle.phase_message.specs.declared.content.Body.TheVariants.{Keys as KeysBody, Submit as SubmitBody, Shuffled, Abort, Go as GoBody, Reveal, Dispute, Pads, Check as CheckBody, Confirm as ConfirmBody, Differ}
-use Rattle.phase_message.specs.declared.post.Post.{Post}
+use Rattle.phase_message.specs.declared.content.Body.TheVariants.{Keys as KeysBody, Submit as SubmitBody, Shuffled, Abort, Pads}
 use Rattle.phase_message.specs.declared.stage.StageKind.{StageKind}
-use Rattle.phase_message.specs.declared.stage.StageKind.TheVariants.{Keys, Submit, Shuffle, Go, Final, Pad, Check, Confirm}
+use Rattle.phase_message.specs.declared.stage.StageKind.TheVariants.{Keys, Submit, Shuffle, Pad}
 use Rattle.phase_message.specs.Body.{level}
 use Rattle.phase_message.specs.Grammar.{IsBody}
 use Rattle.phase_message.specs.Kinds.{IsBodyAt}
-use Rattle.phase_message.specs.Post.{post_spelling}
 use Rattle.phase_message.specs.Shape.{Shape}
-use Rattle.phase_message.specs.Slots.{senders_of, slots_before}
-use Rattle.phase_message.specs.Stages.{kind_of_stage, vote_of}
+use Rattle.phase_message.specs.Slots.{slots_before}
+use Rattle.phase_message.specs.Stages.{kind_of_stage}
 use Rattle.phase_message.proofs.BodyKinds.{bodies_are_of_kinds}
-use Rattle.phase_message.proofs.Closings.{closing-follows}
-use Rattle.phase_message.proofs.Counts.{slots_next}
-use Rattle.stage_log.specs.Log.{before, contents_of}
+use Rattle.stage_log.specs.Log.{before}
 use Rattle.stage_log.specs.Table.{IsLog, Log}
 use Rattle.layer_cipher.specs.Stripping.{stripped}
 use Rattle.layer_cipher.proofs.StrippingLemmas.{strips_all, strips_exactly}
@@ -38,14 +34,13 @@ use Rattle.shuffle_core.proofs.Turns.{turn_says_bodies}
 use Rattle.bulk_descriptor.specs.Descriptor.{Description, descriptor_read, hash_of_pad, own_pad, pad_found, pad_hash_for, pad_if_hashed, pad_row}
 use Rattle.bulk_descriptor.proofs.MakingLemmas.{length-own_pad, length-pad_of}
 use Rattle.bulk_descriptor.proofs.SpellingLemmas.{in_grammar, passes, read_passes}
-use Rattle.go_nogo.specs.Rows.{confirm_row, final_row, posts_at, written}
 use Rattle.go_nogo.specs.Stands.{StandAll}
-use Rattle.go_nogo.specs.Votes.{votes_agree}
 use Rattle.shuffle_blame.specs.Asked.{past_of}
 use Rattle.shuffle_blame.specs.Replay.{ciphertext_of, list_of, outer_place}
 use Rattle.round_spec.specs.Slots.{bulk_place, inner_place, items_opened, keys_said, list_said, said_in, submissions_said, submit_stage}
 use Rattle.round_spec.specs.Say.{Configuration, keys_row, own_item, own_key_seed, own_layer_seeds, own_opening, own_order_seed, own_pad_seeds, own_submission, pad_for, pads_row, shape_in, turn_over, turn_row}
-use Rattle.round_spec.proofs.SealedBytes.{all-drop, all-items, all-map, all-map-from, all-places, all-take, bodies-long}
+use Rattle.round_spec.proofs.SealedBytes.{all-items, all-map, all-places, bodies-long}
+use Rattle.conviction.proofs.Saids.{list-long, list-told, submission-long as submitted-long}
 use Rattle.honest_say.proofs.Members.{keys-count}
 use Rattle.honest_say.proofs.PastLemmas.{IsSaid, said-stands}
 use Rattle.honest_say.proofs.StageLemmas.{submit-kind, submit-slot, turn-kind, turn-slot}
@@ -55,7 +50,7 @@ of-kind : (shape : Shape) (stage : ℕ) (kind : StageKind) (body : Body) → kin
     → IsBodyAt shape (slots_before shape stage) kind body → IsBody shape stage body
 of-kind shape stage kind body at is = (bodies_are_of_kinds shape stage kind body at).1 is
 
--- ---- keys and votes
+-- ---- keys
 
 pub keys-fit : (c : Configuration) (shape : Shape) (stage : ℕ) → kind_of_stage shape stage ≡ Some Keys → IsBody shape stage (keys_row c)
 unfolding keys_row
@@ -64,14 +59,6 @@ keys-fit c shape stage at = of-kind shape stage Keys (KeysBody (map (λ place. k
       (λ place. key_is_public_key (own_key_seed c place)),
   refl,
 )
-
-pub go-fits : (shape : Shape) (stage shuffle : ℕ) (yes_vote : Bool) → kind_of_stage shape stage ≡ Some (Go shuffle)
-    → IsBody shape stage (GoBody yes_vote)
-go-fits shape stage shuffle yes_vote at = of-kind shape stage (Go shuffle) (GoBody yes_vote) at tt
-
-pub check-fits : (shape : Shape) (stage : ℕ) (yes_vote : Bool) → kind_of_stage shape stage ≡ Some Check
-    → IsBody shape stage (CheckBody yes_vote)
-check-fits shape stage yes_vote at = of-kind shape stage Check (CheckBody yes_vote) at tt
 
 -- ---- submissions
 
@@ -116,20 +103,6 @@ record AreLong (many size : ℕ) (entries : List (List ℕ)) : Type 0 where
   pub long : AllByRecursion (λ entry. length entry ≡ size) entries
   pub count : length entries ≡ many
 
-submitted-long : (shape : Shape) (slots shuffle : ℕ) (body : Body) → IsBodyAt shape slots (Submit shuffle) body
-    → length (ciphertext_of body) ≡ level shape.members shuffle 0
-submitted-long shape slots shuffle (SubmitBody ciphertext) is = is
-submitted-long shape slots shuffle _ is = absurd is
-
-list-long : (shape : Shape) (slots shuffle k : ℕ) (body : Body) (list : List (List ℕ)) → IsBodyAt shape slots (Shuffle shuffle k) body
-    → list_of body ≡ Some list
-    → AreLong shape.members (level shape.members shuffle k) list
-list-long shape slots shuffle k (Shuffled entries) list is e =
-    let same : entries ≡ list = cc in subst (AreLong shape.members (level shape.members shuffle k)) same
-    (record { long = is.0; count = is.1 })
-list-long shape slots shuffle k Abort list is e = absurd cc
-list-long shape slots shuffle k _ list is e = absurd is
-
 all-range : {A : Type 0} (P : A → Type 0) (f : ℕ → A) (a n : ℕ) → ((k : ℕ) → a ≤ k → k < a + n → P (f k))
     → AllByRecursion P (map f (range_with_len a n))
 all-range P f a zero each = tt
@@ -157,8 +130,7 @@ submission-is log stage shuffle member is lt least most =
     = said-stands log stage (record { stage = at; sender = member }) is.form is.complete
     (submit-slot log.shape shuffle member is.first is.last least most) lt (is.stand at) in
     ap (λ (b : Body). length (ciphertext_of b)) said.said
-    ∙ submitted-long log.shape (slots_before log.shape at) shuffle said.content.body
-    ((bodies_are_of_kinds log.shape at (Submit shuffle) said.content.body (submit-kind log.shape shuffle is.first is.last)).0 said.body)
+    ∙ submitted-long log.shape at shuffle said.content.body (submit-kind log.shape shuffle is.first is.last) said.body
 
 list-is : (log : Log) (stage shuffle turn : ℕ) (entries : List (List ℕ)) → IsBehind log stage shuffle → turn ≤ log.shape.members
     → submit_stage log.shape shuffle + turn < stage → list_said log.shape (past_of log stage) shuffle turn ≡ Some entries
@@ -176,10 +148,10 @@ list-is log stage shuffle (suc turn) entries is most lt e =
     let said : IsSaid log.shape (past_of log stage) at (suc turn)
     = said-stands log stage (record { stage = at; sender = suc turn }) is.form is.complete
     (turn-slot log.shape shuffle (suc turn) is.first is.last (omega arith) most) lt (is.stand at) in
-    list-long log.shape (slots_before log.shape at) shuffle (suc turn) said.content.body entries
-    ((bodies_are_of_kinds log.shape at (Shuffle shuffle (suc turn)) said.content.body
-    (turn-kind log.shape shuffle (suc turn) is.first is.last (omega arith) most)).0 said.body)
-    (sym (ap list_of said.said) ∙ e)
+    let told = list-told said.content.body entries (sym (ap list_of said.said) ∙ e) in
+    let long = list-long log.shape at shuffle (suc turn) entries (turn-kind log.shape shuffle (suc turn) is.first is.last (omega arith) most)
+    (subst (IsBody log.shape at) told said.body) in
+    record { long = long.0; count = long.1 }
 
 -- entries in another order
 order-entries : (count size : ℕ) (seed : List ℕ) (entries : List (List ℕ)) → count ≤ 8 → AreLong count size entries
@@ -329,77 +301,3 @@ pads-fit c own past stage at short count =
       length-map opened (pad_for c own)
           ∙ count,
     )
-
--- ---- closing contents
-
--- posts before a stage, each with its length in four bytes
-pub record AreShort (shape : Shape) (stage : ℕ) (posts : List Post) : Type 0 where
-  pub whole : length posts ≡ slots_before shape stage
-  pub short : AllByRecursion (λ post. length (post_spelling post) < 2 ^ 32) posts
-
-stage-posts : (P : List ℕ → Type 0) (shape : Shape) (posts : List Post) (stage : ℕ) → AllByRecursion (λ post. P (post_spelling post)) posts
-    → AllByRecursion P (written (posts_at shape posts stage))
-stage-posts P shape posts stage all =
-    all-map-from P post_spelling (posts_at shape posts stage) (all-take (λ post. P (post_spelling post))
-    (slots_before shape (stage + 1) - slots_before shape stage) (drop (slots_before shape stage) posts)
-    (all-drop (λ post. P (post_spelling post)) (slots_before shape stage) posts all))
-
--- as many votes as members stand before a closing stage
-votes-count : (shape : Shape) (posts : List Post) (stage : ℕ) (kind vote : StageKind) → kind_of_stage shape stage ≡ Some kind
-    → vote_of kind ≡ Some vote → senders_of shape vote ≡ shape.members
-    → length posts ≡ slots_before shape stage → length (written (posts_at shape posts (stage - 1))) ≡ shape.members
-votes-count shape posts stage kind vote at closes all whole =
-    let follows = closing-follows shape stage kind vote at closes in
-    let least = follows.0 in
-    let a : ℕ = slots_before shape (stage - 1) in
-    let b : ℕ = slots_before shape (stage - 1 + 1) in
-    let next : b ≡ a + senders_of shape vote = slots_next shape (stage - 1) vote follows.1 in
-    let back : stage - 1 + 1 ≡ stage = omega arith in
-    let end : b ≡ slots_before shape stage = ap (λ (s : ℕ). slots_before shape s) back in
-    length-map (posts_at shape posts (stage - 1)) post_spelling
-    ∙ length-take-le (b - a) (drop a posts) (omega (arith, whole, end, next, length-drop a posts))
-    ∙ omega (arith, next, all)
-
-pub final-fits : (shape : Shape) (stage shuffle : ℕ) (posts : List Post) (inner outer opening : List ℕ) → AreShort shape stage posts
-    → kind_of_stage shape stage ≡ Some (Final shuffle)
-    → length inner ≡ 32 → length outer ≡ 32 → length opening ≡ 32 → IsBody shape stage (final_row shape posts stage inner outer opening)
-unfolding final_row
-final-fits shape stage shuffle posts inner outer opening are at i o p = of-kind shape stage (Final shuffle)
-    (if votes_agree shape (contents_of posts) stage then Reveal (written (posts_at shape posts (stage - 1))) inner else Dispute
-    (written posts) outer opening) at
-    (elim (cases_Bool (votes_agree shape (contents_of posts) stage)) [
-      | inl agree ↦ subst (IsBodyAt shape (slots_before shape stage) (Final shuffle))
-          (sym (cond-true (votes_agree shape (contents_of posts) stage) (Reveal (written (posts_at shape posts (stage - 1))) inner)
-          (Dispute (written posts) outer opening) agree)) (
-            (
-              stage-posts (λ item. length item < 2 ^ 32) shape posts (stage - 1) are.short,
-              votes-count shape posts stage (Final shuffle)
-                  (Go shuffle) at refl refl are.whole,
-            ),
-            i,
-          )
-      | inr differ ↦ subst (IsBodyAt shape (slots_before shape stage) (Final shuffle))
-          (sym (cond-false (votes_agree shape (contents_of posts) stage) (Reveal (written (posts_at shape posts (stage - 1))) inner)
-          (Dispute (written posts) outer opening) differ))
-          ((all-map-from (λ item. length item < 2 ^ 32) post_spelling posts are.short, length-map posts post_spelling ∙ are.whole), o, p)
-    ])
-
-pub confirm-fits : (shape : Shape) (stage : ℕ) (posts : List Post) → AreShort shape stage posts → kind_of_stage shape stage ≡ Some Confirm
-    → IsBody shape stage (confirm_row shape posts stage)
-unfolding confirm_row
-confirm-fits shape stage posts are at = of-kind shape stage Confirm
-    (if votes_agree shape (contents_of posts) stage then ConfirmBody (written (posts_at shape posts (stage - 1))) else Differ
-    (written posts)) at
-    (elim (cases_Bool (votes_agree shape (contents_of posts) stage)) [
-      | inl agree ↦ subst (IsBodyAt shape (slots_before shape stage) Confirm)
-          (sym (cond-true (votes_agree shape (contents_of posts) stage) (ConfirmBody (written (posts_at shape posts (stage - 1))))
-          (Differ (written posts)) agree)) (
-            stage-posts (λ item. length item < 2 ^ 32) shape posts (stage - 1) are.short,
-            votes-count shape posts stage Confirm Check at refl
-                refl are.whole,
-          )
-      | inr differ ↦ subst (IsBodyAt shape (slots_before shape stage) Confirm)
-          (sym (cond-false (votes_agree shape (contents_of posts) stage) (ConfirmBody (written (posts_at shape posts (stage - 1))))
-          (Differ (written posts)) differ))
-          (all-map-from (λ item. length item < 2 ^ 32) post_spelling posts are.short, length-map posts post_spelling ∙ are.whole)
-    ])

@@ -33,12 +33,10 @@ use Rattle.go_nogo.specs.Votes.{votes_agree}
 use Rattle.round_spec.specs.Slots.{final_stage}
 use Rattle.round_spec.proofs.GoLists.{there}
 use Rattle.round_spec.proofs.OwnLengths.{IsClosingKind, content-long, open-length, open-most, take-less}
-use Rattle.round_spec.proofs.SealedBytes.{all-from}
 use Rattle.honest_say.specs.Pasts.{posts_before}
 use Rattle.honest_say.proofs.PastLemmas.{complete-posts, kept-at, past-length}
 use Rattle.honest_say.proofs.StageLemmas.{final-slot, member-there}
 use Rattle.member_core.specs.Shorts.{IsShortLog, most_in, own_limit}
-use Rattle.member_core.proofs.RowForms.{AreShort}
 use Rattle.member_core.proofs.StageKinds.{IsPlaced, kind-place}
 
 -- ---- contents that embed nothing
@@ -291,17 +289,19 @@ past-long log stage number is complete most short =
     item-same : (a b : List ℕ) → (let told : List ℕ → Option (List ℕ) = λ z. Some z in told a ≡ told b) → a ≡ b
     item-same a b e = cc
 
--- each post has its length in four bytes
+-- posts before a stage, each with its length in four bytes
+pub record AreShort (shape : Shape) (stage : ℕ) (posts : List Post) : Type 0 where
+  pub whole : length posts ≡ slots_before shape stage
+  pub short : (k : ℕ) (post : Post) → slice_get posts k ≡ Some post → length (post_spelling post) < 2 ^ 32
+
 pub posts-short : (log : Log) (stage number : ℕ) → IsLog log → IsSome (before log stage) → stage ≤ final_stage log.shape 2
     → IsShortLog number log → AreShort log.shape stage (posts_before log stage)
-posts-short log stage number is complete most short =
-    let past : List Post = posts_before log stage in
-    record {
-      whole = past-length log stage past is (complete-posts log stage complete);
-      short = all-from (λ post. length (post_spelling post) < 2 ^ 32) past (λ k post at. (
-          let few = limit-at log stage k number post most short (stands-at log stage k post is complete at) in
-          omega (arith, few, one-most (first_end log.shape number) 536870912 k, one-most (checks_end log.shape number) 1476395008 k)));
-    }
+posts-short log stage number is complete most short = record {
+  whole = past-length log stage (posts_before log stage) is (complete-posts log stage complete);
+  short = λ k post at. (
+      let few = limit-at log stage k number post most short (stands-at log stage k post is complete at) in
+      omega (arith, few, one-most (first_end log.shape number) 536870912 k, one-most (checks_end log.shape number) 1476395008 k));
+}
   where
     one-most : (place size k : ℕ) → at_place place size k ≤ size
     one-most place size k = elim (cases_eq k place) [

@@ -1,6 +1,6 @@
 -- What a member says: bytes of a content of the grammar in its slot, or bytes that are none.
 use Rattle.std.proofs.Common.{◌≡◌, ℕ, ◌<◌, ◌^◌, true, List, length, Option, None, Result, Ok, Err, ap, refl, subst, arith}
-use Rattle.std.specs.Prelude.{IfOk, IsErr, is_ok}
+use Rattle.std.specs.Prelude.{IfOk, is_ok}
 use Rattle.wire_core.specs.Bytes.{IsBytes}
 use Rattle.phase_message.specs.declared.content.Content.{Content}
 use Rattle.phase_message.specs.declared.post.Post.{Post}
@@ -58,17 +58,7 @@ filled-stands log slot post speaks none stands all =
 
 -- ---- an answer
 
--- nothing is asked of an answer where memory ran out
-pub if-err : {A E : Type 0} (r : Result A E) (P : A → Type 0) → IsErr r → IfOk r P
-if-err (Ok x) P is = absurd cc
-if-err (Err x) P is = tt
-
--- what is said of an answer with memory leads to another fact
-pub ok-so : {A E : Type 0} (r : Result A E) (P Q : A → Type 0) → ((x : A) → P x → Q x) → IfOk r P → IfOk r Q
-ok-so (Ok x) P Q leads is = leads x is
-ok-so (Err x) P Q leads is = tt
-
--- nor where memory was there, of what holds anyway
+-- what holds anyway holds of an answer with memory
 pub ok-all : {A E : Type 0} (r : Result A E) (Q : A → Type 0) → ((x : A) → Q x) → IfOk r Q
 ok-all (Ok x) Q all = all x
 ok-all (Err x) Q all = tt

@@ -1,8 +1,7 @@
 -- A post of another member that is kept: what is true of a member stays true.
-use Rattle.std.proofs.Common.{◌≡◌, ℕ, zero, suc, ◌+◌, ◌*◌, ◌^◌, ◌<◌, ◌≤◌, Bool, true, false, List, [], ◌∷◌, length, Option, Some, None, ap, sym, ◌∙◌, refl, subst, arith, inl, inr}
+use Rattle.std.proofs.Common.{◌≡◌, ℕ, ◌+◌, ◌*◌, ◌^◌, ◌<◌, ◌≤◌, Bool, true, false, List, [], length, Option, Some, None, ap, sym, ◌∙◌, refl, subst, arith, inl, inr}
 use Rattle.std.specs.Prelude.{◌++◌, IfSome, IsSome, ◌==◌, unwrap_or, if◌then◌else◌}
-use Rattle.std.specs.List.{slice_get, slice_set}
-use Rattle.std.specs.Option.{option_flatten, option_map, option_to_list}
+use Rattle.std.specs.Option.{option_map, option_to_list}
 use Rattle.std.proofs.lemmas.Bool.{cases_Bool, cond-false, cond-true, ltb-true}
 use Rattle.phase_message.specs.declared.post.Post.{Post}
 use Rattle.phase_message.specs.declared.post.TheConstants.{POST_LIMIT}
@@ -11,14 +10,14 @@ use Rattle.phase_message.specs.declared.stage.StageKind.{StageKind}
 use Rattle.phase_message.specs.declared.stage.StageKind.TheVariants.{Keys, Submit, Shuffle, Go, Final, Pad, Check, Confirm}
 use Rattle.phase_message.specs.Post.{post_spelling}
 use Rattle.phase_message.specs.Shape.{Shape}
-use Rattle.phase_message.specs.Slots.{slot_number, stage_count}
-use Rattle.phase_message.specs.Stages.{is_slot, kind_of_stage}
+use Rattle.phase_message.specs.Slots.{stage_count}
+use Rattle.phase_message.specs.Stages.{kind_of_stage}
 use Rattle.signed_post.specs.declared.post.TheConstants.{LONGEST_SIGNATURE}
 use Rattle.stage_log.specs.Log.{before, contents_of}
 use Rattle.stage_log.specs.Seen.{HasSeen}
 use Rattle.stage_log.specs.Table.{Log, filled, kept_in}
 use Rattle.stage_log.proofs.Entries.{filled-is_log}
-use Rattle.stage_log.proofs.KeptPosts.{kept-post, one-slot}
+use Rattle.stage_log.proofs.KeptPosts.{kept-post}
 use Rattle.stage_log.proofs.Fronts.{before-front, before-put, some_is}
 use Rattle.stage_log.proofs.Pasts.{some_of}
 use Rattle.shuffle_blame.specs.Asked.{past_of}
@@ -47,37 +46,18 @@ use Rattle.member_core.specs.Found.{IsOthers, IsStorable}
 use Rattle.member_core.specs.Membership.{Holdings, holdings_of, own_posts_kept, posts_made}
 use Rattle.member_core.specs.Needs.{HoldsNeeded, stages_behind, was_asked}
 use Rattle.member_core.specs.Shorts.{IsShortLog, most_in, own_limit}
-use Rattle.member_core.specs.Sound.{CarriesKeys, IsFormed, IsMachineOf, IsMoodOf, IsReady, IsSound}
+use Rattle.member_core.specs.Sound.{CarriesKeys, IsFormed, IsMoodOf, IsReady, IsSound}
 use Rattle.member_core.specs.Stands.{AnswersBy, GoesOn, IsOwnOf, KeepsOwn, ShowsOutcome, StandsFor}
+use Rattle.member_core.proofs.OwnPosts.{kept-elsewhere}
 use Rattle.member_core.proofs.Saying.{filled-stands, put-fills}
-
--- ---- places
-
-get-other : {A : Type 0} (xs : List A) (k i : ℕ) (y : A) → (i ≡ k → ⊥) → slice_get (slice_set xs k y) i ≡ slice_get xs i
-get-other [] k i y apart = refl
-get-other (z ∷ xs) zero zero y apart = absurd (apart refl)
-get-other (z ∷ xs) zero (suc i) y apart = refl
-get-other (z ∷ xs) (suc k) zero y apart = refl
-get-other (z ∷ xs) (suc k) (suc i) y apart = get-other xs k i y (λ e. apart (ap (λ (n : ℕ). suc n) e))
-
--- slots of two senders have two numbers
-numbers-apart : (shape : Shape) (slot other : Slot) → is_slot shape slot.stage slot.sender ≡ true
-    → is_slot shape other.stage other.sender ≡ true
-    → (slot.sender ≡ other.sender → ⊥) → slot_number shape other.stage other.sender ≡ slot_number shape slot.stage slot.sender → ⊥
-numbers-apart shape slot other speaks there apart same =
-    apart (sym (ap (λ (s : Slot). s.sender) (one-slot shape slot other speaks there same)))
 
 -- ---- one slot of another is filled
 
 -- the slots of the member stay as they were
 pub own-stays : (log : Log) (number : ℕ) (slot : Slot) (post : Post) (stage : ℕ) → IsOthers log number slot
     → kept_in (filled log slot post) (record { stage = stage; sender = number }) ≡ kept_in log (record { stage = stage; sender = number })
-own-stays log number slot post stage is = elim (cases_Bool (is_slot log.shape stage number)) [
-  | inl there ↦ ap (λ (o : Option (Option Post)). if is_slot log.shape stage number then option_flatten o else None)
-      (get-other log.posts (slot_number log.shape slot.stage slot.sender) (slot_number log.shape stage number) (Some post)
-      (numbers-apart log.shape slot (record { stage = stage; sender = number }) is.speaks there is.other))
-  | inr silent ↦ cond-false (is_slot log.shape stage number) _ None silent ∙ sym (cond-false (is_slot log.shape stage number) _ None silent)
-]
+own-stays log number slot post stage is = kept-elsewhere log slot (record { stage = stage; sender = number }) post is.speaks
+    (λ same. is.other (sym (ap (λ (s : Slot). s.sender) same)))
 
 -- so its posts do
 pub made-stays : (log : Log) (number : ℕ) (slot : Slot) (post : Post) → IsOthers log number slot
@@ -114,48 +94,46 @@ posts-stay log number slot post stage later is complete le =
 
 -- ---- how long posts are
 
+-- a limit of an own content is no less than that of posts, and no more than at the end of shuffle B
+record IsLimit (limit : ℕ) : Type 0 where
+  pub least : POST_LIMIT ≤ limit
+  pub most : limit ≤ 209 * POST_LIMIT
+
+limit-is : (kind : Option StageKind) → IsLimit (own_limit kind)
+limit-is None = record { least = omega arith; most = omega arith }
+limit-is (Some Keys) = record { least = omega arith; most = omega arith }
+limit-is (Some (Submit shuffle)) = record { least = omega arith; most = omega arith }
+limit-is (Some (Shuffle shuffle k)) = record { least = omega arith; most = omega arith }
+limit-is (Some (Go shuffle)) = record { least = omega arith; most = omega arith }
+limit-is (Some (Final shuffle)) = elim (cases_Bool (shuffle == 1)) [
+  | inl first ↦ (let told = cond-true (shuffle == 1) (33 * POST_LIMIT) (209 * POST_LIMIT) first in record
+      { least = omega (arith, told); most = omega (arith, told) })
+  | inr second ↦ (let told = cond-false (shuffle == 1) (33 * POST_LIMIT) (209 * POST_LIMIT) second in record
+      { least = omega (arith, told); most = omega (arith, told) })
+]
+limit-is (Some Pad) = record { least = omega arith; most = omega arith }
+limit-is (Some Check) = record { least = omega arith; most = omega arith }
+limit-is (Some Confirm) = record { least = omega arith; most = omega arith }
+
 pub own-least : (kind : Option StageKind) → POST_LIMIT ≤ own_limit kind
-own-least None = omega arith
-own-least (Some Keys) = omega arith
-own-least (Some (Submit shuffle)) = omega arith
-own-least (Some (Shuffle shuffle k)) = omega arith
-own-least (Some (Go shuffle)) = omega arith
-own-least (Some (Final shuffle)) = elim (cases_Bool (shuffle == 1)) [
-  | inl first ↦ (let told = cond-true (shuffle == 1) (33 * POST_LIMIT) (209 * POST_LIMIT) first in omega (arith, told))
-  | inr second ↦ (let told = cond-false (shuffle == 1) (33 * POST_LIMIT) (209 * POST_LIMIT) second in omega (arith, told))
-]
-own-least (Some Pad) = omega arith
-own-least (Some Check) = omega arith
-own-least (Some Confirm) = omega arith
+own-least kind = (limit-is kind).least
 
-most-least : (shape : Shape) (number stage sender : ℕ) → POST_LIMIT ≤ most_in shape number stage sender
-most-least shape number stage sender = elim (cases_Bool (sender == number)) [
-  | inl own ↦ (let told = cond-true (sender == number) (own_limit (kind_of_stage shape stage) + (4 + LONGEST_SIGNATURE)) POST_LIMIT own in
-      let least = own-least (kind_of_stage shape stage) in omega (arith, told, least))
-  | inr other ↦ (let told = cond-false (sender == number) (own_limit (kind_of_stage shape stage) + (4 + LONGEST_SIGNATURE)) POST_LIMIT other
-      in omega (arith, told))
-]
+-- so the length of an own content can be written in four bytes
+pub limit-small : (kind : Option StageKind) → own_limit kind < 2 ^ 32
+limit-small kind = omega (arith, (limit-is kind).most)
 
-own-most : (kind : Option StageKind) → own_limit kind ≤ 209 * POST_LIMIT
-own-most None = omega arith
-own-most (Some Keys) = omega arith
-own-most (Some (Submit shuffle)) = omega arith
-own-most (Some (Shuffle shuffle k)) = omega arith
-own-most (Some (Go shuffle)) = omega arith
-own-most (Some (Final shuffle)) = elim (cases_Bool (shuffle == 1)) [
-  | inl first ↦ (let told = cond-true (shuffle == 1) (33 * POST_LIMIT) (209 * POST_LIMIT) first in omega (arith, told))
-  | inr second ↦ (let told = cond-false (shuffle == 1) (33 * POST_LIMIT) (209 * POST_LIMIT) second in omega (arith, told))
-]
-own-most (Some Pad) = omega arith
-own-most (Some Check) = omega arith
-own-most (Some Confirm) = omega arith
-
-most-below : (shape : Shape) (number stage sender : ℕ) → most_in shape number stage sender < 2 ^ 32
-most-below shape number stage sender = elim (cases_Bool (sender == number)) [
-  | inl own ↦ (let told = cond-true (sender == number) (own_limit (kind_of_stage shape stage) + (4 + LONGEST_SIGNATURE)) POST_LIMIT own in
-      let most = own-most (kind_of_stage shape stage) in omega (arith, told, most))
-  | inr other ↦ (let told = cond-false (sender == number) (own_limit (kind_of_stage shape stage) + (4 + LONGEST_SIGNATURE)) POST_LIMIT other
-      in omega (arith, told))
+-- a limit of a post is no less than that of posts, and can be written in four bytes
+most-within : (shape : Shape) (number stage sender : ℕ)
+    → (POST_LIMIT ≤ most_in shape number stage sender) × (most_in shape number stage sender < 2 ^ 32)
+most-within shape number stage sender = elim (cases_Bool (sender == number)) [
+  | inl own ↦
+      let told = cond-true (sender == number) (own_limit (kind_of_stage shape stage) + (4 + LONGEST_SIGNATURE)) POST_LIMIT own in
+      let least = own-least (kind_of_stage shape stage) in
+      let most = (limit-is (kind_of_stage shape stage)).most in
+      (omega (arith, told, least), omega (arith, told, most))
+  | inr other ↦
+      let told = cond-false (sender == number) (own_limit (kind_of_stage shape stage) + (4 + LONGEST_SIGNATURE)) POST_LIMIT other in
+      (omega (arith, told), omega (arith, told))
 ]
 
 -- the length of a kept post can be written in four bytes
@@ -163,7 +141,7 @@ pub kept-short : (number : ℕ) (log : Log) (slot : Slot) (post : Post) → IsSh
     → length (post_spelling post) < 2 ^ 32
 kept-short number log slot post short e =
     let most = short slot.stage slot.sender post e in
-    let below = most-below log.shape number slot.stage slot.sender in
+    let below = (most-within log.shape number slot.stage slot.sender).1 in
     omega (arith, most, below)
 
 if-kept : (o : Option Post) (P : Post → Type 0) → ((post : Post) → o ≡ Some post → P post) → IfSome o P
@@ -182,7 +160,7 @@ short-stays log number slot post small short stage sender kept e = elim
     (kept-post log slot (record { stage = stage; sender = sender }) post kept e) [
       | inl old ↦ short stage sender kept old
       | inr new ↦
-          let least = most-least log.shape number stage sender in
+          let least = (most-within log.shape number stage sender).0 in
           let same = ap (λ (p : Post). length (post_spelling p)) new in
           omega (arith, least, same, small)
     ]

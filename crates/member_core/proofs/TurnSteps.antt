@@ -1,6 +1,6 @@
 -- One step of a member is one step of the pure machine.
-use Rattle.std.proofs.Common.{◌≡◌, ℕ, ◌<◌, Bool, true, false, List, [], ◌∷◌, Option, Some, None, Result, Ok, Err, ap, sym, ◌∙◌, refl, subst, arith, inl, inr}
-use Rattle.std.specs.Prelude.{IfOk, is_some, nat_lt, ◌&&◌}
+use Rattle.std.proofs.Common.{◌≡◌, ℕ, ◌<◌, Bool, true, false, List, [], ◌∷◌, Option, Some, None, ap, sym, ◌∙◌, refl, subst, arith, inl, inr}
+use Rattle.std.specs.Prelude.{is_some, nat_lt, ◌&&◌}
 use Rattle.std.specs.List.{list_all}
 use Rattle.std.specs.Option.{option_map}
 use Rattle.std.proofs.lemmas.Bool.{cases_Bool, cases_lt, cond-false, cond-true, lt-ltb}
@@ -29,10 +29,6 @@ use Rattle.member_core.specs.Sound.{IsFormed}
 use Rattle.member_core.specs.Stands.{ShowsOutcome, StandsFor}
 use Rattle.member_core.proofs.Belonging.{seat-of, shape-is}
 use Rattle.member_core.proofs.Shown.{goes-on, open-outcome}
-
-pub if-ok : {A E : Type 0} (P Q : A → Type 0) (r : Result A E) → ((x : A) → P x → Q x) → IfOk r P → IfOk r Q
-if-ok P Q (Ok x) step is = step x is
-if-ok P Q (Err e) step is = is
 
 -- ---- the round has ended
 

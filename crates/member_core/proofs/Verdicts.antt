@@ -47,7 +47,7 @@ use Rattle.member_core.specs.Stands.{HasEntered, IsAt, ShowsOutcome, StandsFor}
 use Rattle.member_core.proofs.Belonging.{past-is, reaches, seat-of, shape-is}
 use Rattle.member_core.proofs.Judging.{shape-of-group}
 use Rattle.member_core.proofs.PassedStages.{goes-elsewhere, passes-step, shows-blamed, shows-done, shows-goes, stands-past, verdict-is}
-use Rattle.member_core.proofs.Changes.{no-secrets-of}
+use Rattle.member_core.proofs.Changes.{formed-else, no-secrets-of}
 use Rattle.member_core.proofs.Passing.{AreCarried, NextPast, formed-past, machine_past, needed-ended, needed-past, next-past, ready-past}
 use Rattle.member_core.proofs.Shown.{goes-on}
 use Rattle.member_core.proofs.StageKinds.{kind-place}
@@ -303,28 +303,8 @@ full-there m formed ready filled =
 
 -- with other keys
 pub formed-keys : (m : Machine) (keys : Option GroupKeys) → IsFormed m → IsFormed (record m { keys = keys })
-formed-keys m keys formed = record {
-  entered = (
-    formed.entered.0,
-    record {
-      roster = formed.entered.1.roster;
-      seat = formed.entered.1.seat;
-      message = formed.entered.1.message;
-      secrets = formed.entered.1.secrets;
-      hidden = formed.entered.1.hidden;
-      hidden_short = formed.entered.1.hidden_short;
-      pad = formed.entered.1.pad;
-    },
-  );
-  message = formed.message;
-  log = formed.log;
-  shape = formed.shape;
-  stand = formed.stand;
-  short = formed.short;
-  leaves = formed.leaves;
-  handed = formed.handed;
-  stray = formed.stray;
-}
+formed-keys m keys formed =
+    formed-else m m.secrets m.own m.seen m.stage m.mood keys m.opened m.slots m.ending formed.entered formed
 
 -- a member that has read the keys, gone on and taken what the stage came to
 pub passes-all : (m carried gone last : Machine) (judged : Judged) → IsSound m → IsOpen m.ending → is_filled m ≡ true

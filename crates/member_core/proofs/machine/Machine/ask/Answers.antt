@@ -1,5 +1,6 @@
 -- The conduct is asked, and what it answers is done.
 use Rattle.std.proofs.Common.{◌≡◌, sym, ◌∙◌, refl, subst}
+use Rattle.std.proofs.lemmas.Result.{IfOk-from_err, IfOk-weaker}
 use Rattle.phase_message.specs.Stages.{kind_of_stage}
 use Rattle.member_spec.specs.declared.conduct.Speech.TheVariants.{Say as Says, Wait as Waits, Silent as IsSilent}
 use Rattle.member_spec.specs.declared.mood.Mood.TheVariants.{Mute}
@@ -14,7 +15,6 @@ use Rattle.member_core.specs.Stands.{StandsFor}
 use Rattle.member_core.proofs.Changes.{formed-bare}
 use Rattle.member_core.proofs.Answered.{muted-sound, muted-stands, put_off, put_off-sound, put_off-stands, question-so}
 use Rattle.member_core.proofs.Posting.{muted}
-use Rattle.member_core.proofs.Saying.{if-err, ok-so}
 use Rattle.member_core.proofs.Storing.{own-least}
 use Rattle.member_core.proofs.machine.Machine.ask.Given.{Over}
 use Rattle.member_core.proofs.machine.Machine.ask.Goals as goal
@@ -27,10 +27,10 @@ returns-in_err-bytes g c =
     let r = c.from_residual in
     record {
       formed = c.requires.formed;
-      sound = if-err r.result _ r.ensures.0;
-      going = if-err r.result _ r.ensures.0;
-      handed = if-err r.result _ r.ensures.0;
-      stands = if-err r.result _ r.ensures.0;
+      sound = IfOk-from_err r.result _ r.ensures.0;
+      going = IfOk-from_err r.result _ r.ensures.0;
+      handed = IfOk-from_err r.result _ r.ensures.0;
+      stands = IfOk-from_err r.result _ r.ensures.0;
     }
 
 -- ---- bytes are said
@@ -56,7 +56,7 @@ returns-in-Say g c = record {
   sound = c.say.ensures.sound;
   going = c.say.ensures.going;
   handed = c.say.ensures.handed;
-  stands = ok-so c.say.result _ _ (λ _ so start conf a s.
+  stands = IfOk-weaker c.say.result _ _ (λ _ so start conf a s.
       let now = g.C.Conduct.replies c.args.conduct.now in
       subst (λ (x : Replies). StandsFor x start conf (actor_behind_question start conf a c.args.bytes.items) (holdings_of c.say.new.self))
       (sym c.in_ok-bytes.ensures.same)

@@ -1,4 +1,5 @@
 use Rattle.std.proofs.Common.{◌≡◌, ℕ, List, ap, sym, ◌∙◌, refl, subst}
+use Rattle.std.proofs.lemmas.Result.{IfOk-from_err, IfOk-weaker}
 use Rattle.member_spec.specs.declared.mood.Mood.TheVariants.{Unasked}
 use Rattle.member_spec.specs.Actor.{Actor, actor_behind_question, actor_behind_repeat}
 use Rattle.member_core.specs.Membership.{holdings_of}
@@ -6,7 +7,6 @@ use Rattle.member_core.specs.Sound.{IsPutOff}
 use Rattle.member_core.specs.Stands.{StandsFor}
 use Rattle.member_core.proofs.Changes.{formed-mood}
 use Rattle.member_core.proofs.Repeating.{question-again, ready-unasked, repeat-none, speakable-again, stands-again, with_mood}
-use Rattle.member_core.proofs.Results.{if-err, if-ok}
 use Rattle.member_core.proofs.machine.Machine.ask_again.Goals as goal
 
 pub returns-in_default : goal.returns-in_default
@@ -25,10 +25,10 @@ returns-in_err-bytes g c =
     let r = c.from_residual in
     record {
       formed = c.requires.sound.formed;
-      sound = if-err _ r.result r.ensures.0;
-      going = if-err _ r.result r.ensures.0;
-      handed = if-err _ r.result r.ensures.0;
-      stands = if-err _ r.result r.ensures.0;
+      sound = IfOk-from_err r.result _ r.ensures.0;
+      going = IfOk-from_err r.result _ r.ensures.0;
+      handed = IfOk-from_err r.result _ r.ensures.0;
+      stands = IfOk-from_err r.result _ r.ensures.0;
     }
 
 pub ask-requires : goal.ask-requires
@@ -51,7 +51,7 @@ returns g c = record {
   handed = c.ask.ensures.handed;
   stands = (let bytes : List ℕ = c.in-PutOff.bytes in
       let copied : c.in_ok-bytes.bytes.items ≡ bytes = c.in_ok-bytes.ensures.items ∙ c.deref.ensures.value ∙ c.items.ensures in
-      if-ok _ _ c.ask.result (λ x stands start c' a s.
+      IfOk-weaker c.ask.result _ _ (λ x stands start c' a s.
       subst (λ (b : Actor). StandsFor (g.C.Conduct.replies c.ask.new.conduct) start c' b (holdings_of c.ask.new.self))
       (ap (actor_behind_question start c' a) copied ∙ sym (ap (actor_behind_repeat start c' a) (sym s.at.mood ∙ c.in-PutOff.is)))
       (stands start c' a (stands-again (g.C.Conduct.replies c.args.conduct.now) start c' a (holdings_of c.args.self.now) bytes c.in-PutOff.is

@@ -1,10 +1,13 @@
 -- The body of the row of the stage's kind.
-use Rattle.std.proofs.Common.{ℕ, Some, None, ap, sym, ◌∙◌, refl}
+use Rattle.std.proofs.Common.{◌≡◌, ℕ, Some, None, ap, sym, ◌∙◌, refl}
+use Rattle.std.proofs.lemmas.Result.{IfOk-weaker}
 use Rattle.phase_message.specs.declared.stage.StageKind.{StageKind}
 use Rattle.phase_message.specs.declared.stage.StageKind.TheVariants.{Submit, Final}
+use Rattle.phase_message.specs.Stages.{kind_of_stage}
 use Rattle.member_core.proofs.Dispatch.{due-of, has-kind, kind-told, needed-plain, plain-apart, plain-kind, same-own, same-secrets, second-shuffle, stands-plain}
-use Rattle.member_core.proofs.Saying.{ok-all, ok-so}
+use Rattle.member_core.proofs.Saying.{ok-all}
 use Rattle.member_core.proofs.machine.Machine.body_due.Goals as goal
+use Rattle.member_core.proofs.machine.Machine.body_due.Goals.{In-Final, In-Submit, In-Submit-eq1}
 
 pub unreachable-requires : goal.unreachable-requires
 unreachable-requires g c = has-kind c.args.self.now c.requires.asked
@@ -13,16 +16,38 @@ unreachable-requires g c = has-kind c.args.self.now c.requires.asked
 pub unreachable-unreachable : goal.unreachable-unreachable
 unreachable-unreachable g c = c.unreachable.result
 
+-- a submission to shuffle A
+submits-first : (g : Rattle.member_core.proofs.machine.Machine.body_due.Given.Over) (c : In-Submit-eq1 g)
+    → kind_of_stage c.args.self.now.log.shape c.args.self.now.stage ≡ Some (Submit 1)
+submits-first g c =
+    kind-told c.args.self.now (Some c.in-Some.kind) c.requires.formed c.in-Some.ensures.kind
+    ∙ ap (λ (kind : StageKind). Some kind) c.in-Submit-eq1.is
+    ∙ ap (λ (shuffle : ℕ). Some (Submit shuffle)) (sym c.in-Submit-eq1.shuffle-is ∙ c.in-Submit-eq1.shuffle-test)
+
+-- and one to shuffle B
+submits-second : (g : Rattle.member_core.proofs.machine.Machine.body_due.Given.Over) (c : In-Submit g)
+    → kind_of_stage c.args.self.now.log.shape c.args.self.now.stage ≡ Some (Submit 2)
+submits-second g c =
+    let m = c.args.self.now in
+    let at = kind-told m (Some c.in-Some.kind) c.requires.formed c.in-Some.ensures.kind
+    ∙ ap (λ (kind : StageKind). Some kind) c.in-Submit.is in
+    at ∙ ap (λ (shuffle : ℕ). Some (Submit shuffle)) (second-shuffle m.log.shape m.stage c.in-Submit.shuffle at
+    (λ e. c.in-Submit.shuffle-test.1 (c.in-Submit.shuffle-is ∙ e)))
+
+-- the end of a shuffle
+ends-shuffle : (g : Rattle.member_core.proofs.machine.Machine.body_due.Given.Over) (c : In-Final g)
+    → kind_of_stage c.args.self.now.log.shape c.args.self.now.stage ≡ Some (Final c.in-Final.shuffle)
+ends-shuffle g c =
+    kind-told c.args.self.now (Some c.in-Some.kind) c.requires.formed c.in-Some.ensures.kind
+    ∙ ap (λ (kind : StageKind). Some kind) c.in-Final.is
+
 pub first_submission_due-requires : goal.first_submission_due-requires
 first_submission_due-requires g c = record {
   formed = c.requires.formed;
   ready = c.requires.ready;
   needed = c.requires.needed;
   asked = c.requires.asked;
-  kind = (let at = kind-told c.args.self.now (Some c.in-Some.kind) c.requires.formed c.in-Some.ensures.kind in
-      at ∙ ap (λ (kind : StageKind). Some kind) c.in-Submit-eq1.is
-      ∙ ap (λ (shuffle : ℕ). Some (Submit shuffle)) (sym c.in-Submit-eq1.shuffle-is ∙ c.in-Submit-eq1.shuffle-test)
-      );
+  kind = submits-first g (goal.at.first_submission_due-requires g c).In-Submit-eq1;
 }
 
 pub second_submission_due-requires : goal.second_submission_due-requires
@@ -31,12 +56,7 @@ second_submission_due-requires g c = record {
   ready = c.requires.ready;
   needed = c.requires.needed;
   asked = c.requires.asked;
-  kind = (let m = c.args.self.now in
-      let at = kind-told m (Some c.in-Some.kind) c.requires.formed c.in-Some.ensures.kind
-      ∙ ap (λ (kind : StageKind). Some kind) c.in-Submit.is in
-      at ∙ ap (λ (shuffle : ℕ). Some (Submit shuffle)) (second-shuffle m.log.shape m.stage c.in-Submit.shuffle at
-      (λ e. c.in-Submit.shuffle-test.1 (c.in-Submit.shuffle-is ∙ e)))
-      );
+  kind = submits-second g (goal.at.second_submission_due-requires g c).In-Submit;
 }
 
 pub end_due-requires : goal.end_due-requires
@@ -45,9 +65,7 @@ end_due-requires g c = record {
   ready = c.requires.ready;
   needed = c.requires.needed;
   asked = c.requires.asked;
-  kind = (let at = kind-told c.args.self.now (Some c.in-Some.kind) c.requires.formed c.in-Some.ensures.kind in
-      at ∙ ap (λ (kind : StageKind). Some kind) c.in-Final.is
-      );
+  kind = ends-shuffle g (goal.at.end_due-requires g c).In-Final;
 }
 
 pub row_due-requires : goal.row_due-requires
@@ -68,10 +86,8 @@ returns-in-Submit-eq1 g c = record {
   same = ok-all c.first_submission_due.result _
       (λ _. same-own c.args.self.now c.first_submission_due.new.self c.first_submission_due.ensures.same);
   needed = c.first_submission_due.ensures.needed;
-  due = (let at = kind-told c.args.self.now (Some c.in-Some.kind) c.requires.formed c.in-Some.ensures.kind in
-      let here = at ∙ ap (λ (kind : StageKind). Some kind) c.in-Submit-eq1.is
-      ∙ ap (λ (shuffle : ℕ). Some (Submit shuffle)) (sym c.in-Submit-eq1.shuffle-is ∙ c.in-Submit-eq1.shuffle-test) in
-      ok-so c.first_submission_due.result _ _ (λ body due kind also. due-of (g.C.Conduct.replies c.args.conduct.now) c.args.self.now
+  due = (let here = submits-first g (goal.at.returns-in-Submit-eq1 g c).In-Submit-eq1 in
+      IfOk-weaker c.first_submission_due.result _ _ (λ body due kind also. due-of (g.C.Conduct.replies c.args.conduct.now) c.args.self.now
       (Submit 1) kind body here also due) c.first_submission_due.ensures.due
       );
   stands = c.first_submission_due.ensures.stands;
@@ -84,15 +100,11 @@ returns-in-Submit g c = record {
   formed = c.second_submission_due.ensures.formed;
   same = ok-all c.second_submission_due.result _ (λ _. c.second_submission_due.ensures.same);
   needed = c.second_submission_due.ensures.needed;
-  due = (let m = c.args.self.now in
-      let at = kind-told m (Some c.in-Some.kind) c.requires.formed c.in-Some.ensures.kind
-      ∙ ap (λ (kind : StageKind). Some kind) c.in-Submit.is in
-      let here = at ∙ ap (λ (shuffle : ℕ). Some (Submit shuffle))
-      (second-shuffle m.log.shape m.stage c.in-Submit.shuffle at (λ e. c.in-Submit.shuffle-test.1 (c.in-Submit.shuffle-is ∙ e))) in
-      ok-so c.second_submission_due.result _ _ (λ body due kind also. due-of (g.C.Conduct.replies c.args.conduct.now) c.args.self.now
+  due = (let here = submits-second g (goal.at.returns-in-Submit g c).In-Submit in
+      IfOk-weaker c.second_submission_due.result _ _ (λ body due kind also. due-of (g.C.Conduct.replies c.args.conduct.now) c.args.self.now
       (Submit 2) kind body here also (due (g.C.Conduct.replies c.args.conduct.now))) c.second_submission_due.ensures.due
       );
-  stands = ok-so c.second_submission_due.result _ _
+  stands = IfOk-weaker c.second_submission_due.result _ _
       (λ _ so start conf a s. so (g.C.Conduct.replies c.args.conduct.now) start conf a s) c.second_submission_due.ensures.stands;
 }
 
@@ -103,12 +115,11 @@ returns-in-Final g c = record {
   formed = c.end_due.ensures.formed;
   same = ok-all c.end_due.result _ (λ _. same-secrets c.args.self.now c.end_due.new.self c.end_due.ensures.same);
   needed = c.end_due.ensures.needed;
-  due = (let at = kind-told c.args.self.now (Some c.in-Some.kind) c.requires.formed c.in-Some.ensures.kind in
-      let here = at ∙ ap (λ (kind : StageKind). Some kind) c.in-Final.is in
-      ok-so c.end_due.result _ _ (λ body due kind also. due-of (g.C.Conduct.replies c.args.conduct.now) c.args.self.now
+  due = (let here = ends-shuffle g (goal.at.returns-in-Final g c).In-Final in
+      IfOk-weaker c.end_due.result _ _ (λ body due kind also. due-of (g.C.Conduct.replies c.args.conduct.now) c.args.self.now
       (Final c.in-Final.shuffle) kind body here also (due (g.C.Conduct.replies c.args.conduct.now))) c.end_due.ensures.due
       );
-  stands = ok-so c.end_due.result _ _
+  stands = IfOk-weaker c.end_due.result _ _
       (λ _ so start conf a s. so (g.C.Conduct.replies c.args.conduct.now) start conf a s) c.end_due.ensures.stands;
 }
 
@@ -125,6 +136,6 @@ returns-in_default-kind g c =
       formed = c.requires.formed;
       same = ok-all c.row_due.result _ (λ _. refl);
       needed = ok-all c.row_due.result _ (λ _. needed-plain m c.requires.needed c.requires.asked apart);
-      due = ok-so c.row_due.result _ _ (λ body due kind also. due-of now m c.in-Some.kind kind body at also (due now)) c.row_due.ensures;
+      due = IfOk-weaker c.row_due.result _ _ (λ body due kind also. due-of now m c.in-Some.kind kind body at also (due now)) c.row_due.ensures;
       stands = ok-all c.row_due.result _ (λ _ start conf a s. stands-plain now start conf a m c.requires.asked apart s);
     }

@@ -1,5 +1,6 @@
 -- The bytes of the content, which is of the grammar.
 use Rattle.std.proofs.Common.{◌≡◌, ℕ, List, length, ap, sym, ◌∙◌, subst, rules}
+use Rattle.std.proofs.lemmas.Result.{IfOk-weaker}
 use Rattle.phase_message.specs.declared.header.Header.{Header}
 use Rattle.phase_message.specs.Grammar.{IsHeader, OfGrammar, content_text}
 use Rattle.phase_message.specs.Stages.{shape_of}
@@ -8,7 +9,7 @@ use Rattle.member_spec.specs.Replies.{HasSlot}
 use Rattle.member_core.specs.Asking.{content_here}
 use Rattle.member_core.specs.Sound.{slot_here}
 use Rattle.member_core.proofs.Dispatch.{content-form}
-use Rattle.member_core.proofs.Saying.{ok-so, text-slot}
+use Rattle.member_core.proofs.Saying.{text-slot}
 use Rattle.member_core.proofs.machine.Machine.content_of.Goals as goal
 use Rattle.member_core.proofs.machine.Machine.content_of.Goals.{Joined-this}
 
@@ -27,14 +28,14 @@ spelled-here c bytes spelled = spelled ∙ ap (λ (header : Header). content_tex
     c.header_here-header.ensures
 
 pub returns-clause-spelled : goal.returns-clause-spelled
-returns-clause-spelled c = ok-so c.encode.result _ _ (λ bytes spelled. spelled-here c bytes.items spelled) c.encode.ensures
+returns-clause-spelled c = IfOk-weaker c.encode.result _ _ (λ bytes spelled. spelled-here c bytes.items spelled) c.encode.ensures
 
 pub returns-clause-slot : goal.returns-clause-slot
-returns-clause-slot c = ok-so c.encode.result _ _ (λ bytes spelled.
+returns-clause-slot c = IfOk-weaker c.encode.result _ _ (λ bytes spelled.
     subst (HasSlot (slot_here c.args.self.now)) (sym (spelled-here c bytes.items spelled))
     (text-slot c.args.self.now.log.shape (content_here c.args.self.now c.args.body) (grammar c))) c.encode.ensures
 
 pub returns-clause-long : goal.returns-clause-long
-returns-clause-long c = ok-so c.encode.result _ _ (λ bytes spelled.
+returns-clause-long c = IfOk-weaker c.encode.result _ _ (λ bytes spelled.
     ap (λ (b : List ℕ). length b) (spelled-here c bytes.items spelled)
     ∙ content-long c.args.self.now.log.shape (content_here c.args.self.now c.args.body) (grammar c)) c.encode.ensures

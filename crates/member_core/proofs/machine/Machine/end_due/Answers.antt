@@ -11,7 +11,7 @@ use Rattle.member_parts.specs.Secrets.{shuffle_secrets, without_shuffle}
 use Rattle.member_core.specs.Asking.{StandsAsked, asked_at}
 use Rattle.member_core.specs.Membership.{holdings_of}
 use Rattle.member_core.specs.Needs.{HoldsNeeded}
-use Rattle.member_core.specs.Sound.{IsFormed, IsMachineOf}
+use Rattle.member_core.specs.Sound.{IsFormed}
 use Rattle.member_spec.specs.declared.mood.Mood.TheVariants.{Spoken}
 use Rattle.member_core.proofs.Changes.{formed-with, held-with}
 use Rattle.member_core.proofs.Belonging.{holds-shuffle, not-missing, secrets-for}

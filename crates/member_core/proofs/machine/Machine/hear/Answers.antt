@@ -1,4 +1,5 @@
 use Rattle.std.proofs.Common.{arith, ap, sym, ◌∙◌, refl, subst}
+use Rattle.std.proofs.lemmas.Result.{IfOk-from_err, IfOk-weaker}
 use Rattle.phase_message.specs.Stages.{shape_of}
 use Rattle.stage_log.specs.Table.{kept_in}
 use Rattle.stage_log.proofs.Fronts.{some_is}
@@ -16,7 +17,7 @@ use Rattle.member_core.specs.Sound.{IsFormed, IsSound}
 use Rattle.member_core.proofs.Answering.{answer-busy, answer-tells, idle-tells, open-runs}
 use Rattle.member_core.proofs.Comings.{found-other}
 use Rattle.member_core.proofs.Hearing.{blame-busy, content-small, formed-ended, new-busy, sender-of, sound-blamed, storable, string-short, takes-blame, takes-new, takes-same}
-use Rattle.member_core.proofs.Results.{if-err, if-ok, if-three}
+use Rattle.member_core.proofs.Results.{if-three}
 use Rattle.member_core.proofs.machine.Machine.hear.Goals as goal
 
 pub find-found-requires : goal.find-found-requires
@@ -53,13 +54,13 @@ returns-in_err-blame-in-Malformed g c =
     let r = c.from_residual in
     record {
       formed = subst IsFormed (sym c.in_err-blame-in-Malformed.ensures.same) c.requires.sound.formed;
-      sound = if-err _ r.result r.ensures.0;
-      runs = if-err _ r.result r.ensures.0;
-      handed = if-err _ r.result r.ensures.0;
-      leaves = if-err _ r.result r.ensures.0;
-      conduct = if-err _ r.result r.ensures.0;
-      ending = if-err _ r.result r.ensures.0;
-      takes = if-err _ r.result r.ensures.0;
+      sound = IfOk-from_err r.result _ r.ensures.0;
+      runs = IfOk-from_err r.result _ r.ensures.0;
+      handed = IfOk-from_err r.result _ r.ensures.0;
+      leaves = IfOk-from_err r.result _ r.ensures.0;
+      conduct = IfOk-from_err r.result _ r.ensures.0;
+      ending = IfOk-from_err r.result _ r.ensures.0;
+      takes = IfOk-from_err r.result _ r.ensures.0;
       idle = λ start c' delivered s leaves. absurd
           (blame-busy (g.C.Conduct.replies c.args.conduct.now) start c' delivered c.args.self.now c.args.bytes.now c.args.header
           (record { content = c.args.parts.content.now; signature = c.args.parts.signature.now })
@@ -87,11 +88,11 @@ returns-in-New g c = record {
   sound = c.store.ensures.sound;
   runs = c.store.ensures.runs;
   handed = c.store.ensures.handed;
-  leaves = if-ok _ _ c.store.result (λ taken told leaves. absurd
+  leaves = IfOk-weaker c.store.result _ _ (λ taken told leaves. absurd
       (answer-busy c.store.new.self.ending (subst LeavesAll told leaves))) c.store.ensures.answer;
-  conduct = if-ok _ _ c.store.result (λ taken told leaves. absurd
+  conduct = IfOk-weaker c.store.result _ _ (λ taken told leaves. absurd
       (answer-busy c.store.new.self.ending (subst LeavesAll told leaves))) c.store.ensures.answer;
-  ending = if-ok _ _ c.store.result (λ taken told.
+  ending = IfOk-weaker c.store.result _ _ (λ taken told.
       subst (λ (t : Taken). TellsEnding t c.store.new.self.ending) (sym told) (answer-tells c.store.new.self.ending)) c.store.ensures.answer;
   takes = if-three _ _ _ _ c.store.result (λ taken runs told goes start c' delivered s.
       takes-new (g.C.Conduct.replies c.args.conduct.now) (g.C.Conduct.replies c.store.new.conduct) start c' delivered c.args.self.now

@@ -1,5 +1,6 @@
 -- The row of a kind, where it takes no secret and asks about no descriptor.
 use Rattle.std.proofs.Common.{◌≡◌, ℕ, Option, Some, ap, sym, ◌∙◌, subst, inl, inr}
+use Rattle.std.proofs.lemmas.Result.{IfOk-weaker}
 use Rattle.phase_message.specs.declared.content.Body.{Body}
 use Rattle.phase_message.specs.declared.stage.StageKind.{StageKind}
 use Rattle.phase_message.specs.declared.stage.StageKind.TheVariants.{Shuffle}
@@ -8,7 +9,6 @@ use Rattle.member_spec.specs.Replies.{Replies}
 use Rattle.member_core.specs.declared.machine.Machine.{Machine}
 use Rattle.member_core.specs.Asking.{IsDue, IsPlainKind, IsToBeAsked}
 use Rattle.member_core.proofs.Dispatch.{due-of}
-use Rattle.member_core.proofs.Saying.{ok-so}
 use Rattle.member_core.proofs.StageKinds.{turn-own}
 use Rattle.member_core.proofs.machine.Machine.row_due.Goals as goal
 
@@ -93,18 +93,18 @@ returns-in-Keys c now = due-at now c.args.self.now c.in-Keys.is (c.keys_due.ensu
 pub returns-in-Shuffle : goal.returns-in-Shuffle
 returns-in-Shuffle c =
     let m = c.args.self.now in
-    ok-so c.turn_due.result _ _ (λ body due now. due-of now m (Shuffle c.in-Shuffle.shuffle m.seat.number) c.args.kind body
+    IfOk-weaker c.turn_due.result _ _ (λ body due now. due-of now m (Shuffle c.in-Shuffle.shuffle m.seat.number) c.args.kind body
     (own-turn m c.requires.kind c.requires.asked c.in-Shuffle.is) c.requires.kind (due now)) c.turn_due.ensures
 
 pub returns-in-Go : goal.returns-in-Go
-returns-in-Go c = ok-so c.go_due.result _ _ (λ body due now. due-at now c.args.self.now c.in-Go.is (due now)) c.go_due.ensures
+returns-in-Go c = IfOk-weaker c.go_due.result _ _ (λ body due now. due-at now c.args.self.now c.in-Go.is (due now)) c.go_due.ensures
 
 pub returns-in-Pad : goal.returns-in-Pad
-returns-in-Pad c = ok-so c.pads_due.result _ _ (λ body due now. due-at now c.args.self.now c.in-Pad.is (due now)) c.pads_due.ensures
+returns-in-Pad c = IfOk-weaker c.pads_due.result _ _ (λ body due now. due-at now c.args.self.now c.in-Pad.is (due now)) c.pads_due.ensures
 
 pub returns-in-Check : goal.returns-in-Check
 returns-in-Check c now = due-at now c.args.self.now c.in-Check.is (c.check_due.ensures now)
 
 pub returns-in-Confirm : goal.returns-in-Confirm
-returns-in-Confirm c = ok-so c.confirm_due.result _ _ (λ body due now. due-at now c.args.self.now c.in-Confirm.is (due now))
+returns-in-Confirm c = IfOk-weaker c.confirm_due.result _ _ (λ body due now. due-at now c.args.self.now c.in-Confirm.is (due now))
     c.confirm_due.ensures

@@ -1,5 +1,6 @@
 -- Bytes are signed with the next leaf; the post is kept in the own slot if they are a content of the grammar.
 use Rattle.std.proofs.Common.{◌≡◌, List, ℕ, length, true, arith, ap, sym, ◌∙◌, refl, subst}
+use Rattle.std.proofs.lemmas.Result.{IfOk-from_err}
 use Rattle.std.specs.Prelude.{IsTrue, is_ok}
 use Rattle.wire_core.specs.Bytes.{IsBytes}
 use Rattle.lms_tree.specs.States.{RunState}
@@ -16,8 +17,8 @@ use Rattle.member_core.specs.declared.machine.Machine.{Machine}
 use Rattle.member_core.specs.Membership.{holdings_of}
 use Rattle.member_core.specs.Sound.{IsFormed, IsSound, slot_here}
 use Rattle.member_core.specs.Stands.{StandsFor}
-use Rattle.member_core.proofs.Posting.{IsOwnContent, IsSigned, leaf-left, limit-small, own-content, posted-so, posted-sound, posted-stands, put-here, signed-post, strayed-formed, strayed, strayed-so, strayed-sound, strayed-stands, told-reads}
-use Rattle.member_core.proofs.Saying.{if-err}
+use Rattle.member_core.proofs.Posting.{IsOwnContent, IsSigned, leaf-left, own-content, posted-so, posted-sound, posted-stands, put-here, signed-post, strayed-formed, strayed, strayed-so, strayed-sound, strayed-stands, told-reads}
+use Rattle.member_core.proofs.Storing.{limit-small}
 use Rattle.member_core.proofs.machine.Machine.say.Goals as goal
 use Rattle.member_core.proofs.machine.Machine.say.Goals.{After-fall_mute, Joined-self}
 
@@ -33,16 +34,16 @@ returns-in_err-signature-clause-formed c =
     subst (λ (l : RunState). IsFormed (record m { leaves = l })) (sym kept) c.requires.formed
 
 pub returns-in_err-signature-clause-sound : goal.returns-in_err-signature-clause-sound
-returns-in_err-signature-clause-sound c = if-err c.from_residual.result _ c.from_residual.ensures.0
+returns-in_err-signature-clause-sound c = IfOk-from_err c.from_residual.result _ c.from_residual.ensures.0
 
 pub returns-in_err-signature-clause-going : goal.returns-in_err-signature-clause-going
-returns-in_err-signature-clause-going c = if-err c.from_residual.result _ c.from_residual.ensures.0
+returns-in_err-signature-clause-going c = IfOk-from_err c.from_residual.result _ c.from_residual.ensures.0
 
 pub returns-in_err-signature-clause-handed : goal.returns-in_err-signature-clause-handed
-returns-in_err-signature-clause-handed c = if-err c.from_residual.result _ c.from_residual.ensures.0
+returns-in_err-signature-clause-handed c = IfOk-from_err c.from_residual.result _ c.from_residual.ensures.0
 
 pub returns-in_err-signature-clause-stands : goal.returns-in_err-signature-clause-stands
-returns-in_err-signature-clause-stands c = if-err c.from_residual.result _ c.from_residual.ensures.0
+returns-in_err-signature-clause-stands c = IfOk-from_err c.from_residual.result _ c.from_residual.ensures.0
 
 -- ---- the post
 

@@ -1,5 +1,6 @@
 -- The body that is due is spelled, and the conduct is asked about the bytes.
 use Rattle.std.proofs.Common.{◌≤◌, List, ℕ, length, arith, ap, ◌∙◌, subst}
+use Rattle.std.proofs.lemmas.Result.{IfOk-from_err, IfOk-weaker}
 use Rattle.std.specs.Prelude.{IsTrue}
 use Rattle.phase_message.specs.Grammar.{IsBody, content_text}
 use Rattle.phase_message.specs.Stages.{is_slot, kind_of_stage}
@@ -10,7 +11,6 @@ use Rattle.member_core.specs.Membership.{holdings_of}
 use Rattle.member_core.specs.Shorts.{own_limit}
 use Rattle.member_core.specs.Stands.{StandsFor}
 use Rattle.member_core.proofs.Dispatch.{asked-left, content-is, kind-here, left-so, ready-left}
-use Rattle.member_core.proofs.Saying.{if-err, ok-so}
 use Rattle.member_core.proofs.machine.Machine.speak.Goals as goal
 use Rattle.member_core.proofs.machine.Machine.speak.Goals.{After-ask}
 
@@ -32,16 +32,16 @@ pub returns-in_err-body-clause-formed : goal.returns-in_err-body-clause-formed
 returns-in_err-body-clause-formed g c = c.body_due.ensures.formed
 
 pub returns-in_err-body-clause-sound : goal.returns-in_err-body-clause-sound
-returns-in_err-body-clause-sound g c = if-err c.from_residual.result _ c.from_residual.ensures.0
+returns-in_err-body-clause-sound g c = IfOk-from_err c.from_residual.result _ c.from_residual.ensures.0
 
 pub returns-in_err-body-clause-going : goal.returns-in_err-body-clause-going
-returns-in_err-body-clause-going g c = if-err c.from_residual.result _ c.from_residual.ensures.0
+returns-in_err-body-clause-going g c = IfOk-from_err c.from_residual.result _ c.from_residual.ensures.0
 
 pub returns-in_err-body-clause-handed : goal.returns-in_err-body-clause-handed
-returns-in_err-body-clause-handed g c = if-err c.from_residual.result _ c.from_residual.ensures.0
+returns-in_err-body-clause-handed g c = IfOk-from_err c.from_residual.result _ c.from_residual.ensures.0
 
 pub returns-in_err-body-clause-stands : goal.returns-in_err-body-clause-stands
-returns-in_err-body-clause-stands g c = if-err c.from_residual.result _ c.from_residual.ensures.0
+returns-in_err-body-clause-stands g c = IfOk-from_err c.from_residual.result _ c.from_residual.ensures.0
 
 -- ---- its bytes
 
@@ -66,16 +66,16 @@ pub returns-in_err-bytes-clause-formed : goal.returns-in_err-bytes-clause-formed
 returns-in_err-bytes-clause-formed g c = c.body_due.ensures.formed
 
 pub returns-in_err-bytes-clause-sound : goal.returns-in_err-bytes-clause-sound
-returns-in_err-bytes-clause-sound g c = if-err c.from_residual-in_err-bytes.result _ c.from_residual-in_err-bytes.ensures.0
+returns-in_err-bytes-clause-sound g c = IfOk-from_err c.from_residual-in_err-bytes.result _ c.from_residual-in_err-bytes.ensures.0
 
 pub returns-in_err-bytes-clause-going : goal.returns-in_err-bytes-clause-going
-returns-in_err-bytes-clause-going g c = if-err c.from_residual-in_err-bytes.result _ c.from_residual-in_err-bytes.ensures.0
+returns-in_err-bytes-clause-going g c = IfOk-from_err c.from_residual-in_err-bytes.result _ c.from_residual-in_err-bytes.ensures.0
 
 pub returns-in_err-bytes-clause-handed : goal.returns-in_err-bytes-clause-handed
-returns-in_err-bytes-clause-handed g c = if-err c.from_residual-in_err-bytes.result _ c.from_residual-in_err-bytes.ensures.0
+returns-in_err-bytes-clause-handed g c = IfOk-from_err c.from_residual-in_err-bytes.result _ c.from_residual-in_err-bytes.ensures.0
 
 pub returns-in_err-bytes-clause-stands : goal.returns-in_err-bytes-clause-stands
-returns-in_err-bytes-clause-stands g c = if-err c.from_residual-in_err-bytes.result _ c.from_residual-in_err-bytes.ensures.0
+returns-in_err-bytes-clause-stands g c = IfOk-from_err c.from_residual-in_err-bytes.result _ c.from_residual-in_err-bytes.ensures.0
 
 -- ---- the question
 
@@ -121,10 +121,10 @@ returns-clause-going g c = c.ask.ensures.going
 
 pub returns-clause-handed : goal.returns-clause-handed
 returns-clause-handed g c =
-    ok-so c.ask.result _ _ (λ _ same. same ∙ ap (λ (x : Machine). x.handed) c.in_ok-body.ensures.same) c.ask.ensures.handed
+    IfOk-weaker c.ask.result _ _ (λ _ same. same ∙ ap (λ (x : Machine). x.handed) c.in_ok-body.ensures.same) c.ask.ensures.handed
 
 pub returns-clause-stands : goal.returns-clause-stands
-returns-clause-stands g c = ok-so c.ask.result _ _ (λ _ so start conf a s.
+returns-clause-stands g c = IfOk-weaker c.ask.result _ _ (λ _ so start conf a s.
     let m = c.args.self.now in
     let kind = kind-here m c.requires.asked in
     let due : IsDue (g.C.Conduct.replies c.args.conduct.now) m kind.0 c.in_ok-body.body = c.in_ok-body.ensures.due kind.0 kind.1 in

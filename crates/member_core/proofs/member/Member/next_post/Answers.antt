@@ -8,7 +8,8 @@ use Rattle.member_core.specs.Needs.{HoldsNeeded}
 use Rattle.member_core.specs.Promises.{IsPlainMember}
 use Rattle.member_core.specs.Sound.{IsSound}
 use Rattle.member_core.specs.Stands.{Stands}
-use Rattle.member_core.proofs.Handing.{handed-small, handed-sound, needed-handed, next-plain, next-said, next_made, runs-still, runs-unless, stands-handed, stopped-sound}
+use Rattle.member_core.proofs.Answering.{runs-still}
+use Rattle.member_core.proofs.Handing.{handed-small, handed-sound, needed-handed, next-plain, next-said, next_made, runs-unless, stands-handed, stopped-sound}
 use Rattle.member_core.proofs.member.Member.next_post.Goals as goal
 
 pub returns-in_default-post_made : goal.returns-in_default-post_made
