@@ -1,122 +1,121 @@
 //! Accusations of a pad of one byte, each condition broken in turn, and the item of a maker.
 
-ghost use Rattle.std.specs.Prelude.{◌≡◌, length, vec_len, IfOk, IfSome};
+ghost use Rattle.std.specs.Prelude.{◌≡◌, length, IfOk, IfSome};
 
+use crate::slots::{keys, seeds, two_slots};
 use accusation::{Accusation, AccusationRefusal, holds, own_item};
-use bulk_descriptor::{List, Mem, PadTable, PublicKey, SlotState, decode, make};
+use bulk_descriptor::{Descriptor, List, Mem, SlotState, decode, make};
 use pad_stream::pad;
-use ring_encrypt::public_of;
 use std::alloc::Global;
 use std::test::Fail;
 
 const SEEDS: [[u8; 32]; 2] = [[0x10; 32], [0x20; 32]];
 
-fn keys(alloc: Global) -> Mem<Vec<PublicKey>>
-    ensures { IfOk result (λ keys. vec_len keys ≡ 2) }
-{
-    let keys = vec![in alloc; public_of(&[1; 32]), public_of(&[2; 32])]?;
-    Ok(keys)
-}
-
 // The bytes of the descriptor of the message 61 that the first of two members makes.
 fn own(alloc: Global) -> Mem<Vec<u8>> {
-    let seeds = SEEDS.to_vec(alloc)?;
-    let keys = keys(alloc)?;
-    if seeds.len() != 2 {
-        return Ok(Vec::new(alloc));
-    }
-    make(alloc, &keys, &seeds, 1, b"a")?
-        .descriptor
-        .encode(alloc)
+    let keys = keys(alloc, &[1; 32], &[2; 32])?;
+    let seeds = seeds(alloc, &SEEDS[0], &SEEDS[1])?;
+    let made = make(alloc, &keys, &seeds, 1, b"a")?;
+    made.descriptor.encode(alloc)
 }
 
-// The row of a member that sends this byte for the first slot and none for the second.
-fn row(alloc: Global, byte: u8) -> Mem<List<List<u8>>>
-    ensures { IfOk result (λ row. length row ≡ 2) }
+fn descriptor(alloc: Global) -> Mem<Option<Descriptor>>
+    ensures { IfOk result (λ found. IfSome found (λ d. length d.pad_hashes ≡ 2)) }
 {
-    let first = List::of([byte].to_vec(alloc)?);
-    let pads = vec![in alloc; first, List::of(Vec::new(alloc))]?;
-    Ok(List::of(pads))
+    let own = own(alloc)?;
+    decode(alloc, 2, &own)
 }
 
 // What an accusation comes to where the first of two slots holds the descriptor, and the second member sent the byte.
 fn judged(alloc: Global, accusation: &Accusation, sent: u8) -> Mem<Result<(), AccusationRefusal>> {
-    let first = decode(alloc, 2, &own(alloc)?)?;
-    let one = row(alloc, 0)?;
-    let two = row(alloc, sent)?;
-    let rows = vec![in alloc; one, two]?;
-    let pads = PadTable {
-        members: List::of(rows),
-    };
-    let descriptors = vec![in alloc; first, None]?;
-    let keys = keys(alloc)?;
-    Ok(holds(accusation, &descriptors, &pads, &keys))
+    let slots = two_slots(alloc, descriptor(alloc)?, [0, sent])?;
+    let keys = keys(alloc, &[1; 32], &[2; 32])?;
+    Ok(holds(accusation, &slots.descriptors, &slots.pads, &keys))
+}
+
+// The byte of the pad of the second member.
+fn pad_byte(alloc: Global) -> Mem<Option<u8>> {
+    Ok(pad(alloc, &SEEDS[1], 1)?.pop())
+}
+
+// The accusation of the second member that holds where another byte was sent.
+const RIGHT: Accusation = Accusation {
+    slot: 1,
+    member: 2,
+    seed: [0x20; 32],
+};
+
+// The seed of the second member with another first byte.
+fn changed_seed() -> [u8; 32] {
+    let mut seed = SEEDS[1];
+    seed[0] ^= 0x80;
+    seed
+}
+
+// The accusation that 34 zeros are.
+fn empty() -> Accusation {
+    Accusation::decode(&[0; 34]).unwrap_or(RIGHT)
+}
+
+// Accusations, the bits of the sent byte that are turned, and the answers. In the last the maker's own seed was sealed,
+// and its pad is another.
+fn cases() -> [(Accusation, u8, Result<(), AccusationRefusal>); 6] {
+    [
+        (RIGHT, 1, Ok(())),
+        (RIGHT, 0, Err(AccusationRefusal::PadSent)),
+        (empty(), 1, Err(AccusationRefusal::Slot)),
+        (
+            Accusation {
+                seed: changed_seed(),
+                ..RIGHT
+            },
+            1,
+            Err(AccusationRefusal::Capsule),
+        ),
+        (
+            Accusation { member: 3, ..RIGHT },
+            1,
+            Err(AccusationRefusal::Member),
+        ),
+        (
+            Accusation {
+                member: 1,
+                seed: SEEDS[0],
+                ..RIGHT
+            },
+            0,
+            Err(AccusationRefusal::PadHash),
+        ),
+    ]
 }
 
 #[test]
 fn a_pad_that_was_flipped(rt: HostRuntime) -> Result<(), Fail> {
     let alloc = rt.alloc();
-    let sent = pad(alloc, &SEEDS[1], 1)?.pop().ok_or("a pad of one byte")?;
-    let accusation = Accusation {
-        slot: 1,
-        member: 2,
-        seed: SEEDS[1],
-    };
-    assert_eq!(rt; judged(alloc, &accusation, sent ^ 1)?, Ok(()));
-    assert_eq!(rt;
-        judged(alloc, &accusation, sent)?,
-        Err(AccusationRefusal::PadSent)
-    );
-    let empty = Accusation::decode(&[0; 34]).ok_or("34 bytes")?;
-    assert_eq!(rt;
-        judged(alloc, &empty, sent ^ 1)?,
-        Err(AccusationRefusal::Slot)
-    );
-    let mut seed = SEEDS[1];
-    seed[0] ^= 0x80;
-    let changed = Accusation { seed, ..accusation };
-    assert_eq!(rt;
-        judged(alloc, &changed, sent ^ 1)?,
-        Err(AccusationRefusal::Capsule)
-    );
-    let nobody = Accusation {
-        member: 3,
-        ..accusation
-    };
-    assert_eq!(rt;
-        judged(alloc, &nobody, sent ^ 1)?,
-        Err(AccusationRefusal::Member)
-    );
-    // The maker's own seed was sealed, and its pad is another.
-    let maker = Accusation {
-        slot: 1,
-        member: 1,
-        seed: SEEDS[0],
-    };
-    assert_eq!(rt;
-        judged(alloc, &maker, sent)?,
-        Err(AccusationRefusal::PadHash)
-    );
+    let sent = pad_byte(alloc)?.ok_or("a pad of one byte")?;
+    for (accusation, turned, answer) in cases() {
+        assert!(rt;
+            judged(alloc, &accusation, sent ^ turned)? == answer,
+            "{answer:?}"
+        );
+    }
     Ok(())
+}
+
+// The item of a maker of these bytes where the second of two slots opened to an entry, and is bad of the second member.
+fn item(alloc: Global, own: &[u8], entry: Vec<u8>) -> Mem<[u8; 34]> {
+    let seeds = seeds(alloc, &SEEDS[0], &SEEDS[1])?;
+    let states = vec![in alloc; SlotState::Empty, SlotState::Bad { first: 2 }]?;
+    let opened = vec![in alloc; None, Some(List::of(entry))]?;
+    Ok(own_item(own, &opened, &states, &seeds))
 }
 
 #[test]
 fn the_item_of_a_maker(rt: HostRuntime) -> Result<(), Fail> {
     let alloc = rt.alloc();
-    let seeds = SEEDS.to_vec(alloc)?;
-    assert_eq!(rt; seeds.len(), 2);
-    let own = own(alloc)?;
-    let opened = vec![in alloc; None, Some(List::of(own.clone()?))]?;
-    let states = vec![in alloc; SlotState::Empty, SlotState::Bad { first: 2 }]?;
-    let accusation = Accusation {
-        slot: 2,
-        member: 2,
-        seed: SEEDS[1],
-    };
-    assert_eq!(rt;
-        own_item(&own, &opened, &states, &seeds),
-        accusation.encode()
-    );
-    assert_eq!(rt; own_item(b"another's", &opened, &states, &seeds), [0; 34]);
+    let accusation = Accusation { slot: 2, ..RIGHT };
+    let maker = own(alloc)?;
+    assert!(rt; item(alloc, &maker, own(alloc)?)? == accusation.encode());
+    assert!(rt; item(alloc, b"another's", own(alloc)?)? == [0; 34]);
     Ok(())
 }

@@ -5,13 +5,13 @@ ghost use Rattle.phase_message.specs.Closing.{ClosesVotes};
 ghost use Rattle.phase_message.specs.Stages.{shape_of};
 ghost use Rattle.go_nogo.specs.Stands.{IsVoteStage, StandAll};
 
-use crate::whole::{TWO, is_whole};
+use crate::whole::{TWO, content, is_whole};
 use go_nogo::{Content, Vote, compare_logs, justified, unanimous, votes_of};
 use phase_message::{Body, Header, Post, Shape, Slot, StageKind, decode, stage_kind};
 use stage_log::StageLog;
 use std::alloc::Global;
 use std::test::Fail;
-use wire_core::{List, Mem, put_bytes, put_u8, put_u64};
+use wire_core::{List, Mem};
 
 // Stages 4 and 7 have votes, which stages 5 and 8 close.
 
@@ -39,33 +39,33 @@ fn view_before(stage: u8, second: Second) -> [u8; 32] {
     }
 }
 
-// A content of the first kind of its stage, all zeros but for the vote.
-fn content(alloc: Global, slot: Slot, vote: Second) -> Mem<Vec<u8>> {
-    let (flag, view) = vote;
-    let (kind, zeros) = match slot.stage {
-        0 => (1, 9120),
-        1 => (2, 13668),
-        4 => (5, 0),
-        5 => (6, 40),
-        6 => (8, 8),
-        7 => (9, 0),
-        _ => (4, 0),
-    };
-    let mut content = Vec::new(alloc);
-    put_u8(&mut content, 1)?;
-    put_bytes(&mut content, &[2; 32])?;
-    put_u64(&mut content, 1)?;
-    put_u8(&mut content, slot.stage)?;
-    put_u8(&mut content, slot.sender)?;
-    put_bytes(&mut content, &[view; 32])?;
-    put_u8(&mut content, kind)?;
-    if kind == 5 || kind == 9 {
-        put_u8(&mut content, flag)?;
-    }
+// These bytes and so many zeros.
+fn padded(alloc: Global, front: &[u8], zeros: u32) -> Mem<Vec<u8>> {
+    let mut bytes = Vec::from_slice(alloc, front)?;
     for _ in 0..zeros {
-        content.push(0)?;
+        bytes.push(0)?;
     }
-    Ok(content)
+    Ok(bytes)
+}
+
+// A body of the first kind of its stage, all zeros but for the flag of a vote.
+fn body(alloc: Global, stage: u8, flag: u8) -> Mem<Vec<u8>> {
+    match stage {
+        0 => padded(alloc, &[1], 9120),
+        1 => padded(alloc, &[2], 13668),
+        4 => padded(alloc, &[5, flag], 0),
+        5 => padded(alloc, &[6], 40),
+        6 => padded(alloc, &[8], 8),
+        7 => padded(alloc, &[9, flag], 0),
+        _ => padded(alloc, &[4], 0),
+    }
+}
+
+// What stands in a slot.
+fn said(alloc: Global, slot: Slot, vote: Second) -> Mem<Vec<u8>> {
+    let (flag, view) = vote;
+    let body = body(alloc, slot.stage, flag)?;
+    content(alloc, 1, slot, &[view; 32], &body)
 }
 
 // Puts a content into the slot of its header, if it is of the grammar.
@@ -100,11 +100,11 @@ fn put_stage(
     requires { StandAll log.old }
     ensures { StandAll log.new }
 {
-    let first = content(alloc, Slot { stage, sender: 1 }, AGREES)?;
-    put(alloc, log, first, signature)?;
     let is_vote = stage == 4 || stage == 7;
     let vote = if is_vote { second } else { AGREES };
-    let second = content(alloc, Slot { stage, sender: 2 }, vote)?;
+    let first = said(alloc, Slot { stage, sender: 1 }, AGREES)?;
+    let second = said(alloc, Slot { stage, sender: 2 }, vote)?;
+    put(alloc, log, first, signature)?;
     put(alloc, log, second, signature)
 }
 
@@ -187,53 +187,40 @@ fn closing(alloc: Global, kind: u8, view: [u8; 32]) -> Content {
     Content { header, body }
 }
 
+// Whether a closing content by its kind is justified by the log of all before it, under the view of that log or another.
+fn is_justified(alloc: Global, kind: u8, second: Second, carries: bool) -> Mem<Option<bool>> {
+    let stage = if kind < 10 { 5 } else { 8 };
+    let view = if carries {
+        view_before(stage, second)
+    } else {
+        [1; 32]
+    };
+    let said = closing(alloc, kind, view);
+    let log = log_before(alloc, stage, second)?;
+    answer(alloc, &said, &log)
+}
+
 // A Reveal and a Confirm where the two agree, a Dispute and a Differ under the view of the log where they don't.
+const CLOSINGS: [(u8, Second, bool, bool); 11] = [
+    (6, AGREES, true, true),
+    (6, SAYS_NO, true, false),
+    (6, OTHER_VIEW, true, false),
+    (7, AGREES, true, false),
+    (7, SAYS_NO, true, true),
+    (7, SAYS_NO, false, false),
+    (7, OTHER_VIEW, true, true),
+    (10, AGREES, false, true),
+    (10, OTHER_VIEW, false, false),
+    (11, SAYS_NO, true, true),
+    (11, SAYS_NO, false, false),
+];
+
 #[test]
 fn which_closings_are_justified(rt: HostRuntime) -> Result<(), Fail> {
     let alloc = rt.alloc();
-    let table = [
-        (6, AGREES, true, true),
-        (6, SAYS_NO, true, false),
-        (6, OTHER_VIEW, true, false),
-        (7, AGREES, true, false),
-        (7, SAYS_NO, true, true),
-        (7, SAYS_NO, false, false),
-        (7, OTHER_VIEW, true, true),
-        (10, AGREES, false, true),
-        (10, OTHER_VIEW, false, false),
-        (11, SAYS_NO, true, true),
-        (11, SAYS_NO, false, false),
-    ];
-    for (kind, second, carries, expected) in table {
-        let stage = if kind < 10 { 5 } else { 8 };
-        let log = log_before(alloc, stage, second)?;
-        let view = if carries {
-            view_before(stage, second)
-        } else {
-            [1; 32]
-        };
-        let said = closing(alloc, kind, view);
-        assert!(rt;
-            answer(alloc, &said, &log)? == Some(expected),
-            "{kind} {second:?}"
-        );
-    }
-    Ok(())
-}
-
-// The votes of a stage as the two said them, and whether they are unanimous.
-#[test]
-fn which_votes_are_unanimous(rt: HostRuntime) -> Result<(), Fail> {
-    let alloc = rt.alloc();
-    let table = [(AGREES, true), (SAYS_NO, false), (OTHER_VIEW, false)];
-    for (second, expected) in table {
-        let log = log_before(alloc, 5, second)?;
-        let Some(votes) = votes_at(alloc, &log, 4)? else {
-            assert!(rt; false, "no votes");
-            return Ok(());
-        };
-        assert!(rt; are_votes(&votes, second));
-        assert!(rt; unanimous(&votes) == expected);
+    for (kind, second, carries, expected) in CLOSINGS {
+        let found = is_justified(alloc, kind, second, carries)?;
+        assert!(rt; found == Some(expected), "{kind} {second:?}");
     }
     Ok(())
 }
@@ -250,20 +237,66 @@ fn is_vote(vote: &Vote, (flag, view): Second) -> bool {
     vote.yes == (flag == 1) && vote.view == [view; 32]
 }
 
+// Whether the votes of stage 4 are unanimous, where they are those of the two.
+fn votes_agree(alloc: Global, second: Second) -> Mem<Option<bool>> {
+    let log = log_before(alloc, 5, second)?;
+    match votes_at(alloc, &log, 4)? {
+        Some(votes) if are_votes(&votes, second) => Ok(Some(unanimous(&votes))),
+        _ => Ok(None),
+    }
+}
+
+// The votes of a stage as the two said them, and whether they are unanimous.
+#[test]
+fn which_votes_are_unanimous(rt: HostRuntime) -> Result<(), Fail> {
+    let alloc = rt.alloc();
+    for (second, expected) in [(AGREES, true), (SAYS_NO, false), (OTHER_VIEW, false)] {
+        assert!(rt; votes_agree(alloc, second)? == Some(expected), "{second:?}");
+    }
+    Ok(())
+}
+
+// A log by the stage before which it ends and the votes of member 2.
+type Logged = (u8, Second);
+
+// The first difference of two logs.
+fn difference_of(alloc: Global, one: Logged, other: Logged) -> Mem<Option<Slot>> {
+    let one = log_before(alloc, one.0, one.1)?;
+    let other = log_before(alloc, other.0, other.1)?;
+    Ok(compare_logs(&one, &other))
+}
+
+// The first difference of a log and one of the same votes alone, with signatures.
+fn difference_of_signed(alloc: Global) -> Mem<Option<Slot>> {
+    let log = log_before(alloc, 5, AGREES)?;
+    let mut signed = StageLog::new(alloc, TWO)?;
+    put_stage(alloc, &mut signed, 4, AGREES, b"signed")?;
+    Ok(compare_logs(&log, &signed))
+}
+
+// The vote of member 2.
+const SECOND: Option<Slot> = Some(Slot {
+    stage: 4,
+    sender: 2,
+});
+
+// Logs, and their first difference.
+const DIFFERENCES: [(Logged, Logged, Option<Slot>); 3] = [
+    ((5, AGREES), (5, AGREES), None),
+    ((5, AGREES), (5, SAYS_NO), SECOND),
+    ((8, OTHER_VIEW), (5, AGREES), SECOND),
+];
+
 // Another vote of member 2 is the first difference; signatures are none, and neither is a slot that one log alone keeps.
 #[test]
 fn the_first_difference_of_two_logs(rt: HostRuntime) -> Result<(), Fail> {
     let alloc = rt.alloc();
-    let log = log_before(alloc, 5, AGREES)?;
-    let mut signed = StageLog::new(alloc, TWO)?;
-    put_stage(alloc, &mut signed, 4, AGREES, b"signed")?;
-    let second = Some(Slot {
-        stage: 4,
-        sender: 2,
-    });
-    assert!(rt; compare_logs(&log, &log).is_none());
-    assert!(rt; compare_logs(&log, &log_before(alloc, 5, SAYS_NO)?) == second);
-    assert!(rt; compare_logs(&log_before(alloc, 8, OTHER_VIEW)?, &log) == second);
-    assert!(rt; compare_logs(&log, &signed).is_none());
+    for (one, other, expected) in DIFFERENCES {
+        assert!(rt;
+            difference_of(alloc, one, other)? == expected,
+            "{one:?} {other:?}"
+        );
+    }
+    assert!(rt; difference_of_signed(alloc)?.is_none());
     Ok(())
 }

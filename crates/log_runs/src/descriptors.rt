@@ -1,42 +1,75 @@
 //! Descriptors for two members, and an own pad that another program computed.
 
-use bulk_descriptor::{KeySeed, List, decode, make, sent_pad};
-use ring_encrypt::public_of;
-use std::alloc::{AllocError, Global};
+use crate::slots::{keys, seeds};
+use bulk_descriptor::{Descriptor, KeySeed, Made, decode, make, sent_pad};
+use std::alloc::Global;
 use std::test::Fail;
+use wire_core::Mem;
 
-// What a member of a group of two finds in the bytes of a descriptor by the seed of its key.
-fn pad_in(alloc: Global, bytes: &[u8], seed: [u8; 32]) -> Result<Option<List<u8>>, AllocError> {
-    let Some(descriptor) = decode(alloc, 2, bytes)? else {
-        return Ok(None);
-    };
+// What the first of two members makes for no bytes.
+fn made_of_nothing(alloc: Global) -> Mem<Made> {
+    let keys = keys(alloc, &[1; 32], &[2; 32])?;
+    let seeds = seeds(alloc, &[10; 32], &[20; 32])?;
+    make(alloc, &keys, &seeds, 1, b"")
+}
+
+fn bytes_of(alloc: Global, made: &Made) -> Mem<Vec<u8>> {
+    made.descriptor.encode(alloc)
+}
+
+fn pad_of(made: &Made) -> &[u8] {
+    made.own_pad.items().as_slice()
+}
+
+// How many bytes the pad has that a member of a group of two finds in a descriptor by the seed of its key.
+fn pad_in(alloc: Global, descriptor: &Descriptor, seed: [u8; 32]) -> Mem<Option<usize>> {
     if descriptor.pad_hashes.items().len() < 2 {
         return Ok(None);
     }
     let key = KeySeed::new(seed);
     let found = descriptor.my_pad(alloc, 2, &key);
     key.destroy();
-    found
+    match found? {
+        Some(pad) => Ok(Some(pad.items().len())),
+        None => Ok(None),
+    }
+}
+
+// The same of the bytes of a descriptor.
+fn pad_in_bytes(alloc: Global, bytes: &[u8], seed: [u8; 32]) -> Mem<Option<usize>> {
+    match decode(alloc, 2, bytes)? {
+        Some(descriptor) => pad_in(alloc, &descriptor, seed),
+        None => Ok(None),
+    }
+}
+
+// Whether bytes without the last one are a descriptor.
+fn is_read_cut(alloc: Global, bytes: &[u8]) -> Mem<bool> {
+    match bytes {
+        [cut @ .., _] => Ok(decode(alloc, 2, cut)?.is_some()),
+        [] => Ok(true),
+    }
+}
+
+// Turns a bit of the hash of the second pad, which stands behind the head and the first one.
+fn turn_hash(bytes: &mut Vec<u8>) {
+    if let Some(byte) = bytes.get_mut(68) {
+        *byte ^= 1;
+    }
 }
 
 #[test]
 fn a_descriptor_of_no_bytes_for_two(rt: HostRuntime) -> Result<(), Fail> {
     let alloc = rt.alloc();
-    let keys = vec![in alloc; public_of(&[1; 32]), public_of(&[2; 32])]?;
-    let seeds = vec![in alloc; [10; 32], [20; 32]]?;
-    let made = make(alloc, &keys, &seeds, 1, b"")?;
-    assert_eq!(rt; made.own_pad.items().len(), 0);
-    let mut bytes = made.descriptor.encode(alloc)?;
+    let made = made_of_nothing(alloc)?;
+    assert!(rt; pad_of(&made).is_empty());
+    let mut bytes = bytes_of(alloc, &made)?;
     assert_eq!(rt; bytes.len(), 4580);
-    let mut cut = made.descriptor.encode(alloc)?;
-    let _ = cut.pop();
-    assert!(rt; decode(alloc, 2, &cut)?.is_none());
-    let found = pad_in(alloc, &bytes, [2; 32])?.ok_or("the other's pad")?;
-    assert_eq!(rt; found.items().len(), 0);
-    assert!(rt; pad_in(alloc, &bytes, [1; 32])?.is_none());
-    // The hash of the second pad stands behind the head and the first one.
-    bytes[68] ^= 1;
-    assert!(rt; pad_in(alloc, &bytes, [2; 32])?.is_none());
+    assert!(rt; !is_read_cut(alloc, &bytes)?);
+    assert!(rt; pad_in_bytes(alloc, &bytes, [2; 32])? == Some(0));
+    assert!(rt; pad_in_bytes(alloc, &bytes, [1; 32])?.is_none());
+    turn_hash(&mut bytes);
+    assert!(rt; pad_in_bytes(alloc, &bytes, [2; 32])?.is_none());
     Ok(())
 }
 
@@ -51,30 +84,47 @@ const PAD_SEEDS: [&[u8; 32]; 2] = [
     b"\xcc\xd8\x1a\x76\x8e\xae\x72\x1f\x4d\x8e\xa5\x93\xb7\xfd\x9e\xe1\xa8\xe9\x62\x4a\x29\xcf\xe3\x9a\x80\xc7\x5c\x5f\xe7\x26\xb6\x54",
 ];
 
+// What the second of two members makes for the message.
+fn made_of_message(alloc: Global) -> Mem<Made> {
+    let keys = keys(alloc, KEY_SEEDS[0], KEY_SEEDS[1])?;
+    let seeds = seeds(alloc, PAD_SEEDS[0], PAD_SEEDS[1])?;
+    make(alloc, &keys, &seeds, 2, b"\x8d")
+}
+
+// Whether a pad fits for the first of two members.
+fn fits_first(descriptor: &Descriptor, pad: &[u8]) -> Option<bool> {
+    if descriptor.pad_hashes.items().len() < 2 {
+        return None;
+    }
+    Some(descriptor.fits(1, pad))
+}
+
+// Whether it fits for the second.
+fn fits_second(descriptor: &Descriptor, pad: &[u8]) -> Option<bool> {
+    if descriptor.pad_hashes.items().len() < 2 {
+        return None;
+    }
+    Some(descriptor.fits(2, pad))
+}
+
+// The pad that the second member sends for an entry, where the first bytes are its own descriptor and pad.
+fn sent(alloc: Global, own: &[u8], own_pad: &[u8], entry: &[u8]) -> Mem<Vec<u8>> {
+    let key = KeySeed::new(*KEY_SEEDS[1]);
+    let sent = sent_pad(alloc, 2, own, own_pad, 2, &key, entry);
+    key.destroy();
+    Ok(sent?.into_items())
+}
+
 #[test]
 fn the_own_pad_of_a_maker(rt: HostRuntime) -> Result<(), Fail> {
     let alloc = rt.alloc();
-    let keys = vec![in alloc; public_of(KEY_SEEDS[0]), public_of(KEY_SEEDS[1])]?;
-    let seeds = vec![in alloc; *PAD_SEEDS[0], *PAD_SEEDS[1]]?;
-    let made = make(alloc, &keys, &seeds, 2, b"\x8d")?;
-    assert_eq!(rt; made.own_pad.items().as_slice(), [0x48].as_slice());
-    assert!(rt; made.descriptor.pad_hashes.items().len() == 2);
-    assert!(rt; made.descriptor.fits(2, &[0x48]));
-    assert!(rt; !made.descriptor.fits(1, &[0x48]));
-    let own = made.descriptor.encode(alloc)?;
-    let key = KeySeed::new(*KEY_SEEDS[1]);
-    let sent = sent_pad(alloc, 2, &own, made.own_pad.items(), 2, &key, &own);
-    let other = sent_pad(
-        alloc,
-        2,
-        &own,
-        made.own_pad.items(),
-        2,
-        &key,
-        b"no descriptor",
-    );
-    key.destroy();
-    assert_eq!(rt; sent?.items().as_slice(), [0x48].as_slice());
-    assert_eq!(rt; other?.items().len(), 0);
+    let made = made_of_message(alloc)?;
+    assert!(rt; pad_of(&made) == [0x48].as_slice());
+    assert!(rt; fits_second(&made.descriptor, &[0x48]) == Some(true));
+    assert!(rt; fits_first(&made.descriptor, &[0x48]) == Some(false));
+    let own = bytes_of(alloc, &made)?;
+    let for_own = sent(alloc, &own, pad_of(&made), &own)?;
+    assert!(rt; for_own.as_slice() == [0x48].as_slice());
+    assert!(rt; sent(alloc, &own, pad_of(&made), b"no descriptor")?.is_empty());
     Ok(())
 }

@@ -12,6 +12,8 @@ mod replays;
 #[cfg(test)]
 mod slot_states;
 #[cfg(test)]
+mod slots;
+#[cfg(test)]
 mod turns;
 #[cfg(test)]
 mod views;

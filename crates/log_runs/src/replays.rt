@@ -4,7 +4,7 @@ ghost use Rattle.std.specs.Prelude.{◌≡◌, IsTrue, Some};
 ghost use Rattle.phase_message.specs.declared.stage.StageKind.TheVariants.{Final};
 ghost use Rattle.phase_message.specs.Stages.{kind_of_stage, shape_of};
 
-use crate::whole::{TWO, is_whole};
+use crate::whole::{TWO, content, is_whole, joined};
 use layer_cipher::seal;
 use phase_message::{Post, Shape, Slot, StageKind, is_slot, stage_kind};
 use ring_encrypt::public_of;
@@ -12,7 +12,7 @@ use shuffle_blame::{Cause, Fault, Shown, replay};
 use stage_log::{RunningView, StageLog};
 use std::alloc::Global;
 use std::test::Fail;
-use wire_core::{List, Mem, put_bytes, put_u8, put_u64};
+use wire_core::{List, Mem, put_bytes};
 
 const ROUND: u64 = 98;
 
@@ -64,13 +64,6 @@ fn half(alloc: Global, member: u8) -> Mem<Vec<u8>> {
     layer(alloc, member, 2, &body)
 }
 
-// Two entries, one behind the other.
-fn both(first: Vec<u8>, second: &[u8]) -> Mem<Vec<u8>> {
-    let mut list = first;
-    put_bytes(&mut list, second)?;
-    Ok(list)
-}
-
 // The keys of a member, of which each is that of its outer seed.
 fn keys(alloc: Global, member: u8) -> Mem<Vec<u8>> {
     let key = public_of(&shown_by(member).outer_seed);
@@ -79,6 +72,26 @@ fn keys(alloc: Global, member: u8) -> Mem<Vec<u8>> {
         put_bytes(&mut keys, key.bytes())?;
     }
     Ok(keys)
+}
+
+// A member's submission.
+fn submitted(alloc: Global, member: u8) -> Mem<Vec<u8>> {
+    let inner = half(alloc, member)?;
+    layer(alloc, member, 1, &inner)
+}
+
+// The list of the first turn: the second member's entry first.
+fn first_list(alloc: Global) -> Mem<Vec<u8>> {
+    let first = half(alloc, 2)?;
+    let second = half(alloc, 1)?;
+    joined(alloc, &[&first, &second])
+}
+
+// The last list, in which this member's entry stands before the second one's.
+fn last_list(alloc: Global, member: u8) -> Mem<Vec<u8>> {
+    let first = blob(alloc, member)?;
+    let second = blob(alloc, 2)?;
+    joined(alloc, &[&first, &second])
 }
 
 // What is changed in the round: the vote of member 2, and whose submission comes first in the last list.
@@ -91,31 +104,49 @@ struct Change {
 // Nothing is changed.
 const NOTHING: Change = Change { vote: 1, first: 1 };
 
-// The kind and the body of what a member says.
-fn body(alloc: Global, slot: Slot, change: Change) -> Mem<(u8, Vec<u8>)> {
-    let own = slot.sender;
+// What a member says behind the number of its kind.
+fn rest(alloc: Global, slot: Slot, change: Change) -> Mem<Vec<u8>> {
     match slot.stage {
-        0 => Ok((1, keys(alloc, own)?)),
-        1 => {
-            let inner = half(alloc, own)?;
-            Ok((2, layer(alloc, own, 1, &inner)?))
-        }
-        2 => {
-            let last = half(alloc, 1)?;
-            Ok((3, both(half(alloc, 2)?, &last)?))
-        }
-        3 => {
-            let last = blob(alloc, 2)?;
-            Ok((3, both(blob(alloc, change.first)?, &last)?))
-        }
+        0 => keys(alloc, slot.sender),
+        1 => submitted(alloc, slot.sender),
+        2 => first_list(alloc),
+        3 => last_list(alloc, change.first),
         _ => {
-            let vote = if own == 1 { 1 } else { change.vote };
-            Ok((5, vec![in alloc; vote]?))
+            let vote = if slot.sender == 1 { 1 } else { change.vote };
+            Ok(vec![in alloc; vote]?)
         }
     }
 }
 
-// Puts what a member says, with the view that is carried, if there is such a slot.
+// The number of the kind of what is said in a stage.
+fn kind_of(stage: u8) -> u8 {
+    match stage {
+        0 => 1,
+        1 => 2,
+        2 | 3 => 3,
+        _ => 5,
+    }
+}
+
+// The content that a member says under a view.
+fn said(alloc: Global, slot: Slot, view: &[u8; 32], change: Change) -> Mem<Vec<u8>> {
+    let rest = rest(alloc, slot, change)?;
+    let body = joined(alloc, &[&[kind_of(slot.stage)], &rest])?;
+    content(alloc, ROUND, slot, view, &body)
+}
+
+// Puts what is said in a slot, with no signature, if there is such a slot.
+fn put(alloc: Global, log: &mut StageLog, running: &mut RunningView, slot: Slot, content: Vec<u8>) {
+    if !is_slot(log.shape(), slot) || content.len() < 76 || content.len() > 40_000 {
+        return;
+    }
+    running.content(&content, slot.sender == 2 || slot.stage == 2);
+    let signature = List::of(Vec::new(alloc));
+    let content = List::of(content);
+    log.put(slot, Post { content, signature });
+}
+
+// Puts what a member says, with the view that is carried.
 fn say(
     alloc: Global,
     log: &mut StageLog,
@@ -123,27 +154,21 @@ fn say(
     slot: Slot,
     change: Change,
 ) -> Mem<()> {
-    if !is_slot(log.shape(), slot) {
-        return Ok(());
-    }
-    let (kind, body) = body(alloc, slot, change)?;
-    let mut content = Vec::new(alloc);
-    put_u8(&mut content, 1)?;
-    put_bytes(&mut content, &[2; 32])?;
-    put_u64(&mut content, ROUND)?;
-    put_u8(&mut content, slot.stage)?;
-    put_u8(&mut content, slot.sender)?;
-    put_bytes(&mut content, &running.view())?;
-    put_u8(&mut content, kind)?;
-    put_bytes(&mut content, &body)?;
-    if content.len() < 76 || content.len() > 40_000 {
-        return Ok(());
-    }
-    running.content(&content, slot.sender == 2 || slot.stage == 2);
-    let signature = List::of(Vec::new(alloc));
-    let content = List::of(content);
-    log.put(slot, Post { content, signature });
+    let content = said(alloc, slot, &running.view(), change)?;
+    put(alloc, log, running, slot, content);
     Ok(())
+}
+
+// Puts what both say at a stage.
+fn say_both(
+    alloc: Global,
+    log: &mut StageLog,
+    running: &mut RunningView,
+    stage: u8,
+    change: Change,
+) -> Mem<()> {
+    say(alloc, log, running, Slot { stage, sender: 1 }, change)?;
+    say(alloc, log, running, Slot { stage, sender: 2 }, change)
 }
 
 // The log of all that both say before the end of the shuffle.
@@ -151,20 +176,7 @@ fn log_of(alloc: Global, change: Change) -> Mem<StageLog> {
     let mut log = StageLog::new(alloc, TWO)?;
     let mut running = RunningView::new(TWO);
     for stage in 0..5 {
-        say(
-            alloc,
-            &mut log,
-            &mut running,
-            Slot { stage, sender: 1 },
-            change,
-        )?;
-        say(
-            alloc,
-            &mut log,
-            &mut running,
-            Slot { stage, sender: 2 },
-            change,
-        )?;
+        say_both(alloc, &mut log, &mut running, stage, change)?;
     }
     Ok(log)
 }

@@ -2,11 +2,13 @@
 
 ghost use Rattle.std.specs.Prelude.{◌≡◌, length, IfOk, IfSome};
 
-use bulk_descriptor::{Descriptor, PadTable, SlotState, decode};
+use crate::slots::two_slots;
+use crate::whole::joined;
+use bulk_descriptor::{Descriptor, SlotState, decode};
 use bulk_recovery::recover;
-use std::alloc::{AllocError, Global};
+use std::alloc::Global;
 use std::test::Fail;
-use wire_core::List;
+use wire_core::Mem;
 
 // The hash of the message 61, and those of the pads 0f and 6e.
 const MESSAGE_HASH: &[u8; 32] =
@@ -18,68 +20,71 @@ const PAD_HASHES: [&[u8; 32]; 2] = [
 ];
 
 // A descriptor of one byte with these hashes, and capsules that nobody opens.
-fn descriptor(alloc: Global, message_hash: &[u8; 32]) -> Result<Option<Descriptor>, AllocError>
+fn descriptor(alloc: Global, message_hash: &[u8; 32]) -> Mem<Option<Descriptor>>
     ensures { IfOk result (λ found. IfSome found (λ d. length d.pad_hashes ≡ 2)) }
 {
-    let mut bytes = [0, 0, 0, 1].to_vec(alloc)?;
-    bytes.extend_from_slice(message_hash)?;
-    bytes.extend_from_slice(PAD_HASHES[0])?;
-    bytes.extend_from_slice(PAD_HASHES[1])?;
-    bytes.extend_from_slice(&[0; 4480])?;
+    let capsules = vec![in alloc; 0; 4480]?;
+    let parts = [
+        b"\0\0\0\x01".as_slice(),
+        message_hash,
+        PAD_HASHES[0],
+        PAD_HASHES[1],
+        capsules.as_slice(),
+    ];
+    let bytes = joined(alloc, &parts)?;
     decode(alloc, 2, &bytes)
 }
 
-// The row of a member that sends this byte for the first slot and none for the second.
-fn row(alloc: Global, byte: u8) -> Result<List<List<u8>>, AllocError>
-    ensures { IfOk result (λ row. length row ≡ 2) }
+// What a slot holds: a descriptor with this hash of the message, or none.
+fn held(alloc: Global, message_hash: Option<&[u8; 32]>) -> Mem<Option<Descriptor>>
+    ensures { IfOk result (λ found. IfSome found (λ d. length d.pad_hashes ≡ 2)) }
 {
-    let first = List::of([byte].to_vec(alloc)?);
-    let pads = vec![in alloc; first, List::of(Vec::new(alloc))]?;
-    Ok(List::of(pads))
+    match message_hash {
+        Some(hash) => descriptor(alloc, hash),
+        None => Ok(None),
+    }
 }
 
-// The state of a slot with this descriptor for which the members sent 0f and this byte.
-fn state(
-    alloc: Global,
-    first: Option<Descriptor>,
-    byte: u8,
-) -> Result<Option<SlotState>, AllocError>
-    requires { IfSome first (λ d. length d.pad_hashes ≡ 2) }
+// The state of the slot for which the members sent 0f and this byte.
+fn state(alloc: Global, held: Option<Descriptor>, byte: u8) -> Mem<Option<SlotState>>
+    requires { IfSome held (λ d. length d.pad_hashes ≡ 2) }
 {
-    let one = row(alloc, 0x0f)?;
-    let two = row(alloc, byte)?;
-    let rows = vec![in alloc; one, two]?;
-    let pads = PadTable {
-        members: List::of(rows),
-    };
-    let descriptors = vec![in alloc; first, None]?;
-    let mut states = recover(alloc, &descriptors, &pads)?;
+    let slots = two_slots(alloc, held, [0x0f, byte])?;
+    let mut states = recover(alloc, &slots.descriptors, &slots.pads)?;
     let _ = states.pop();
     Ok(states.pop())
+}
+
+fn told(state: &Option<SlotState>) -> &'static str {
+    match state {
+        Some(SlotState::Message(bytes)) if bytes.items().as_slice() == [0x61].as_slice() => {
+            "the message 61"
+        }
+        Some(SlotState::Bad { first: 2 }) => "bad, of member 2 first",
+        Some(SlotState::Mismatched) => "mismatched",
+        Some(SlotState::Empty) => "empty",
+        _ => "another",
+    }
+}
+
+// What is told of the state of a slot that holds a descriptor with this hash of the message, or none.
+fn told_of(alloc: Global, message_hash: Option<&[u8; 32]>, byte: u8) -> Mem<&'static str> {
+    let held = held(alloc, message_hash)?;
+    let state = state(alloc, held, byte)?;
+    Ok(told(&state))
 }
 
 #[test]
 fn the_four_states(rt: HostRuntime) -> Result<(), Fail> {
     let alloc = rt.alloc();
-    match state(alloc, descriptor(alloc, MESSAGE_HASH)?, 0x6e)? {
-        Some(SlotState::Message(bytes)) => assert_eq!(rt;
-            bytes.items().as_slice(),
-            [0x61].as_slice()
-        ),
-        other => assert!(rt; false, "{other:?}"),
+    let cases = [
+        (Some(MESSAGE_HASH), 0x6e, "the message 61"),
+        (Some(MESSAGE_HASH), 0x6f, "bad, of member 2 first"),
+        (Some(PAD_HASHES[0]), 0x6e, "mismatched"),
+        (None, 0x6e, "empty"),
+    ];
+    for (hash, byte, expected) in cases {
+        assert!(rt; told_of(alloc, hash, byte)? == expected, "{expected}");
     }
-    assert!(rt;
-        matches!(
-            state(alloc, descriptor(alloc, MESSAGE_HASH)?, 0x6f)?,
-            Some(SlotState::Bad { first: 2 })
-        )
-    );
-    assert!(rt;
-        matches!(
-            state(alloc, descriptor(alloc, PAD_HASHES[0])?, 0x6e)?,
-            Some(SlotState::Mismatched)
-        )
-    );
-    assert!(rt; matches!(state(alloc, None, 0x6e)?, Some(SlotState::Empty)));
     Ok(())
 }

@@ -1,11 +1,11 @@
 //! What a log of two members keeps of a slot, and its views, of which another program computed the expected ones.
 
-use crate::whole::{TWO, is_whole};
+use crate::whole::{TWO, content, is_whole};
 use phase_message::is_slot;
 use stage_log::{Post, Put, RunningView, Seen, Slot, StageLog};
-use std::alloc::{AllocError, Global};
+use std::alloc::Global;
 use std::test::Fail;
-use wire_core::{List, put_bytes, put_u8, put_u64};
+use wire_core::{List, Mem};
 
 // The view at stage 0: the hash under its tag of no pieces. The views at stages 1 and 2 of the log below.
 const VIEW_0: [u8; 32] =
@@ -25,19 +25,6 @@ fn view_at(stage: u8) -> [u8; 32] {
     }
 }
 
-// A content whose header carries a view, with what stands behind the header.
-fn content(alloc: Global, slot: Slot, view: &[u8; 32], body: &[u8]) -> Result<Vec<u8>, AllocError> {
-    let mut content = Vec::new(alloc);
-    put_u8(&mut content, 1)?;
-    put_bytes(&mut content, &[2; 32])?;
-    put_u64(&mut content, 1)?;
-    put_u8(&mut content, slot.stage)?;
-    put_u8(&mut content, slot.sender)?;
-    put_bytes(&mut content, view)?;
-    put_bytes(&mut content, body)?;
-    Ok(content)
-}
-
 // What became of a post with this signature.
 fn told(answer: &Put, signature: &[u8]) -> &'static str {
     match answer {
@@ -55,7 +42,7 @@ fn put(
     slot: Slot,
     content: &[u8],
     signature: &[u8],
-) -> Result<&'static str, AllocError> {
+) -> Mem<&'static str> {
     if content.len() < 76 || content.len() > 80 || !is_slot(log.shape(), slot) {
         return Ok("no slot");
     }
@@ -64,6 +51,19 @@ fn put(
         signature: List::of(Vec::from_slice(alloc, signature)?),
     };
     Ok(told(&log.put(slot, post), signature))
+}
+
+// Puts what is said in a slot under the view of a stage, and tells what became of it.
+fn say(
+    alloc: Global,
+    log: &mut StageLog,
+    slot: Slot,
+    viewed: u8,
+    body: &[u8],
+    signature: &[u8],
+) -> Mem<&'static str> {
+    let content = content(alloc, 1, slot, &view_at(viewed), body)?;
+    put(alloc, log, slot, &content, signature)
 }
 
 fn has_signature(post: Option<&Post>, signature: &[u8]) -> bool {
@@ -99,6 +99,13 @@ fn places(log: &StageLog) -> (u32, bool, Option<u8>) {
     (log.missing(0), log.complete(0), log.first_incomplete())
 }
 
+// What is said in one slot, the signature, and what becomes of it.
+const IN_ONE_SLOT: [(&[u8], &[u8], &str); 3] = [
+    (b"said", b"one", "stored"),
+    (b"said", b"two", "same"),
+    (b"other", b"three", "other"),
+];
+
 // One slot of two members: the first post stays, whatever is put behind it.
 #[test]
 fn a_slot_keeps_its_first_post(rt: HostRuntime) -> Result<(), Fail> {
@@ -108,11 +115,9 @@ fn a_slot_keeps_its_first_post(rt: HostRuntime) -> Result<(), Fail> {
         stage: 0,
         sender: 1,
     };
-    let said = content(alloc, slot, &view_at(0), b"said")?;
-    let other = content(alloc, slot, &view_at(0), b"other")?;
-    assert!(rt; put(alloc, &mut log, slot, &said, b"one")? == "stored");
-    assert!(rt; put(alloc, &mut log, slot, &said, b"two")? == "same");
-    assert!(rt; put(alloc, &mut log, slot, &other, b"three")? == "other");
+    for (body, signature, answer) in IN_ONE_SLOT {
+        assert!(rt; say(alloc, &mut log, slot, 0, body, signature)? == answer);
+    }
     assert!(rt; has_signature(log.kept(slot), b"one"));
     assert!(rt; places(&log) == (2, false, Some(0)));
     assert!(rt; views(&log, 0) == Some((view_at(0), None)));
@@ -132,39 +137,55 @@ fn carried(log: &StageLog) -> [u8; 32] {
     running.view()
 }
 
-// The posts of all keys and submissions of two members. Another header of the last one is the first wrong view.
+// What two members say in the first two stages.
+const SAID: [(u8, u8, &[u8]); 4] = [
+    (0, 1, b"\x34\xaf\xdd\xc9"),
+    (0, 2, b"\xac\xc4\x02"),
+    (1, 1, b"\xfe"),
+    (1, 2, b"\xd9\xc9\x49\x4e"),
+];
+
+// The posts of all keys and submissions of two members, under their views or all under that of stage 0.
+fn log_of_two(alloc: Global, right: bool) -> Mem<StageLog> {
+    let mut log = StageLog::new(alloc, TWO)?;
+    for (stage, sender, body) in SAID {
+        let viewed = if right { stage } else { 0 };
+        say(alloc, &mut log, Slot { stage, sender }, viewed, body, b"")?;
+    }
+    Ok(log)
+}
+
+// Whether a log has the views of the stages so far and no more, and no wrong one.
+fn has_views(log: &StageLog) -> bool {
+    (0..3).all(|stage| views(log, stage) == Some((view_at(stage), None)))
+        && views(log, 3).is_none()
+        && log.first_incomplete() == Some(2)
+}
+
+// Whether the passed stages and the running view give the same.
+fn is_seen(log: &StageLog) -> bool {
+    carried(log) == view_at(2) && seen(log, 2) == Some((view_at(2), true)) && seen(log, 3).is_none()
+}
+
+// Whether the slots behind stage 0 are seen to be wrong, of which this is the first.
+fn is_seen_wrong(log: &StageLog, first: Slot) -> bool {
+    seen(log, 1) == Some((view_at(1), true))
+        && seen(log, 2).is_some_and(|(_, right)| !right)
+        && views(log, 2).is_some_and(|(_, slot)| slot == Some(first))
+}
+
+// Another header of a post of stage 1 is a wrong view.
 #[test]
 fn views_of_two(rt: HostRuntime) -> Result<(), Fail> {
     let alloc = rt.alloc();
-    let mut log = StageLog::new(alloc, TWO)?;
-    let mut wrong = StageLog::new(alloc, TWO)?;
-    let said = [
-        (0, 1, b"\x34\xaf\xdd\xc9".as_slice()),
-        (0, 2, b"\xac\xc4\x02".as_slice()),
-        (1, 1, b"\xfe".as_slice()),
-        (1, 2, b"\xd9\xc9\x49\x4e".as_slice()),
-    ];
-    for (stage, sender, body) in said {
-        let slot = Slot { stage, sender };
-        let right = content(alloc, slot, &view_at(stage), body)?;
-        let first = content(alloc, slot, &view_at(0), body)?;
-        put(alloc, &mut log, slot, &right, b"")?;
-        put(alloc, &mut wrong, slot, &first, b"")?;
-    }
-    assert!(rt; views(&log, 0) == Some((view_at(0), None)));
-    assert!(rt; views(&log, 1) == Some((view_at(1), None)));
-    assert!(rt; views(&log, 2) == Some((view_at(2), None)));
-    assert!(rt; views(&log, 3).is_none());
-    assert!(rt; log.first_incomplete() == Some(2));
-    assert!(rt; carried(&log) == view_at(2));
-    assert!(rt; seen(&log, 2) == Some((view_at(2), true)));
-    assert!(rt; seen(&log, 3).is_none());
-    assert!(rt; seen(&wrong, 1) == Some((view_at(1), true)));
-    assert!(rt; seen(&wrong, 2).is_some_and(|(_, right)| !right));
-    let last = Some(Slot {
+    let log = log_of_two(alloc, true)?;
+    assert!(rt; has_views(&log));
+    assert!(rt; is_seen(&log));
+    let wrong = log_of_two(alloc, false)?;
+    let first = Slot {
         stage: 1,
         sender: 1,
-    });
-    assert!(rt; views(&wrong, 2).is_some_and(|(_, slot)| slot == last));
+    };
+    assert!(rt; is_seen_wrong(&wrong, first));
     Ok(())
 }
