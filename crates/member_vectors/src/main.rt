@@ -1,39 +1,26 @@
 //! Prints the posts that the two members of a round make, as the stage and the SHA-256 of the content and of the whole, how
 //! the round stands for each, and the messages that it opened; then the posts of the first where those of the other are
-//! delivered in reverse; and how a member ends whose conduct runs out of memory. All bytes are in hexadecimal digits.
+//! delivered in reverse; and how a member ends whose conduct runs out of memory. Then how runs of a member over a link in
+//! memory end. All bytes are in hexadecimal digits.
 #![tactic(auto)]
 
 mod entering;
 mod forgetful;
 mod round;
+mod running;
+mod runs;
+mod shown;
 
 use crate::entering::{Player, enter_forgetful, enter_honest};
 use crate::round::{Sent, collect, give, give_reversed, run_round};
+use crate::runs::print_runs;
+use crate::shown::shown;
 use anyhow::{Context, Result};
 use bulk_descriptor::SlotState;
 use member_core::{Conduct, State, Taken};
-use sha2::{Digest, Sha256};
-use signed_post::unframed;
 use std::alloc::Global;
 use std::rt::Runtime;
 use wire_core::Mem;
-
-fn digest(alloc: Global, bytes: &[u8]) -> Mem<String> {
-    let mut hasher = Sha256::new();
-    hasher.update(bytes);
-    hex::encode(alloc, &hasher.finalize())
-}
-
-// The stage of a post, and SHA-256 of its content and of the whole.
-fn shown(alloc: Global, bytes: &[u8]) -> Mem<String> {
-    let Ok(parts) = unframed(bytes) else {
-        return Ok(String::new(alloc));
-    };
-    let stage = parts.content.get(41).copied().unwrap_or(0);
-    let content = digest(alloc, parts.content)?;
-    let whole = digest(alloc, bytes)?;
-    format!(in alloc; "{} {} {}", stage, content, whole)
-}
 
 // Prints the posts of a member.
 fn print_posts<R: Runtime>(rt: &R, alloc: Global, sent: &Vec<Sent>, sender: u8) -> Result<()> {
@@ -110,15 +97,22 @@ fn print_forgetful<R: Runtime>(rt: &R, alloc: Global, sent: &Vec<Sent>) -> Resul
     print_end(rt, alloc, &member)
 }
 
-fn main(rt: HostRuntime) -> Result<()> {
-    let alloc = rt.alloc();
+// A round of two, each delivery given as soon as it is made.
+fn print_round<R: Runtime>(rt: &R, alloc: Global) -> Result<Vec<Sent>> {
     let mut first = enter_honest(alloc, 1, b"a")?.context("no member")?;
     let mut second = enter_honest(alloc, 2, b"b")?.context("no member")?;
     let sent = run_round(alloc, &mut first, &mut second)?;
-    print_posts(&rt, alloc, &sent, 1)?;
-    print_end(&rt, alloc, &first)?;
-    print_posts(&rt, alloc, &sent, 2)?;
-    print_end(&rt, alloc, &second)?;
+    print_posts(rt, alloc, &sent, 1)?;
+    print_end(rt, alloc, &first)?;
+    print_posts(rt, alloc, &sent, 2)?;
+    print_end(rt, alloc, &second)?;
+    Ok(sent)
+}
+
+fn main(rt: HostRuntime) -> Result<()> {
+    let alloc = rt.alloc();
+    let sent = print_round(&rt, alloc)?;
     print_reversed(&rt, alloc, &sent)?;
-    print_forgetful(&rt, alloc, &sent)
+    print_forgetful(&rt, alloc, &sent)?;
+    print_runs(&rt, alloc)
 }

@@ -1,6 +1,6 @@
 //! Runs of a member over a link in memory.
 
-use crate::entering::enter;
+use crate::entering::enter_honest;
 use member_run::{LinkCall, MemoryLink, RunEnd, run_member};
 use std::alloc::Global;
 use wire_core::{List, Mem};
@@ -44,7 +44,7 @@ pub(crate) fn run_over(
     let Some(mut link) = MemoryLink::new(alloc, arrivals, failing) else {
         return Ok(None);
     };
-    let Some(mut player) = enter(alloc, number, message)? else {
+    let Some(mut player) = enter_honest(alloc, number, message)? else {
         return Ok(None);
     };
     let end = run_member(alloc, &mut player.member, &mut link);

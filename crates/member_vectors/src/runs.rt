@@ -1,37 +1,12 @@
-//! Prints how runs of a member over a link in memory end, each with the number of its posts: nothing arrives; the first
-//! `recv` fails; 1,000,000 empty frames arrive; each post fails in turn. Then a whole round of two, in which each member
-//! runs over what the other has posted so far, until nothing new is posted: how both runs end, and the posts of both, as the
-//! stage and the SHA-256 of the content and of the whole.
-#![tactic(auto)]
-
-mod entering;
-mod running;
+//! Prints how runs of a member over a link in memory end, and its posts.
 
 use crate::running::{Ran, run_over};
+use crate::shown::shown;
 use anyhow::{Context, Result};
 use member_run::RunEnd;
-use sha2::{Digest, Sha256};
-use signed_post::unframed;
 use std::alloc::Global;
 use std::rt::Runtime;
-use wire_core::{List, Mem};
-
-fn digest(alloc: Global, bytes: &[u8]) -> Mem<String> {
-    let mut hasher = Sha256::new();
-    hasher.update(bytes);
-    hex::encode(alloc, &hasher.finalize())
-}
-
-// The stage of a post, and SHA-256 of its content and of the whole.
-fn shown(alloc: Global, bytes: &[u8]) -> Mem<String> {
-    let Ok(parts) = unframed(bytes) else {
-        return Ok(String::new(alloc));
-    };
-    let stage = parts.content.get(41).copied().unwrap_or(0);
-    let content = digest(alloc, parts.content)?;
-    let whole = digest(alloc, bytes)?;
-    format!(in alloc; "{} {} {}", stage, content, whole)
-}
+use wire_core::List;
 
 // A word for how a run ends.
 fn word_of(end: RunEnd) -> &'static str {
@@ -85,21 +60,26 @@ fn run_round(alloc: Global) -> Result<(Ran, Ran)> {
     Ok((first, second))
 }
 
-fn main(rt: HostRuntime) -> Result<()> {
-    let alloc = rt.alloc();
+// The runs of the first member over nothing, and over more frames than a run takes.
+fn print_short<R: Runtime>(rt: &R, alloc: Global) -> Result<()> {
     let nothing = Vec::new(alloc);
-    print_run(&rt, alloc, &nothing, 0)?;
-    print_run(&rt, alloc, &nothing, 2)?;
+    print_run(rt, alloc, &nothing, 0)?;
+    print_run(rt, alloc, &nothing, 2)?;
     let mut empty = Vec::new(alloc);
     for _ in 0..1_000_001 {
         empty.push(List::of(Vec::new(alloc)))?;
     }
-    print_run(&rt, alloc, &empty, 0)?;
+    print_run(rt, alloc, &empty, 0)
+}
+
+/// Prints runs that end early, runs of a round in which each post fails in turn, and that round.
+pub(crate) fn print_runs<R: Runtime>(rt: &R, alloc: Global) -> Result<()> {
+    print_short(rt, alloc)?;
     let (first, second) = run_round(alloc)?;
     // The odd calls of this run are its posts, and the even ones take frames.
     for post in 0..8 {
-        print_run(&rt, alloc, &second.posts, 2 * post + 1)?;
+        print_run(rt, alloc, &second.posts, 2 * post + 1)?;
     }
-    print_whole(&rt, alloc, &first)?;
-    print_whole(&rt, alloc, &second)
+    print_whole(rt, alloc, &first)?;
+    print_whole(rt, alloc, &second)
 }
